@@ -12,12 +12,12 @@ const PROPERTY: Row = Row {
         mode: Mode::Current,
         forms: &[
             Form {
-                text: b"(SETF (GET 'A 'B) 7)\n",
+                text: b"(SETF (GET 'A 'B) 7)",
                 answer: b"7\n",
                 outcome: b"accepted 7\n",
             },
             Form {
-                text: b"(GET 'A 'B)\n",
+                text: b"(GET 'A 'B)",
                 answer: b"7\n",
                 outcome: b"accepted 7\n",
             },
@@ -32,7 +32,7 @@ const TOKENS: Row = Row {
     sessions: &[Session {
         mode: Mode::Current,
         forms: &[Form {
-            text: b"'(\\1 |1| 1 1. -0 +4/6 1+)\n",
+            text: b"'(\\1 |1| 1 1. -0 +4/6 1+)",
             answer: b"(|1| |1| 1 1 0 2/3 |1+|)\n",
             outcome: b"accepted\n",
         }],
@@ -48,17 +48,17 @@ const BRACKETS: Row = Row {
             mode: Mode::Current,
             forms: &[
                 Form {
-                    text: b"(SET-MACRO-CHARACTER #\\[ :SQUARE)\n",
+                    text: b"(SET-MACRO-CHARACTER #\\[ :SQUARE)",
                     answer: b"T\n",
                     outcome: b"accepted\n",
                 },
                 Form {
-                    text: b"(SET-MACRO-CHARACTER #\\] :CLOSE)\n",
+                    text: b"(SET-MACRO-CHARACTER #\\] :CLOSE)",
                     answer: b"T\n",
                     outcome: b"accepted\n",
                 },
                 Form {
-                    text: b"(SETF (GET 'A 'V) [1 2])\n",
+                    text: b"(SETF (GET 'A 'V) [1 2])",
                     answer: b"#(1 2)\n",
                     outcome: b"accepted\n",
                 },
@@ -69,7 +69,7 @@ const BRACKETS: Row = Row {
             mode: Mode::Current,
             forms: &[
                 Form {
-                    text: b"(GET 'A 'V)\n",
+                    text: b"(GET 'A 'V)",
                     answer: b"#(1 2)\n",
                     outcome: b"accepted\n",
                 },
@@ -91,7 +91,7 @@ const RESCUE: Row = Row {
         Session {
             mode: Mode::Current,
             forms: &[Form {
-                text: b"(SET-SYNTAX-FROM-CHAR #\\( #\\;)\n",
+                text: b"(SET-SYNTAX-FROM-CHAR #\\( #\\;)",
                 answer: b"T\n",
                 outcome: b"accepted\n",
             }],
@@ -100,7 +100,7 @@ const RESCUE: Row = Row {
         Session {
             mode: Mode::Rescue,
             forms: &[Form {
-                text: b"(COPY-READTABLE NIL :USER)\n",
+                text: b"(COPY-READTABLE NIL :USER)",
                 answer: b":USER\n",
                 outcome: b"accepted\n",
             }],
@@ -109,7 +109,7 @@ const RESCUE: Row = Row {
         Session {
             mode: Mode::Current,
             forms: &[Form {
-                text: b"(GET 'A 'B)\n",
+                text: b"(GET 'A 'B)",
                 answer: b"NIL\n",
                 outcome: b"accepted\n",
             }],
@@ -125,12 +125,12 @@ const FULL: Row = Row {
         mode: Mode::Current,
         forms: &[
             Form {
-                text: b"(SETF (GET 'A 'B) 7)\n",
+                text: b"(SETF (GET 'A 'B) 7)",
                 answer: b"7\n",
                 outcome: b"accepted 7\n",
             },
             Form {
-                text: b"(SETF (GET 'A 'B) 8)\n",
+                text: b"(SETF (GET 'A 'B) 8)",
                 answer: b"8\n",
                 outcome: b"refused 64\n",
             },
@@ -146,12 +146,12 @@ const SHARP: Row = Row {
         mode: Mode::Current,
         forms: &[
             Form {
-                text: b"(LIST #xFF #36rZ #b-1/10 #\\space)\n",
+                text: b"(LIST #xFF #36rZ #b-1/10 #\\space)",
                 answer: b"(255 35 -1/2 #\\Space)\n",
                 outcome: b"accepted\n",
             },
             Form {
-                text: b"'(#:a #'f #|x #|y|# z|# \"\")\n",
+                text: b"'(#:a #'f #|x #|y|# z|# \"\")",
                 answer: b"(#:A (FUNCTION F) \"\")\n",
                 outcome: b"accepted\n",
             },
@@ -167,22 +167,22 @@ const SCALE: Row = Row {
         mode: Mode::Current,
         forms: &[
             Form {
-                text: b"(MAKE-DISPATCH-MACRO-CHARACTER #\\@)\n",
+                text: b"(MAKE-DISPATCH-MACRO-CHARACTER #\\@)",
                 answer: b"T\n",
                 outcome: b"accepted\n",
             },
             Form {
-                text: b"(SET-DISPATCH-MACRO-CHARACTER #\\@ #\\s :SCALE)\n",
+                text: b"(SET-DISPATCH-MACRO-CHARACTER #\\@ #\\s :SCALE)",
                 answer: b"T\n",
                 outcome: b"accepted\n",
             },
             Form {
-                text: b"@3S14\n",
+                text: b"@3S14",
                 answer: b"42\n",
                 outcome: b"accepted 42\n",
             },
             Form {
-                text: b"@S14\n",
+                text: b"@S14",
                 answer: b"! 20 MACRO-REFUSED\n",
                 outcome: b"refused 20\n",
             },
