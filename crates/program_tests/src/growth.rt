@@ -239,7 +239,7 @@ fn serve_from<D: Disk>(
     let mut input = Vec::new(alloc);
     for form in session.forms.iter().skip(from) {
         input.extend_from_slice(form.text)?;
-        input.push(b'\n')?;
+        input.extend_from_slice(b"\n")?;
     }
     let call = session_in(session.mode, input.as_slice());
     ask_one(alloc, store, call, text)
