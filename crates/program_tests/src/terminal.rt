@@ -120,12 +120,12 @@ const ROWS: [Row; 10] = [
     (
         "run DIR",
         b") 7",
-        b"1\n! 4 STRAY-CLOSE\n--\nType a form and Enter; Ctrl-D ends.\n> line 1, column 1: refused with 4 STRAY-CLOSE in form 1, which began at line 1, column 1\nThe rest of the line was dropped, and a new session begins.\n",
+        b"1\n! 4 STRAY-CLOSE\n--\nType a form and Enter; Ctrl-D ends.\n> line 1, column 1: refused with 4 STRAY-CLOSE in form 1, which began at line 1, column 1\n",
     ),
     (
         "run DIR --snapshot-every 1",
         b"(SETF (GET 'A 'B)\n",
-        b"1\n! 1 END-OF-FILE\n--\nType a form and Enter; Ctrl-D ends.\n> . \n",
+        b"1\n! 1 END-OF-FILE\n--\nType a form and Enter; Ctrl-D ends.\n> . \nline 2, column 1: refused with 1 END-OF-FILE in form 1, which began at line 1, column 1\n",
     ),
     (
         "run DIR --rescue",
