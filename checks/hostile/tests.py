@@ -14,8 +14,9 @@ ERRORS = (b"AllocError", b"AllocFailed", b"Memory", b"Device")
 MANY = 20_000
 FEW = 2
 
-# Tests of this module take the refusal of each call and make the call again: each of their growths is refused alone.
+# Tests of this module take the refusal of each call and make the call again: growths are refused alone, at so many times as many places.
 AGAIN = "growth::"
+MORE = 32
 
 
 def binaries(crates):
@@ -27,8 +28,8 @@ def binaries(crates):
 
 
 def run(room, paths, most):
-    """At most so many growths of each test, each second one with all that come after it; and each growth of those that make a call
-    again. Gives how many runs there were, and what came."""
+    """At most so many growths of each test, each second one with all that come after it; and more of those that make a call again. Gives
+    how many runs there were, and what came."""
     loaded = library("growth", room.folder)
     kinds = collections.Counter()
     for path in paths:
@@ -42,7 +43,7 @@ def run(room, paths, most):
 def places(test, total, most):
     """The growths of a test that are refused, and whether all after them are."""
     if test.startswith(AGAIN):
-        return [(number, False) for number in range(1, total + 1)]
+        return [(number, False) for number in range(1, total + 1, max(1, total // (most * MORE)))]
     step = max(1, -(-total // (most if total < MANY else min(most, FEW))))
     return [(number, index % 2 == 1) for index, number in enumerate(range(1, total + 1, step))]
 
