@@ -1,6 +1,7 @@
 """Sessions of the program over folders that are thrown away, and what has to hold after one that was disturbed."""
 import collections
 import os
+import re
 import shutil
 import subprocess
 import tempfile
@@ -97,8 +98,11 @@ def library(name, folder):
 
 
 def without_cause(faults):
-    """What was told of a fault, without the line with its cause."""
-    return DEVICE if faults.startswith(DEVICE) and faults.count(b"\n") == 2 else faults
+    """What was told of a fault without the line with its cause, and of a refusal without its lines, which want of memory may hide."""
+    if faults.startswith(DEVICE) and faults.count(b"\n") == 2:
+        return DEVICE
+    place = re.fullmatch(rb"(?:line \d+, column \d+|after \d+ bytes)(: refused with .* in form \d+), which began .*\n", faults)
+    return place[1] if place else faults
 
 
 class Room:

@@ -55,7 +55,8 @@ class Terminal:
 
 
 WELCOME = "Type a form and Enter; Ctrl-D ends.\n"
-DROPPED = "Line %d, column %d: the rest of the line is dropped, and a new session begins.\n"
+REFUSED = "line %d, column %d: refused with %s in form %d, which began at line %d, column %d\n"
+DROPPED = "The rest of the line was dropped, and a new session begins.\n"
 bad = 0
 
 
@@ -80,7 +81,7 @@ with tempfile.TemporaryDirectory() as room:
     check("two forms", it.type("(LIST 1) (LIST 2\n"), ("(1)\n", ". "))
     check("the end of the second", it.type(")\n"), ("(2)\n", "> "))
     check("refused by evaluation", it.type("(FROB)\n"), ("! 31 UNKNOWN-OPERATOR\n", "> "))
-    check("refused by the reader", it.type("10.5 (SETF (GET 'A 'B) 8)\n"), ("! 7 FLOAT-TOKEN\n", DROPPED % (10, 5) + "> "))
+    check("refused by the reader", it.type("10.5 (SETF (GET 'A 'B) 8)\n"), ("! 7 FLOAT-TOKEN\n", REFUSED % (10, 5, "7 FLOAT-TOKEN", 7, 10, 1) + DROPPED + "> "))
     check("the next session", it.type("(GET 'A 'B)\n"), ("7\n", "> "))
     check("a paste", it.type("(SETF (GET 'A 'B) 9)\n) (SETF (GET 'A 'B) 10)\n(GET 'A 'B)\n")[0], "9\n! 4 STRAY-CLOSE\n9\n")
     check("a readtable", it.type("(SET-MACRO-CHARACTER #\\[ :SQUARE) (SET-MACRO-CHARACTER #\\] :CLOSE)\n"), ("T\nT\n", "> "))
@@ -93,11 +94,18 @@ with tempfile.TemporaryDirectory() as room:
     it.type(")\n")
     check("the status of the last session", it.end()[1], 0)
 
+    it = Terminal("run", store, "--strict")
+    it.settle()
+    check("a strict session", it.type("(GET 'A 'B)\n(FROB) (SETF (GET 'A 'B) 8)\n(GET 'A 'B)\n"),
+          ("9\n! 31 UNKNOWN-OPERATOR\n9\n", "> " + REFUSED % (2, 1, "31 UNKNOWN-OPERATOR", 2, 2, 1) + DROPPED + "> > "))
+    check("its end", it.end()[1], 0)
+
     it = Terminal("run", store)
     it.settle()
     it.type("(LIST\n")
     last, status = it.end()
-    check("the end inside a form", (last[0], status), ("! 1 END-OF-FILE\n", 1))
+    told = "\n" + REFUSED % (2, 1, "1 END-OF-FILE", 1, 1, 1)
+    check("the end inside a form", (last, status), (("! 1 END-OF-FILE\n", told), 1))
 
     it = Terminal("verify", store)
     it.settle()
@@ -109,7 +117,8 @@ with tempfile.TemporaryDirectory() as room:
     check("a fault", (it.seen[it.process.stderr].decode(), it.process.wait(timeout=20)), ("! 60 DEVICE\nthere is no store in this folder\n", 3))
 
     piped = subprocess.run([program, "run", store], input=b"(GET 'A 'B)\n) 5\n", capture_output=True)
-    check("a pipe", (piped.stdout, piped.stderr, piped.returncode), (b"9\n! 4 STRAY-CLOSE\n", b"", 1))
+    told = REFUSED % (2, 1, "4 STRAY-CLOSE", 2, 2, 1)
+    check("a pipe", (piped.stdout, piped.stderr, piped.returncode), (b"9\n! 4 STRAY-CLOSE\n", told.encode(), 1))
 
 print("no deviation" if bad == 0 else f"{bad} deviations")
 sys.exit(1 if bad else 0)

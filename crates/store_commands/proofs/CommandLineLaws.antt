@@ -12,12 +12,13 @@ use Rattle.clap.proofs.OnLiterals.{clap_on_literals}
 use Rattle.clap.proofs.ValueTestLemmas.{Accepts-accepts}
 use Rattle.prevalence_store.specs.declared.mode.Mode.{Mode}
 use Rattle.prevalence_store.specs.declared.mode.Mode.TheVariants.{Current, Rescue}
+use Rattle.prevalence_store.specs.declared.outcome.Wanted.{Wanted}
 use Rattle.world_forms.specs.declared.export.Content.{Content}
 use Rattle.world_forms.specs.declared.export.Content.TheVariants.{Data, World}
 use Rattle.store_commands.specs.declared.words.Task.{Task}
 use Rattle.store_commands.specs.declared.words.Report.TheVariants.{Dump, Verify}
 use Rattle.store_commands.specs.declared.words.Task.TheVariants.{Export, Run, Snapshot, Tell, Upgrade}
-use Rattle.store_commands.specs.CommandLine.{AsksFor, IsLine, IsTaken, asked_in, command_line, data_for, every_of_number, existing_for, faults_of, flag_for, missing_command}
+use Rattle.store_commands.specs.CommandLine.{AsksFor, IsLine, IsTaken, asked_in, command_line, data_for, every_of_number, existing_for, faults_of, flag_for, missing_command, strict_for}
 
 pub simple_line : is_simple command_line ≡ true
 unfolding clap_on_literals
@@ -32,6 +33,13 @@ pub record IsRight (words : List Text) (folder : Text) (existing : Bool) (task :
   pub taken : takes command_line words ≡ true
   pub faultless : fault_of command_line words ≡ []
   pub asked : asked_in words ≡ Some (folder, existing, task)
+
+-- what is wanted of a session
+abbrev wanting : Mode → ℕ → Bool → Wanted
+wanting mode every strict = record { mode = mode; snapshot_every = every; strict = strict }
+
+wanted_is : (wanted : Wanted) (every : ℕ) → wanted.snapshot_every ≡ every → wanted ≡ wanting wanted.mode every wanted.strict
+wanted_is wanted every is = ap (λ n. wanting wanted.mode n wanted.strict) is
 
 -- words that are written out but for the program's name, the folder and the number
 module _ (program : Text) (x : ℕ) (xs : Text) (e : (x == 45) ≡ false) where
@@ -106,27 +114,47 @@ module _ (program : Text) (x : ℕ) (xs : Text) (e : (x == 45) ≡ false) where
   right_verify false = right_verify_any
   right_verify true = right_verify_existing
 
-  right_current_any : IsRight (program ∷ codes "run" ∷ (x ∷ xs) ∷ []) (x ∷ xs) false (Run Current 0)
+  right_current_any : IsRight (program ∷ codes "run" ∷ (x ∷ xs) ∷ []) (x ∷ xs) false (Run (wanting Current 0 false))
   unfolding clap_on_literals
   right_current_any = record { taken = simp e; faultless = simp e; asked = simp e }
 
-  right_current_existing : IsRight (program ∷ codes "run" ∷ (x ∷ xs) ∷ codes "--existing" ∷ []) (x ∷ xs) true (Run Current 0)
+  right_current_existing : IsRight (program ∷ codes "run" ∷ (x ∷ xs) ∷ codes "--existing" ∷ []) (x ∷ xs) true (Run (wanting Current 0 false))
   unfolding clap_on_literals
   right_current_existing = record { taken = simp e; faultless = simp e; asked = simp e }
 
-  right_rescue_any : IsRight (program ∷ codes "run" ∷ (x ∷ xs) ∷ codes "--rescue" ∷ []) (x ∷ xs) false (Run Rescue 0)
+  right_current_strict_any : IsRight (program ∷ codes "run" ∷ (x ∷ xs) ∷ codes "--strict" ∷ []) (x ∷ xs) false (Run (wanting Current 0 true))
+  unfolding clap_on_literals
+  right_current_strict_any = record { taken = simp e; faultless = simp e; asked = simp e }
+
+  right_current_strict_existing : IsRight (program ∷ codes "run" ∷ (x ∷ xs) ∷ codes "--strict" ∷ codes "--existing" ∷ []) (x ∷ xs) true (Run (wanting Current 0 true))
+  unfolding clap_on_literals
+  right_current_strict_existing = record { taken = simp e; faultless = simp e; asked = simp e }
+
+  right_rescue_any : IsRight (program ∷ codes "run" ∷ (x ∷ xs) ∷ codes "--rescue" ∷ []) (x ∷ xs) false (Run (wanting Rescue 0 false))
   unfolding clap_on_literals
   right_rescue_any = record { taken = simp e; faultless = simp e; asked = simp e }
 
-  right_rescue_existing : IsRight (program ∷ codes "run" ∷ (x ∷ xs) ∷ codes "--rescue" ∷ codes "--existing" ∷ []) (x ∷ xs) true (Run Rescue 0)
+  right_rescue_existing : IsRight (program ∷ codes "run" ∷ (x ∷ xs) ∷ codes "--rescue" ∷ codes "--existing" ∷ []) (x ∷ xs) true (Run (wanting Rescue 0 false))
   unfolding clap_on_literals
-  right_rescue_existing = record { taken = simp e; faultless = rw e (rw e refl); asked = rw e (rw e refl) }
+  right_rescue_existing = record { taken = simp e; faultless = simp e; asked = simp e }
 
-  right_run : (mode : Mode) (existing : Bool) → IsRight (program ∷ codes "run" ∷ (x ∷ xs) ∷ (flag_for mode ++ existing_for existing)) (x ∷ xs) existing (Run mode 0)
-  right_run Current false = right_current_any
-  right_run Current true = right_current_existing
-  right_run Rescue false = right_rescue_any
-  right_run Rescue true = right_rescue_existing
+  right_rescue_strict_any : IsRight (program ∷ codes "run" ∷ (x ∷ xs) ∷ codes "--rescue" ∷ codes "--strict" ∷ []) (x ∷ xs) false (Run (wanting Rescue 0 true))
+  unfolding clap_on_literals
+  right_rescue_strict_any = record { taken = simp e; faultless = simp e; asked = simp e }
+
+  right_rescue_strict_existing : IsRight (program ∷ codes "run" ∷ (x ∷ xs) ∷ codes "--rescue" ∷ codes "--strict" ∷ codes "--existing" ∷ []) (x ∷ xs) true (Run (wanting Rescue 0 true))
+  unfolding clap_on_literals
+  right_rescue_strict_existing = record { taken = simp e; faultless = simp e; asked = simp e }
+
+  right_run : (mode : Mode) (strict existing : Bool) → IsRight (program ∷ codes "run" ∷ (x ∷ xs) ∷ (flag_for mode ++ (strict_for strict ++ existing_for existing))) (x ∷ xs) existing (Run (wanting mode 0 strict))
+  right_run Current false false = right_current_any
+  right_run Current false true = right_current_existing
+  right_run Current true false = right_current_strict_any
+  right_run Current true true = right_current_strict_existing
+  right_run Rescue false false = right_rescue_any
+  right_run Rescue false true = right_rescue_existing
+  right_run Rescue true false = right_rescue_strict_any
+  right_run Rescue true true = right_rescue_strict_existing
 
   module _ (y : ℕ) (ys : Text) (d : (y == 45) ≡ false) (passes : is_unsigned_in 1 1000000 (y ∷ ys) ≡ true) where
     -- what is left of each of the next ones: the number passes
@@ -136,29 +164,49 @@ module _ (program : Text) (x : ℕ) (xs : Text) (e : (x == 45) ≡ false) where
     left_kinds : or_else (or_else (or_else (if is_unsigned_in 1 1000000 (y ∷ ys) then [] else (ValueValidation ∷ [])) []) []) [] ≡ []
     left_kinds = rw passes refl
 
-    right_current_every_any : IsRight (program ∷ codes "run" ∷ (x ∷ xs) ∷ codes "--snapshot-every" ∷ (y ∷ ys) ∷ []) (x ∷ xs) false
-        (Run Current (every_of_number (Some (y ∷ ys))))
+    right_current_every : IsRight (program ∷ codes "run" ∷ (x ∷ xs) ∷ codes "--snapshot-every" ∷ (y ∷ ys) ∷ []) (x ∷ xs) false
+        (Run (wanting Current (every_of_number (Some (y ∷ ys))) false))
     unfolding clap_on_literals
-    right_current_every_any = record {
+    right_current_every = record {
       taken = simp e (rw (d, d) left);
       faultless = simp e (rw (d, d) left_kinds);
       asked = simp e (rw (d, d) refl);
     }
 
-    right_rescue_every_any : IsRight (program ∷ codes "run" ∷ (x ∷ xs) ∷ codes "--rescue" ∷ codes "--snapshot-every" ∷ (y ∷ ys) ∷ []) (x ∷ xs) false
-        (Run Rescue (every_of_number (Some (y ∷ ys))))
+    right_current_strict_every : IsRight (program ∷ codes "run" ∷ (x ∷ xs) ∷ codes "--strict" ∷ codes "--snapshot-every" ∷ (y ∷ ys) ∷ []) (x ∷ xs) false
+        (Run (wanting Current (every_of_number (Some (y ∷ ys))) true))
     unfolding clap_on_literals
-    right_rescue_every_any = record {
+    right_current_strict_every = record {
       taken = simp e (rw (d, d) left);
       faultless = simp e (rw (d, d) left_kinds);
       asked = simp e (rw (d, d) refl);
     }
 
-    right_every : (mode : Mode)
-        → IsRight (program ∷ codes "run" ∷ (x ∷ xs) ∷ (flag_for mode ++ codes "--snapshot-every" ∷ (y ∷ ys) ∷ [])) (x ∷ xs) false
-        (Run mode (every_of_number (Some (y ∷ ys))))
-    right_every Current = right_current_every_any
-    right_every Rescue = right_rescue_every_any
+    right_rescue_every : IsRight (program ∷ codes "run" ∷ (x ∷ xs) ∷ codes "--rescue" ∷ codes "--snapshot-every" ∷ (y ∷ ys) ∷ []) (x ∷ xs) false
+        (Run (wanting Rescue (every_of_number (Some (y ∷ ys))) false))
+    unfolding clap_on_literals
+    right_rescue_every = record {
+      taken = simp e (rw (d, d) left);
+      faultless = simp e (rw (d, d) left_kinds);
+      asked = simp e (rw (d, d) refl);
+    }
+
+    right_rescue_strict_every : IsRight (program ∷ codes "run" ∷ (x ∷ xs) ∷ codes "--rescue" ∷ codes "--strict" ∷ codes "--snapshot-every" ∷ (y ∷ ys) ∷ []) (x ∷ xs) false
+        (Run (wanting Rescue (every_of_number (Some (y ∷ ys))) true))
+    unfolding clap_on_literals
+    right_rescue_strict_every = record {
+      taken = simp e (rw (d, d) left);
+      faultless = simp e (rw (d, d) left_kinds);
+      asked = simp e (rw (d, d) refl);
+    }
+
+    right_every : (mode : Mode) (strict : Bool)
+        → IsRight (program ∷ codes "run" ∷ (x ∷ xs) ∷ (flag_for mode ++ (strict_for strict ++ codes "--snapshot-every" ∷ (y ∷ ys) ∷ []))) (x ∷ xs) false
+        (Run (wanting mode (every_of_number (Some (y ∷ ys))) strict))
+    right_every Current false = right_current_every
+    right_every Current true = right_current_strict_every
+    right_every Rescue false = right_rescue_every
+    right_every Rescue true = right_rescue_strict_every
 
 differs : (x y : ℕ) → x ≢ y → (x == y) ≡ false
 differs x y apart = search rules
@@ -184,13 +232,13 @@ module _ (y : ℕ) (ys : Text) (numeral : IsNumeral 10 (y ∷ ys)) where
   number_is every is above below = rw (in_range 0 (2 ^ 64 - 1) every is (omega arith) (omega arith) (omega arith)) (ap (digits_value 10) bare ∙ is)
 
 module _ (program : Text) (x : ℕ) (xs : Text) (e : (x == 45) ≡ false) where
-  right_number : (mode : Mode) (number : Text) (every : ℕ) → IsNumeral 10 number → digits_value 10 number ≡ every → 1 ≤ every → every ≤ 1000000
-      → IsRight (program ∷ codes "run" ∷ (x ∷ xs) ∷ (flag_for mode ++ codes "--snapshot-every" ∷ number ∷ [])) (x ∷ xs) false (Run mode every)
-  right_number mode [] every numeral is above below = let none : 0 < 0 = numeral.0 in absurd (omega arith)
-  right_number mode (y ∷ ys) every numeral is above below =
-      subst (λ n. IsRight (program ∷ codes "run" ∷ (x ∷ xs) ∷ (flag_for mode ++ codes "--snapshot-every" ∷ (y ∷ ys) ∷ [])) (x ∷ xs) false (Run mode n))
+  right_number : (mode : Mode) (strict : Bool) (number : Text) (every : ℕ) → IsNumeral 10 number → digits_value 10 number ≡ every → 1 ≤ every → every ≤ 1000000
+      → IsRight (program ∷ codes "run" ∷ (x ∷ xs) ∷ (flag_for mode ++ (strict_for strict ++ codes "--snapshot-every" ∷ number ∷ []))) (x ∷ xs) false (Run (wanting mode every strict))
+  right_number mode strict [] every numeral is above below = let none : 0 < 0 = numeral.0 in absurd (omega arith)
+  right_number mode strict (y ∷ ys) every numeral is above below =
+      subst (λ n. IsRight (program ∷ codes "run" ∷ (x ∷ xs) ∷ (flag_for mode ++ (strict_for strict ++ codes "--snapshot-every" ∷ (y ∷ ys) ∷ []))) (x ∷ xs) false (Run (wanting mode n strict)))
       (number_is y ys numeral every is above below)
-      (right_every program x xs e y ys (differs y 45 (no_hyphen y ys numeral)) (in_range y ys numeral 1 1000000 every is above below (omega arith)) mode)
+      (right_every program x xs e y ys (differs y 45 (no_hyphen y ys numeral)) (in_range y ys numeral 1 1000000 every is above below (omega arith)) mode strict)
 
   right_plain : (line : List Text) (existing : Bool) (task : Task) → IsLine line (x ∷ xs) existing task → IsRight (program ∷ line) (x ∷ xs) existing task
   right_plain line existing Snapshot is = rw is (right_snapshot program x xs e existing)
@@ -198,9 +246,10 @@ module _ (program : Text) (x : ℕ) (xs : Text) (e : (x == 45) ≡ false) where
   right_plain line existing (Export content) is = rw is (right_content program x xs e content existing)
   right_plain line existing (Tell Dump) is = rw is (right_dump program x xs e existing)
   right_plain line existing (Tell Verify) is = rw is (right_verify program x xs e existing)
-  right_plain line false (Run mode every) (option, line_is, inl none) = rw (line_is, none.0, none.1) (right_run program x xs e mode false)
-  right_plain line false (Run mode every) (option, line_is, inr given) = rw (line_is, given.1) (right_number mode given.0 every given.2 given.3 given.4 given.5)
-  right_plain line true (Run mode every) (none, line_is) = rw (line_is, none) (right_run program x xs e mode true)
+  right_plain line false (Run wanted) (option, line_is, inl none) = rw (line_is, wanted_is wanted 0 none.0, none.1) (right_run program x xs e wanted.mode wanted.strict false)
+  right_plain line false (Run wanted) (option, line_is, inr given) =
+      rw (line_is, given.1) (right_number wanted.mode wanted.strict given.0 wanted.snapshot_every given.2 given.3 given.4 given.5)
+  right_plain line true (Run wanted) (none, line_is) = rw (line_is, wanted_is wanted 0 none) (right_run program x xs e wanted.mode wanted.strict true)
 
 pub right_line : (words : List Text) (folder : Text) (existing : Bool) (task : Task) → AsksFor words folder existing task → IsRight words folder existing task
 right_line words [] existing task asks = absurd asks.4

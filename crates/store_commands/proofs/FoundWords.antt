@@ -7,6 +7,7 @@ use Rattle.clap.specs.Values.{Accepts}
 use Rattle.clap.specs.declared.builder.value_parser.ValueParser.TheVariants.{Unsigned}
 use Rattle.clap.specs.Matches.{ReadsOne}
 use Rattle.prevalence_store.specs.declared.mode.Mode.{Mode}
+use Rattle.prevalence_store.specs.declared.outcome.Wanted.{Wanted}
 use Rattle.clap.specs.Words.{Row, Text, first_value, found_of, one_of, one_text, rows_of, subcommand_name_of, subcommand_rows_of}
 use Rattle.clap.specs.declared.parser.matches.Found.{Found}
 use Rattle.clap.proofs.ValueTestLemmas.{Accepts-accepts, accepts-Accepts}
@@ -17,7 +18,7 @@ use Rattle.std.specs.Box.{box_value}
 use Rattle.world_forms.specs.declared.export.Content.{Content}
 use Rattle.store_commands.specs.declared.words.Task.{Task}
 use Rattle.store_commands.specs.declared.words.Task.TheVariants.{Export, Run}
-use Rattle.store_commands.specs.CommandLine.{Asked, asked_of, content_of_flag, every_of_number, is_set, mode_of_flag, task_of}
+use Rattle.store_commands.specs.CommandLine.{Asked, asked_of, content_of_flag, every_of_number, is_set, mode_of_flag, task_of, wanted_of}
 
 -- a number that was read is the one that the text writes
 number_read : (E : Type 0) (text : Text) (n : ℕ) → ParsesUnsigned {E = E} 64 10 text (Ok n) → n ≡ every_of_number (Some text)
@@ -47,10 +48,15 @@ module _ {E : Type 0} (gives : List ℕ → Result ℕ E → Type 0) (reads : (t
       go (Some t) is = rw is (read_one t r (value t is))
 
 -- the command `run` that was found
-pub run_found : (name : Text) (f : Found) (flag : Option Text) (mode : Mode) (every : ℕ) → name ≡ codes "run" → mode ≡ mode_of_flag flag → flag ≡ first_value f (codes "rescue")
-    → every ≡ every_of_number (one_of (codes "snapshot-every") (rows_of f)) → Some (Run mode every) ≡ task_of (name, rows_of f)
-run_found name f flag mode every is mode_is flag_is every_is =
-    rw (is, mode_is, flag_is ∙ first_value-rows f (codes "rescue"), every_is) refl
+pub run_found : (name : Text) (f : Found) (wanted : Wanted) → name ≡ codes "run" → wanted ≡ wanted_of (rows_of f) → Some (Run wanted) ≡ task_of (name, rows_of f)
+run_found name f wanted is wanted_is = rw (is, wanted_is) refl
+
+-- what is wanted of its session
+pub wanted_found : (f : Found) (flag other : Option Text) (mode : Mode) (every : ℕ) (strict : Bool) → mode ≡ mode_of_flag flag → flag ≡ first_value f (codes "rescue")
+    → every ≡ every_of_number (one_of (codes "snapshot-every") (rows_of f)) → strict ≡ is_set other → other ≡ first_value f (codes "strict")
+    → ◌≡◌ {A = Wanted} (record { mode = mode; snapshot_every = every; strict = strict }) (wanted_of (rows_of f))
+wanted_found f flag other mode every strict mode_is flag_is every_is strict_is other_is =
+    rw (mode_is, flag_is ∙ first_value-rows f (codes "rescue"), every_is, strict_is, other_is ∙ first_value-rows f (codes "strict")) refl
 
 -- the command `export` that was found
 pub export_found : (name : Text) (f : Found) (flag : Option Text) (content : Content) → name ≡ codes "export" → content ≡ content_of_flag flag

@@ -6,6 +6,7 @@ pub mod Fronts
 pub mod Reports
 pub mod SessionLaws
 pub mod Snapshots
+pub mod PlaceLaws
 pub mod Statuses
 pub mod Tasks
 pub mod Turns

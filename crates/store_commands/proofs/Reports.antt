@@ -12,7 +12,7 @@ use Rattle.store_commands.specs.Status.{HasFaultNumber, IsFaultNumber, TakesWord
 use Rattle.store_commands.specs.Texts.{TellsText, WritesOut}
 use Rattle.store_commands.specs.declared.fault.Unwritten.{Unwritten}
 use Rattle.store_commands.specs.declared.status.Status.{Status}
-use Rattle.store_commands.specs.declared.status.Status.TheVariants.{Done, Helped, ReaderRefused, WordsRefused, LeftOut, Fault}
+use Rattle.store_commands.specs.declared.status.Status.TheVariants.{Done, Helped, FormRefused, WordsRefused, LeftOut, Fault}
 use Rattle.store_commands.specs.declared.words.Report.{Report}
 use Rattle.store_commands.specs.declared.words.Report.TheVariants.{Dump, Verify}
 use Rattle.store_commands.specs.declared.words.Task.TheVariants.{Tell}
@@ -36,7 +36,7 @@ module _ (held written : Option (List ℕ)) (text : List ℕ) where
   text_taken Done told = tt
   text_taken (Fault number) told = tt
   text_taken Helped told = absurd told
-  text_taken ReaderRefused told = absurd told
+  text_taken FormRefused told = absurd told
   text_taken WordsRefused told = absurd told
   text_taken LeftOut told = absurd told
 
@@ -56,7 +56,7 @@ module _ (held written : Option (List ℕ)) (text : List ℕ) where
   text_fault Done told = λ number is. absurd (cc)
   text_fault (Fault given) told = λ number is. let same : given ≡ number = cc in subst IsFaultNumber same (number_of_text given told)
   text_fault Helped told = absurd told
-  text_fault ReaderRefused told = absurd told
+  text_fault FormRefused told = absurd told
   text_fault WordsRefused told = absurd told
   text_fault LeftOut told = absurd told
 
@@ -74,7 +74,7 @@ module _ (functions : Functions) {D R : Type 0} (state : D → State) (disk : D)
   dump_writes Done told = (told.is_opened.world, told.tells had holds)
   dump_writes (Fault number) told = tt
   dump_writes Helped told = tt
-  dump_writes ReaderRefused told = absurd told.tells
+  dump_writes FormRefused told = absurd told.tells
   dump_writes WordsRefused told = tt
   dump_writes LeftOut told = absurd told.tells
 
@@ -82,7 +82,7 @@ module _ (functions : Functions) {D R : Type 0} (state : D → State) (disk : D)
   verify_writes Done told = (told.opened.half, told.opened.generation, told.opened.record_count, told.tells had holds)
   verify_writes (Fault number) told = tt
   verify_writes Helped told = tt
-  verify_writes ReaderRefused told = absurd told.tells
+  verify_writes FormRefused told = absurd told.tells
   verify_writes WordsRefused told = tt
   verify_writes LeftOut told = absurd told.tells
 

@@ -1,5 +1,5 @@
 -- From what the store promises of a session to what the program does.
-use Rattle.std.proofs.Common.{◌≡◌, ℕ, ◌≤◌, true, List, [], ◌++◌, Option, Some, refl, sym, ap, subst, ◌∙◌, inl, inr, append-nil, arith}
+use Rattle.std.proofs.Common.{◌≡◌, ℕ, suc, ◌+◌, ◌≤◌, true, List, [], ◌++◌, drop, Option, None, Some, Err, option_map, option_and_then, refl, sym, ap, subst, ◌∙◌, inl, inr, append-nil, arith}
 use Rattle.disk_trait.specs.Disk.{State}
 use Rattle.lisp_object.specs.declared.refusal.TheConstants.{DEVICE, DAMAGED, LOG_FULL, SNAPSHOT_TOO_LARGE, INPUT, OUTPUT, NO_MEMORY}
 use Rattle.plist_state.specs.State.{WorldState, initial}
@@ -8,15 +8,26 @@ use Rattle.prevalence_store.specs.declared.open_fault.OpenFault.{OpenFault}
 use Rattle.prevalence_store.specs.declared.open_fault.OpenFault.TheVariants as opening
 use Rattle.prevalence_store.specs.declared.outcome.Ending.{Ending}
 use Rattle.prevalence_store.specs.declared.outcome.Ending.TheVariants.{End, Reader, Store}
+use Rattle.prevalence_store.specs.declared.outcome.Ended.{Ended}
+use Rattle.prevalence_store.specs.declared.outcome.Ended.TheVariants as ways
+use Rattle.prevalence_store.specs.declared.outcome.Ended.TheVariants.{Unaccepted, Unreadable}
+use Rattle.prevalence_store.specs.declared.outcome.Place.{Place}
+use Rattle.prevalence_store.specs.declared.outcome.Wanted.{Wanted}
 use Rattle.user_macros.specs.Functions.{Functions}
 use Rattle.prevalence_store.specs.calls.Open.{fault_number}
-use Rattle.prevalence_store.specs.meaning.Answers.{Progress, after_forms, begun, last_line}
-use Rattle.prevalence_store.specs.calls.Serve.{ServesInput}
+use Rattle.lisp_object.specs.Object.{Object}
+use Rattle.lisp_operators.specs.Evaluation.{Evaluation}
+use Rattle.lisp_reading.specs.Reading.{empty, refused}
+use Rattle.prevalence_store.specs.meaning.Answers.{Progress, after_forms, begun, evaluated, last_line, one_form, one_form_more, onward, refusal_line}
+use Rattle.prevalence_store.specs.calls.Serve.{IsUnaccepted, Serves, ServesInput, ServesWanted}
 use Rattle.prevalence_store.specs.calls.Store.{StoreView}
-use Rattle.prevalence_store.specs.meaning.Acceptance.{read_in}
+use Rattle.prevalence_store.specs.meaning.Acceptance.{between, read_in}
 use Rattle.store_commands.specs.Commands.{is_of_opening}
-use Rattle.store_commands.specs.Session.{AnswersInput, IsBrokenOff, ReadsToEnd}
-use Rattle.store_commands.specs.Status.{HasFaultNumber, IsFaultNumber, status_of_ending}
+use Rattle.store_commands.specs.Session.{AnswersInput, AnswersToRefusal, IsBrokenOff, IsWritten, ReadsToEnd}
+use Rattle.store_commands.specs.Status.{HasFaultNumber, IsFaultNumber, status_of_ended}
+use Rattle.store_commands.specs.Told.{IsToldOf}
+use Rattle.store_commands.specs.declared.refusal.Refusal.{Refusal}
+use Rattle.store_commands.specs.declared.told.Told.{Told}
 use Rattle.store_commands.proofs.Statuses.{other_number}
 
 module _ (functions : Functions) (mode : Mode) where
@@ -48,13 +59,13 @@ module _ (functions : Functions) (mode : Mode) where
   no_more lines part last none = ap (λ l. l ++ last) (sym (append-nil lines)) ∙ ap (λ p. (lines ++ p) ++ last) (sym none)
 
   module _ {D R : Type 0} (state : D → State) (old new : StoreView D R) (w : WorldState) (had has held_now written : Option (List ℕ)) where
-    pub answers_input : {every : ℕ} (ending : Ending) → ServesInput functions state every old new w mode had has held_now written ending → (input held : List ℕ) → had ≡ Some input → held_now ≡ Some held
-        → AnswersInput functions mode (status_of_ending ending) input held written
-    answers_input End served input held left holds =
+    -- at the end of the input
+    done_input : {every : ℕ} → ServesInput functions state every old new w mode had has held_now written End → (input held : List ℕ) → had ≡ Some input → held_now ≡ Some held
+        → (served_all : IsWritten functions mode w input held written []) × (read_in functions served_all.far.world mode served_all.far.rest ≡ empty)
+    done_input served input held left holds =
         let s = served.serves in
         let read = served.reads input left in
         let text_is : served.text ≡ input = sym (read.1 ∙ ap (λ l. served.text ++ l) read.2.0 ∙ append-nil served.text) in (
-          w,
           record {
             forms = s.forms;
             far = s.far;
@@ -63,22 +74,28 @@ module _ (functions : Functions) (mode : Mode) where
           },
           s.ends.nothing_left,
         )
-    answers_input (Reader number) served input held left holds =
+
+    -- the progress that was answered is that of all forms
+    answered_all : (text : List ℕ) (number : ℕ) (served : Serves functions state old new w mode text held_now written (Reader number)) → served.answered ≡ served.far
+    answered_all text number served = same_progress served.lines served.forms w text served.answered served.far served.ends.all served.answered_is served.far_is
+
+    answered_done : (text : List ℕ) (served : Serves functions state old new w mode text held_now written End) → served.answered ≡ served.far
+    answered_done text served = same_progress served.lines served.forms w text served.answered served.far served.ends.all served.answered_is served.far_is
+
+    refused_input : {every : ℕ} (number : ℕ) → ServesInput functions state every old new w mode had has held_now written (Reader number) → (input held : List ℕ) → had ≡ Some input → held_now ≡ Some held
+        → (lines : IsWritten functions mode w input held written (refusal_line number)) × ((place : ℕ) × (read_in functions lines.far.world mode lines.far.rest ≡ refused number place))
+    refused_input number served input held left holds =
         let s = served.serves in
         let read = served.reads input left in
-        let lines = whole held written s.answered s.far s.part _ (s.output held holds) (same_progress s.lines s.forms w served.text s.answered s.far s.ends.all s.answered_is s.far_is) s.ends.line in
+        let lines = whole held written s.answered s.far s.part _ (s.output held holds) (answered_all served.text number s) s.ends.line in
         elim read.2.0 [
           | inl none ↦
               let text_is : served.text ≡ input = sym (read.1 ∙ ap (λ l. served.text ++ l) none ∙ append-nil served.text) in (
-                w,
-                number,
                 record { forms = s.forms; far = s.far; far_is = subst (λ t. after_forms functions s.forms w mode t ≡ Some s.far) text_is s.far_is; all = lines },
                 (s.ends.at, s.ends.reads),
               )
           | inr stays ↦
               let more = stays read.0 in (
-                w,
-                number,
                 record {
                   forms = s.forms;
                   far = record s.far { rest = s.far.rest ++ read.0 };
@@ -88,7 +105,6 @@ module _ (functions : Functions) (mode : Mode) where
                 more.1,
               )
         ]
-    answers_input (Store number) served input held left holds = tt
 
     pub broken_input : {every : ℕ} (number : ℕ) → ServesInput functions state every old new w mode had has held_now written (Store number) → (input held : List ℕ) → had ≡ Some input → held_now ≡ Some held
         → IsBrokenOff functions mode input held written
@@ -141,23 +157,14 @@ module _ (functions : Functions) (mode : Mode) where
           ]
         ]
 
-    pub broken_at : {every : ℕ} (ending : Ending) (number : ℕ) → ending ≡ Store number → ServesInput functions state every old new w mode had has held_now written ending → (input held : List ℕ) → had ≡ Some input → held_now ≡ Some held
-        → IsBrokenOff functions mode input held written
-    broken_at {every} ending number is served = broken_input number (subst (λ (e : Ending). ServesInput functions state every old new w mode had has held_now written e) is served)
-
-    pub reads_to_end : {every : ℕ} (ending : Ending) → ServesInput functions state every old new w mode had has held_now written ending → (input : List ℕ) → had ≡ Some input
-        → ReadsToEnd (status_of_ending ending) has
-    reads_to_end End served input left = let read = served.reads input left in read.2.1 ∙ ap (λ l. Some l) read.2.0
-    reads_to_end (Reader number) served input left = tt
-    reads_to_end (Store number) served input left = tt
+    pub ends_at_end : {every : ℕ} → ServesInput functions state every old new w mode had has held_now written End → (input : List ℕ) → had ≡ Some input → has ≡ Some []
+    ends_at_end served input left = let read = served.reads input left in read.2.1 ∙ ap (λ l. Some l) read.2.0
 
     between_numbers : (number given : ℕ) → number ≡ given → (DAMAGED ≤ given) × (given ≤ OUTPUT) → IsFaultNumber number
     between_numbers number given is within = subst IsFaultNumber (sym is) (inr (inl within))
 
-    pub fault_of_session : {every : ℕ} (ending : Ending) → ServesInput functions state every old new w mode had has held_now written ending → HasFaultNumber (status_of_ending ending)
-    fault_of_session End served = λ number is. absurd (cc)
-    fault_of_session (Reader code) served = λ number is. absurd (cc)
-    fault_of_session (Store code) served = λ number is. let same : code ≡ number = cc in subst IsFaultNumber same (elim served.serves.ends [
+    fault_of_input : {every : ℕ} (code : ℕ) → ServesInput functions state every old new w mode had has held_now written (Store code) → IsFaultNumber code
+    fault_of_input code served = elim served.serves.ends [
       | inl stopped ↦ inl stopped.device
       | inr else ↦ elim else [
         | inl renewing ↦ inl renewing.device
@@ -175,10 +182,10 @@ module _ (functions : Functions) (mode : Mode) where
           ]
         ]
       ]
-    ])
+    ]
 
     -- no session ends with a number of an opening
-    pub none_of_opening : {every : ℕ} (number : ℕ) → ServesInput functions state every old new w mode had has held_now written (Store number) → is_of_opening number ≡ true → ⊥
+    none_of_opening : {every : ℕ} (number : ℕ) → ServesInput functions state every old new w mode had has held_now written (Store number) → is_of_opening number ≡ true → ⊥
     none_of_opening number served of =
         elim served.serves.ends [
           | inl stopped ↦ other_number number DEVICE stopped.device refl of
@@ -200,8 +207,107 @@ module _ (functions : Functions) (mode : Mode) where
           ]
         ]
 
-    pub no_opening_at : {every : ℕ} (ending : Ending) (number : ℕ) → ending ≡ Store number → ServesInput functions state every old new w mode had has held_now written ending → is_of_opening number ≡ true → ⊥
-    no_opening_at {every} ending number is served = none_of_opening number (subst (λ (e : Ending). ServesInput functions state every old new w mode had has held_now written e) is served)
+-- one refused form more has one line more
+refused_line : (functions : Functions) (mode : Mode) (w : WorldState) (text : List ℕ) (forms accepted : ℕ) (far before : Progress) (number start : ℕ) → forms ≡ accepted + 1
+    → after_forms functions forms w mode text ≡ Some far → after_forms functions accepted w mode text ≡ Some before → IsUnaccepted functions before.world mode before.rest number start
+    → far.lines ≡ before.lines ++ refusal_line number
+refused_line functions mode w text forms accepted far before number start one_more far_is before_is refuses =
+    let reads : one_form functions before.world mode before.rest (read_in functions before.world mode before.rest)
+        ≡ Some (evaluated before.world mode (between start refuses.stop before.rest) (drop refuses.next before.rest) (Err number)) =
+        ap (one_form functions before.world mode before.rest) refuses.reads
+        ∙ ap (λ (e : Evaluation Object). Some (evaluated before.world mode (between start refuses.stop before.rest) (drop refuses.next before.rest) e)) refuses.refused in
+    let one : one_form_more functions mode before ≡ Some (onward before (evaluated before.world mode (between start refuses.stop before.rest) (drop refuses.next before.rest) (Err number))) =
+        ap (option_map (onward before)) reads in
+    let there : after_forms functions (suc accepted) w mode text ≡ Some (onward before (evaluated before.world mode (between start refuses.stop before.rest) (drop refuses.next before.rest) (Err number))) =
+        ap (option_and_then (one_form_more functions mode)) before_is ∙ one in
+    let same : suc accepted ≡ forms = omega (arith, one_more) in
+    let both : ◌≡◌ {A = Option Progress} (Some far) (Some (onward before (evaluated before.world mode (between start refuses.stop before.rest) (drop refuses.next before.rest) (Err number)))) =
+        sym far_is ∙ sym (ap (λ n. after_forms functions n w mode text) same) ∙ there in
+    ap (λ (o : Option Progress). elim o [ None ↦ [] | Some p ↦ p.lines ]) both
+
+module _ (functions : Functions) (wanted : Wanted) {D R : Type 0} (state : D → State) (old new : StoreView D R) (w : WorldState) (had has held_now written : Option (List ℕ)) where
+  abbrev ServesSo : Ended → Type 0
+  ServesSo = ServesWanted functions state wanted old new w had has held_now written
+
+  unreadable_answers : (number : ℕ) (place : Place) → ServesSo (Unreadable number place) → (input held : List ℕ) → had ≡ Some input → held_now ≡ Some held
+      → (refusal : Refusal) → refusal.number ≡ number → refusal.place ≡ place → AnswersToRefusal functions wanted w refusal input held written
+  unreadable_answers number place served input held left holds refusal same_number same_place =
+      let s = served.0.serves in
+      let read = served.0.reads input left in
+      let answers = refused_input functions wanted.mode state old new w had has held_now written number served.0 input held left holds in
+      rw (same_number, same_place) (inl (
+        answers.0,
+        answers.1,
+        record {
+          read = served.0.text;
+          left = read.0;
+          parts = read.1;
+          forms = s.forms;
+          far = s.far;
+          far_is = s.far_is;
+          at = served.2.0;
+          is_refused = served.2.1;
+          is_place = served.2.2;
+          accepted = λ strict. sym (ap (λ (p : Progress). p.refused) (answered_all functions wanted.mode state old new w had has held_now written served.0.text number s)) ∙ served.1 strict;
+        },
+      ))
+
+  stopped_answers : (number : ℕ) (place : Place) → ServesSo (Unaccepted number place) → (input held : List ℕ) → had ≡ Some input → held_now ≡ Some held
+      → (refusal : Refusal) → refusal.number ≡ number → refusal.place ≡ place → AnswersToRefusal functions wanted w refusal input held written
+  stopped_answers number place served input held left holds refusal same_number same_place =
+      let s = served.2 in
+      let read = served.3 input left in
+      rw (same_number, same_place) (inr (
+        record {
+          read = served.1;
+          left = read.0;
+          parts = read.1;
+          forms = s.accepted;
+          far = s.before;
+          far_is = s.before_is;
+          at = s.start;
+          is_refused = (served.0, s.refuses);
+          is_place = s.is_place;
+          accepted = λ strict. s.none_refused;
+        },
+        s.advances.lines held holds
+        ∙ ap (λ l. Some (held ++ l)) (refused_line functions wanted.mode w served.1 s.forms s.accepted s.far s.before number s.start s.one_more s.advances.far_is s.before_is s.refuses),
+      ))
+
+  pub answers_input : (ended : Ended) (told : Told) → IsToldOf ended told → ServesSo ended → (input held : List ℕ) → had ≡ Some input → held_now ≡ Some held
+      → AnswersInput functions wanted (status_of_ended ended) told input held written
+  answers_input ways.End told none served input held left holds =
+      let done = done_input functions wanted.mode state old new w had has held_now written served.0 input held left holds in
+      (w, done.0, done.1, λ strict. sym (ap (λ (p : Progress). p.refused) (answered_done functions wanted.mode state old new w had has held_now written served.0.text served.0.serves)) ∙ served.1 strict)
+  answers_input (Unreadable number place) told (refusal, is, same_number, same_place) served input held left holds =
+      (w, refusal, is, unreadable_answers number place served input held left holds refusal same_number same_place)
+  answers_input (Unaccepted number place) told (refusal, is, same_number, same_place) served input held left holds =
+      (w, refusal, is, stopped_answers number place served input held left holds refusal same_number same_place)
+  answers_input (ways.Store number) told none served input held left holds = tt
+
+  -- ---- what holds at a fault
+
+  pub broken_at : (ended : Ended) (number : ℕ) → ended ≡ ways.Store number → ServesSo ended → (input held : List ℕ) → had ≡ Some input → held_now ≡ Some held
+      → IsBrokenOff functions wanted.mode input held written
+  broken_at ended number is served =
+      broken_input functions wanted.mode state old new w had has held_now written number (subst ServesSo is served).0
+
+  pub reads_to_end : (ended : Ended) → ServesSo ended → (input : List ℕ) → had ≡ Some input → ReadsToEnd (status_of_ended ended) has
+  reads_to_end ways.End served input left = ends_at_end functions wanted.mode state old new w had has held_now written served.0 input left
+  reads_to_end (Unreadable number place) served input left = tt
+  reads_to_end (Unaccepted number place) served input left = tt
+  reads_to_end (ways.Store number) served input left = tt
+
+  pub fault_of_session : (ended : Ended) → ServesSo ended → HasFaultNumber (status_of_ended ended)
+  fault_of_session ways.End served = λ number is. absurd (cc)
+  fault_of_session (Unreadable code place) served = λ number is. absurd (cc)
+  fault_of_session (Unaccepted code place) served = λ number is. absurd (cc)
+  fault_of_session (ways.Store code) served = λ number is.
+      let same : code ≡ number = cc in subst IsFaultNumber same (fault_of_input functions wanted.mode state old new w had has held_now written code served.0)
+
+  pub no_opening_at : (ended : Ended) (number : ℕ) → ended ≡ ways.Store number → ServesSo ended → is_of_opening number ≡ true → ⊥
+  no_opening_at ended number is served =
+      none_of_opening functions wanted.mode state old new w had has held_now written number (subst ServesSo is served).0
 
 fault_is : (fault : OpenFault) → IsFaultNumber (fault_number fault)
 fault_is opening.OutOfMemory = inr (inr refl)

@@ -1,26 +1,29 @@
 -- Where the words are taken, the status is of a session or of a fault.
-use Rattle.std.proofs.Common.{◌≡◌, ◌⊎◌, ℕ, [], ◌∷◌, true, false, true≢false, ap, refl, inl, inr, ◌∙◌, sym, subst, arith}
+use Rattle.std.proofs.Common.{◌≡◌, ◌⊎◌, ℕ, List, Option, [], ◌∷◌, true, false, true≢false, ap, refl, inl, inr, ◌∙◌, sym, subst, arith}
 use Rattle.clap.specs.Words.{IsAmong, Kinds}
 use Rattle.clap.specs.declared.error.kind.ErrorKind.{ErrorKind}
 use Rattle.clap.specs.declared.error.kind.ErrorKind.TheVariants.{OutOfMemory}
-use Rattle.prevalence_store.specs.declared.outcome.Ending.{Ending}
-use Rattle.prevalence_store.specs.declared.outcome.Ending.TheVariants.{End, Reader, Store}
+use Rattle.prevalence_store.specs.declared.outcome.Ended.{Ended}
+use Rattle.prevalence_store.specs.declared.outcome.Ended.TheVariants.{End, Store, Unaccepted, Unreadable}
 use Rattle.store_commands.specs.declared.status.Status.{Status}
-use Rattle.store_commands.specs.declared.status.Status.TheVariants.{Done, Helped, ReaderRefused, WordsRefused, LeftOut, Fault}
+use Rattle.store_commands.specs.declared.status.Status.TheVariants.{Done, Helped, FormRefused, WordsRefused, LeftOut, Fault}
 use Rattle.store_commands.specs.Commands.{IsEarlyFault, is_of_opening}
-use Rattle.store_commands.specs.Status.{EndsAfter, HasFaultNumber, IsAfterOneOf, IsAfterWords, IsCarriedOut, IsFaultNumber, IsOfWords, TakesWords, status_of_ending, status_of_host}
+use Rattle.store_commands.specs.Status.{EndsAfter, HasFaultNumber, IsAfterOneOf, IsAfterWords, IsCarriedOut, IsFaultNumber, IsOfWords, TakesWords, status_of_ended, status_of_host}
+use Rattle.store_commands.specs.Told.{TellsFault}
+use Rattle.store_commands.specs.declared.told.Told.TheVariants.{Nothing}
 use Rattle.lisp_object.specs.declared.refusal.TheConstants.{NO_MEMORY, OUTPUT}
 use Rattle.disk_trait.specs.declared.host.HostError.{HostError}
 use Rattle.disk_trait.specs.declared.host.HostError.TheVariants as host
 
 -- of a session
-of_session : (ending : Ending) → TakesWords (status_of_ending ending)
+of_session : (ended : Ended) → TakesWords (status_of_ended ended)
 of_session End = tt
-of_session (Reader number) = tt
+of_session (Unreadable number place) = tt
+of_session (Unaccepted number place) = tt
 of_session (Store number) = tt
 
-pub taken_at_ending : (status given : Status) (ending : Ending) → status ≡ given → given ≡ status_of_ending ending → TakesWords status
-taken_at_ending status given ending same is = subst TakesWords (sym (same ∙ is)) (of_session ending)
+pub taken_at_end : (status given : Status) (ended : Ended) → status ≡ given → given ≡ status_of_ended ended → TakesWords status
+taken_at_end status given ended same is = subst TakesWords (sym (same ∙ is)) (of_session ended)
 
 -- of out of memory, or of the output
 of_memory : (status : Status) → IsAfterWords OutOfMemory status → TakesWords status
@@ -32,13 +35,14 @@ taken_at_memory status given kind same memory after =
     subst TakesWords (sym same) (of_memory given (subst (λ k. IsAfterWords k given) memory after))
 
 -- a fault after a session is the number that the session ended with
-ending_is : (ending : Ending) (number : ℕ) → status_of_ending ending ≡ Fault number → ending ≡ Store number
-ending_is End number is = absurd (cc)
-ending_is (Reader code) number is = absurd (cc)
-ending_is (Store code) number is = let same : code ≡ number = cc in ap (λ n. Store n) same
+end_is : (ended : Ended) (number : ℕ) → status_of_ended ended ≡ Fault number → ended ≡ Store number
+end_is End number is = absurd (cc)
+end_is (Unreadable code place) number is = absurd (cc)
+end_is (Unaccepted code place) number is = absurd (cc)
+end_is (Store code) number is = let same : code ≡ number = cc in ap (λ n. Store n) same
 
-pub ending_at : (status given : Status) (ending : Ending) (number : ℕ) → status ≡ given → given ≡ status_of_ending ending → status ≡ Fault number → ending ≡ Store number
-ending_at status given ending number same is fault = ending_is ending number (sym is ∙ sym same ∙ fault)
+pub end_at : (status given : Status) (ended : Ended) (number : ℕ) → status ≡ given → given ≡ status_of_ended ended → status ≡ Fault number → ended ≡ Store number
+end_at status given ended number same is fault = end_is ended number (sym is ∙ sym same ∙ fault)
 
 -- of files that were not opened
 host_status : (error : HostError) → IsEarlyFault (status_of_host error)
@@ -90,7 +94,7 @@ other_number number given is other of = true≢false (sym of ∙ ap is_of_openin
 
 pub words_carry_out : (status : Status) → IsOfWords status → IsCarriedOut status → ⊥
 words_carry_out Done none carried = none
-words_carry_out ReaderRefused none carried = none
+words_carry_out FormRefused none carried = none
 words_carry_out LeftOut none carried = none
 words_carry_out Helped of (inl is) = absurd (cc)
 words_carry_out Helped of (inr is) = absurd (cc)
@@ -105,7 +109,7 @@ number_of_words number (inr output) = subst IsFaultNumber (sym output) (inr (inl
 
 pub fault_of_words : (status : Status) → IsOfWords status → HasFaultNumber status
 fault_of_words Done of = absurd of
-fault_of_words ReaderRefused of = absurd of
+fault_of_words FormRefused of = absurd of
 fault_of_words LeftOut of = absurd of
 fault_of_words Helped of = λ number is. absurd (cc)
 fault_of_words WordsRefused of = λ number is. absurd (cc)
@@ -117,8 +121,22 @@ opening_of_words given (inr output) = other_number given OUTPUT output refl
 
 pub words_open : (status : Status) → IsOfWords status → (number : ℕ) → status ≡ Fault number → is_of_opening number ≡ true → ⊥
 words_open Done none number is of = none
-words_open ReaderRefused none number is of = none
+words_open FormRefused none number is of = none
 words_open LeftOut none number is of = none
 words_open Helped told number is of = absurd (cc)
 words_open WordsRefused told number is of = absurd (cc)
 words_open (Fault given) told number is of = let same : given ≡ number = cc in opening_of_words given told (ap is_of_opening same ∙ of)
+
+-- ---- what is told after them
+
+pub told_after_words : (given status : Status) (old mid new : Option (List ℕ)) → status ≡ given → ((given ≡ WordsRefused → ⊥) → mid ≡ old)
+    → TellsFault given Nothing mid new → TellsFault status Nothing old new
+told_after_words given status old mid new same kept told = subst (λ (s : Status). TellsFault s Nothing old new) (sym same) (go given kept told)
+  where
+    go : (s : Status) → ((s ≡ WordsRefused → ⊥) → mid ≡ old) → TellsFault s Nothing mid new → TellsFault s Nothing old new
+    go Done kept told = tt
+    go Helped kept told = tt
+    go WordsRefused kept told = tt
+    go FormRefused kept told = told ∙ kept (λ is. absurd (cc))
+    go LeftOut kept told = subst (λ (o : Option (List ℕ)). TellsFault LeftOut Nothing o new) (kept (λ is. absurd (cc))) told
+    go (Fault number) kept told = subst (λ (o : Option (List ℕ)). TellsFault (Fault number) Nothing o new) (kept (λ is. absurd (cc))) told

@@ -1,5 +1,5 @@
 -- From what a task does to all that is promised of it.
-use Rattle.std.proofs.Common.{◌≡◌, ℕ, Bool, true≢false, List, [], Option, None, Some, refl, sym, ap, subst, ◌∙◌, inl, inr, append-nil, arith}
+use Rattle.std.proofs.Common.{◌≡◌, ◌⊎◌, ℕ, Bool, true≢false, List, [], Option, None, Some, refl, sym, ap, subst, ◌∙◌, inl, inr, append-nil, arith}
 use Rattle.disk_trait.specs.Disk.{State}
 use Rattle.disk_trait.specs.declared.half.Half.TheVariants.{A}
 use Rattle.lisp_object.specs.declared.refusal.TheConstants.{DEVICE, INPUT, NO_MEMORY}
@@ -7,13 +7,17 @@ use Rattle.clap.specs.Words.{Text}
 use Rattle.plist_state.specs.State.{initial}
 use Rattle.world_text.specs.Snapshot.{snapshot}
 use Rattle.user_macros.specs.Functions.{Functions}
-use Rattle.prevalence_store.specs.declared.mode.Mode.{Mode}
-use Rattle.prevalence_store.specs.declared.outcome.Ending.{Ending}
-use Rattle.store_commands.specs.Commands.{CarriesOut, Does, DoesOn, IsEarlyFault, IsUntouched, Performs, TaskBreaksOff, TaskReads, TaskWrites, TellsUnopened}
+use Rattle.prevalence_store.specs.declared.outcome.Ended.{Ended}
+use Rattle.prevalence_store.specs.declared.outcome.Ended.TheVariants.{End, Store, Unaccepted, Unreadable}
+use Rattle.prevalence_store.specs.declared.outcome.Wanted.{Wanted}
+use Rattle.store_commands.specs.Commands.{CarriesOut, Does, DoesOn, IsEarlyFault, IsUntouched, Performs, SitsOn, TaskBreaksOff, TaskReads, TaskWrites, TellsUnopened}
 use Rattle.store_commands.specs.Report.{IsExport, IsReport, IsSnapshot, IsUpgrade, half_line, version_line}
 use Rattle.prevalence_store.specs.calls.Open.{IsUnopened}
 use Rattle.store_commands.specs.Session.{AnswersInput, IsSession, ReadsToEnd, half_limit}
-use Rattle.store_commands.specs.Status.{HasFaultNumber, IsFaultNumber, status_of_ending}
+use Rattle.store_commands.specs.Status.{HasFaultNumber, IsFaultNumber, status_of_ended}
+use Rattle.store_commands.specs.Told.{IsToldOf}
+use Rattle.store_commands.specs.declared.told.Told.{Told}
+use Rattle.store_commands.specs.declared.told.Told.TheVariants.{Nothing}
 use Rattle.store_commands.specs.declared.status.Status.{Status}
 use Rattle.store_commands.specs.declared.status.Status.TheVariants.{Fault}
 use Rattle.store_commands.specs.declared.words.Report.{Report}
@@ -25,12 +29,12 @@ use Rattle.store_commands.proofs.SessionLaws.{answers_input, broken_at, fault_of
 use Rattle.store_commands.proofs.Snapshots.{snapshot_breaks, snapshot_fault, snapshot_of_no_opening, snapshot_taken, snapshot_writes}
 use Rattle.store_commands.proofs.Upgrades.{forms_break, forms_fault, forms_of_no_opening, forms_taken, forms_written, upgrade_breaks, upgrade_fault, upgrade_of_no_opening, upgrade_taken, upgrade_writes}
 use Rattle.world_forms.specs.declared.export.Content.{Content}
-use Rattle.store_commands.proofs.Statuses.{ending_at, taken_at_ending}
+use Rattle.store_commands.proofs.Statuses.{end_at, taken_at_end}
 
 -- after a fault, with nothing read and nothing written
 module _ (functions : Functions) (input had : List ℕ) (left written : Option (List ℕ)) where
   breaks_nothing : (task : Task) → written ≡ Some had → TaskBreaksOff functions task input had written
-  breaks_nothing (Run mode every) holds = nothing_written functions mode input had written holds
+  breaks_nothing (Run wanted) holds = nothing_written functions wanted.mode input had written holds
   breaks_nothing Snapshot holds = (A, 0, 0, ([], half_line A 0 0, refl, holds ∙ ap (λ l. Some l) (sym (append-nil had))))
   breaks_nothing Upgrade holds = (0, ([], version_line 0, refl, holds ∙ ap (λ l. Some l) (sym (append-nil had))))
   breaks_nothing (Export content) holds = ([], ([], [], refl, holds ∙ ap (λ l. Some l) (sym (append-nil had))))
@@ -42,25 +46,25 @@ module _ (functions : Functions) (input had : List ℕ) (left written : Option (
   reads_nothing Upgrade number holds = holds
   reads_nothing (Export content) number holds = holds
   reads_nothing (Tell report) number holds = holds
-  reads_nothing (Run mode every) number holds = tt
+  reads_nothing (Run wanted) number holds = tt
 
-  writes_nothing : (task : Task) (number : ℕ) → TaskWrites functions task (Fault number) input had written
-  writes_nothing (Run mode every) number = tt
-  writes_nothing Snapshot number = tt
-  writes_nothing Upgrade number = tt
-  writes_nothing (Export content) number = tt
-  writes_nothing (Tell Dump) number = tt
-  writes_nothing (Tell Verify) number = tt
+  writes_nothing : (task : Task) (number : ℕ) (told : Told) → TaskWrites functions task (Fault number) told input had written
+  writes_nothing (Run wanted) number told = tt
+  writes_nothing Snapshot number told = tt
+  writes_nothing Upgrade number told = tt
+  writes_nothing (Export content) number told = tt
+  writes_nothing (Tell Dump) number told = tt
+  writes_nothing (Tell Verify) number told = tt
 
 module _ (functions : Functions) {D R : Type 0} (state : D → State) (macros : R) (whole : Bool)
-    {I O : Type 0} (remaining : I → Option (List ℕ)) (contents : O → Option (List ℕ)) (input left : I) (held written : O) where
+    {I O : Type 0} (remaining : I → Option (List ℕ)) (contents : O → Option (List ℕ)) (input left : I) (held written : O) (told : Told) where
   abbrev Performed : Text → Task → Status → Type 0
-  Performed = Performs functions state macros whole remaining contents input left held written
+  Performed folder task status = Performs functions state macros whole remaining contents input left held written folder task status told
 
   -- a fault before anything was read or written
   untouched : (folder : Text) (task : Task) (given : ℕ) → IsUntouched input left held written → IsFaultNumber given
       → (folder ≡ [] → IsEarlyFault (Fault given))
-      → Does functions state macros whole remaining contents input left held written task (Fault given) → Performed folder task (Fault given)
+      → Does functions state macros whole remaining contents input left held written task (Fault given) told → Performed folder task (Fault given)
   untouched folder task given same number nameless does = record {
     does = does;
     taken = tt;
@@ -69,7 +73,7 @@ module _ (functions : Functions) {D R : Type 0} (state : D → State) (macros : 
     unopened = λ other is of. same;
     fault = λ other is. let there : given ≡ other = cc in subst IsFaultNumber there number;
     reads = λ text had. reads_nothing functions text [] (remaining left) None task given (ap remaining same.0 ∙ had);
-    writes = λ text had reads holds. writes_nothing functions text had None (contents written) task given;
+    writes = λ text had reads holds. writes_nothing functions text had None (contents written) task given told;
     breaks_off = λ text had other reads holds is. breaks_nothing functions text had None (contents written) task (ap contents same.1 ∙ holds);
   }
 
@@ -93,103 +97,103 @@ module _ (functions : Functions) {D R : Type 0} (state : D → State) (macros : 
       subst (Performed folder task) (sym is) (untouched folder task number same (number_of_opening number unopened.fault unopened.number_is)
       (λ none. absurd (named none)) (inr (disk, back, inr ((number, refl, unopened), same))))
 
-  performs_session : (disk back : D) (folder : Text) (mode : Mode) (every : ℕ) (status : Status) → (folder ≡ [] → ⊥)
-      → CarriesOut functions state macros whole remaining contents input left held written disk back (Run mode every) status
-      → Performed folder (Run mode every) status
-  performs_session disk back folder mode every status named (ending, is, session) = record {
-    does = inr (disk, back, inl (ending, is, session));
-    taken = taken_at_ending status status ending refl is;
+  performs_session : (disk back : D) (folder : Text) (wanted : Wanted) (status : Status) → (folder ≡ [] → ⊥)
+      → CarriesOut functions state macros whole remaining contents input left held written disk back (Run wanted) status told
+      → Performed folder (Run wanted) status
+  performs_session disk back folder wanted status named (ended, is, tells, session) = record {
+    does = inr (disk, back, inl (ended, is, tells, session));
+    taken = taken_at_end status status ended refl is;
     nameless = λ none. absurd (named none);
     unread = λ none. absurd (true≢false none);
-    unopened = λ number fault of. absurd (no_opening_at functions mode state session.opened session.closed session.is_opened.world
-        _ _ _ _ ending number (ending_at status status ending number refl is fault) session.serves of);
-    fault = subst HasFaultNumber (sym is) (fault_of_session functions mode state session.opened session.closed session.is_opened.world
-        _ _ _ _ ending session.serves);
+    unopened = λ number fault of. absurd (no_opening_at functions wanted state session.opened session.closed session.is_opened.world
+        _ _ _ _ ended number (end_at status status ended number refl is fault) session.serves of);
+    fault = subst HasFaultNumber (sym is) (fault_of_session functions wanted state session.opened session.closed session.is_opened.world
+        _ _ _ _ ended session.serves);
     reads = λ text had. subst (λ (s : Status). ReadsToEnd s (remaining left)) (sym is)
-        (reads_to_end functions mode state session.opened session.closed session.is_opened.world _ _ _ _ ending session.serves text had);
-    writes = λ text had reads holds. subst (λ (s : Status). AnswersInput functions mode s text had (contents written)) (sym is)
-        (answers_input functions mode state session.opened session.closed session.is_opened.world _ _ _ _ ending session.serves text had reads holds);
+        (reads_to_end functions wanted state session.opened session.closed session.is_opened.world _ _ _ _ ended session.serves text had);
+    writes = λ text had reads holds. subst (λ (s : Status). AnswersInput functions wanted s told text had (contents written)) (sym is)
+        (answers_input functions wanted state session.opened session.closed session.is_opened.world _ _ _ _ ended told tells session.serves text had reads holds);
     breaks_off = λ text had number reads holds fault.
-        broken_at functions mode state session.opened session.closed session.is_opened.world _ _ _ _ ending number
-        (ending_at status status ending number refl is fault) session.serves text had reads holds;
+        broken_at functions wanted state session.opened session.closed session.is_opened.world _ _ _ _ ended number
+        (end_at status status ended number refl is fault) session.serves text had reads holds;
   }
 
   performs_snapshot : (disk back : D) (folder : Text) (status : Status) → (folder ≡ [] → ⊥)
-      → CarriesOut functions state macros whole remaining contents input left held written disk back Snapshot status
+      → CarriesOut functions state macros whole remaining contents input left held written disk back Snapshot status told
       → Performed folder Snapshot status
-  performs_snapshot disk back folder status named (told, same) =
-      let old = told.opened in
-      let new = told.closed in
-      let world = told.is_opened.world in
+  performs_snapshot disk back folder status named (done, same) =
+      let old = done.opened in
+      let new = done.closed in
+      let world = done.is_opened.world in
       record {
-        does = inr (disk, back, inl (told, same));
-        taken = snapshot_taken functions state old new world _ _ told.outcome status told.tells;
+        does = inr (disk, back, inl (done, same));
+        taken = snapshot_taken functions state old new world _ _ done.outcome status done.tells;
         nameless = λ none. absurd (named none);
         unread = λ none. same;
-        unopened = λ number is of. absurd (snapshot_of_no_opening functions state old new world _ _ told.outcome status number is told.snapshots told.tells of);
-        fault = snapshot_fault functions state old new world _ _ told.outcome status told.snapshots told.tells;
+        unopened = λ number is of. absurd (snapshot_of_no_opening functions state old new world _ _ done.outcome status number is done.snapshots done.tells of);
+        fault = snapshot_fault functions state old new world _ _ done.outcome status done.snapshots done.tells;
         reads = λ text had. ap remaining same ∙ had;
-        writes = λ text had reads holds. snapshot_writes functions state old new world (contents held) (contents written) had holds told.outcome status told.tells;
+        writes = λ text had reads holds. snapshot_writes functions state old new world (contents held) (contents written) had holds done.outcome status done.tells;
         breaks_off = λ text had number reads holds is.
-            snapshot_breaks functions state old new world (contents held) (contents written) had holds told.outcome status number text is told.tells;
+            snapshot_breaks functions state old new world (contents held) (contents written) had holds done.outcome status number text is done.tells;
       }
 
   performs_upgrade : (disk back : D) (folder : Text) (status : Status) → (folder ≡ [] → ⊥)
-      → CarriesOut functions state macros whole remaining contents input left held written disk back Upgrade status
+      → CarriesOut functions state macros whole remaining contents input left held written disk back Upgrade status told
       → Performed folder Upgrade status
-  performs_upgrade disk back folder status named (told, same) =
-      let old = told.opened in
-      let new = told.closed in
-      let world = told.is_opened.world in
+  performs_upgrade disk back folder status named (done, same) =
+      let old = done.opened in
+      let new = done.closed in
+      let world = done.is_opened.world in
       record {
-        does = inr (disk, back, inl (told, same));
-        taken = upgrade_taken functions state old new world _ _ told.outcome status told.tells;
+        does = inr (disk, back, inl (done, same));
+        taken = upgrade_taken functions state old new world _ _ done.outcome status done.tells;
         nameless = λ none. absurd (named none);
         unread = λ none. same;
-        unopened = λ number is of. absurd (upgrade_of_no_opening functions state old new world _ _ told.outcome status number is told.upgrades told.tells of);
-        fault = upgrade_fault functions state old new world _ _ told.outcome status told.upgrades told.tells;
+        unopened = λ number is of. absurd (upgrade_of_no_opening functions state old new world _ _ done.outcome status number is done.upgrades done.tells of);
+        fault = upgrade_fault functions state old new world _ _ done.outcome status done.upgrades done.tells;
         reads = λ text had. ap remaining same ∙ had;
-        writes = λ text had reads holds. upgrade_writes functions state old new world (contents held) (contents written) had holds told.outcome status told.tells;
+        writes = λ text had reads holds. upgrade_writes functions state old new world (contents held) (contents written) had holds done.outcome status done.tells;
         breaks_off = λ text had number reads holds is.
-            upgrade_breaks functions state old new world (contents held) (contents written) had holds told.outcome status number text is told.tells;
+            upgrade_breaks functions state old new world (contents held) (contents written) had holds done.outcome status number text is done.tells;
       }
 
   performs_export : (disk back : D) (folder : Text) (content : Content) (status : Status) → (folder ≡ [] → ⊥)
-      → CarriesOut functions state macros whole remaining contents input left held written disk back (Export content) status
+      → CarriesOut functions state macros whole remaining contents input left held written disk back (Export content) status told
       → Performed folder (Export content) status
-  performs_export disk back folder content status named (told, same) = record {
-    does = inr (disk, back, inl (told, same));
-    taken = forms_taken _ _ told.forms status told.tells;
+  performs_export disk back folder content status named (done, same) = record {
+    does = inr (disk, back, inl (done, same));
+    taken = forms_taken _ _ done.forms status done.tells;
     nameless = λ none. absurd (named none);
     unread = λ none. same;
-    unopened = λ number is of. absurd (forms_of_no_opening _ _ told.forms status number is told.tells of);
-    fault = forms_fault _ _ told.forms status told.tells;
+    unopened = λ number is of. absurd (forms_of_no_opening _ _ done.forms status number is done.tells of);
+    fault = forms_fault _ _ done.forms status done.tells;
     reads = λ text had. ap remaining same ∙ had;
-    writes = λ text had reads holds. forms_written (contents held) (contents written) told.forms had holds status told.tells;
+    writes = λ text had reads holds. forms_written (contents held) (contents written) done.forms had holds status done.tells;
     breaks_off = λ text had number reads holds is.
-        forms_break (contents held) (contents written) told.forms had holds functions content status number text is told.tells;
+        forms_break (contents held) (contents written) done.forms had holds functions content status number text is done.tells;
   }
 
   performs_report : (disk back : D) (folder : Text) (report : Report) (status : Status) → (folder ≡ [] → ⊥)
-      → CarriesOut functions state macros whole remaining contents input left held written disk back (Tell report) status
+      → CarriesOut functions state macros whole remaining contents input left held written disk back (Tell report) status told
       → Performed folder (Tell report) status
-  performs_report disk back folder report status named (told, same) = record {
-    does = inr (disk, back, inl (told, same));
-    taken = text_taken _ _ _ status told.tells;
+  performs_report disk back folder report status named (done, same) = record {
+    does = inr (disk, back, inl (done, same));
+    taken = text_taken _ _ _ status done.tells;
     nameless = λ none. absurd (named none);
     unread = λ none. same;
-    unopened = λ number is of. absurd (text_of_no_opening _ _ _ status number is told.tells of);
-    fault = text_fault _ _ _ status told.tells;
+    unopened = λ number is of. absurd (text_of_no_opening _ _ _ status number is done.tells of);
+    fault = text_fault _ _ _ status done.tells;
     reads = λ text had. ap remaining same ∙ had;
-    writes = λ text had reads holds. report_writes functions state disk macros (contents held) (contents written) back had holds report status text told;
+    writes = λ text had reads holds. report_writes functions state disk macros (contents held) (contents written) back had holds report status text done;
     breaks_off = λ text had number reads holds is.
-        report_breaks functions state disk macros (contents held) (contents written) back had holds report status number text is told;
+        report_breaks functions state disk macros (contents held) (contents written) back had holds report status number text is done;
   }
 
   -- it was done over a disk
   pub performs_on : (disk back : D) (folder : Text) (task : Task) (status : Status) → (folder ≡ [] → ⊥)
-      → DoesOn functions state macros whole remaining contents input left held written disk back task status → Performed folder task status
-  performs_on disk back folder (Run mode every) status named (inl done) = performs_session disk back folder mode every status named done
+      → DoesOn functions state macros whole remaining contents input left held written disk back task status told → Performed folder task status
+  performs_on disk back folder (Run wanted) status named (inl done) = performs_session disk back folder wanted status named done
   performs_on disk back folder Snapshot status named (inl done) = performs_snapshot disk back folder status named done
   performs_on disk back folder Upgrade status named (inl done) = performs_upgrade disk back folder status named done
   performs_on disk back folder (Export content) status named (inl done) = performs_export disk back folder content status named done
@@ -199,50 +203,77 @@ module _ (functions : Functions) {D R : Type 0} (state : D → State) (macros : 
   -- the store was not opened
   pub does_not : (disk back given : D) (task : Task) (status : Status) (number : ℕ) → status ≡ Fault number → back ≡ given
       → IsUnopened functions state disk whole half_limit number given → IsUntouched input left held written
-      → DoesOn functions state macros whole remaining contents input left held written disk back task status
+      → DoesOn functions state macros whole remaining contents input left held written disk back task status told
   does_not disk back given task status number is back_is unopened same =
       inr ((number, is, subst (IsUnopened functions state disk whole half_limit number) (sym back_is) unopened), same)
 
   -- what a session, and what a report, is over a disk
-  pub does_run : (disk back : D) (task : Task) (status : Status) (mode : Mode) (every : ℕ) (ending : Ending) → task ≡ Run mode every
-      → status ≡ status_of_ending ending
-      → IsSession functions mode every state disk macros (remaining input) (remaining left) (contents held) (contents written) ending back
-      → DoesOn functions state macros whole remaining contents input left held written disk back task status
-  does_run disk back task status mode every ending is ends session =
-      subst (λ (t : Task). DoesOn functions state macros whole remaining contents input left held written disk back t status) (sym is)
-      (inl (ending, ends, session))
+  pub does_run : (disk back : D) (task : Task) (status : Status) (wanted : Wanted) (ended : Ended) → task ≡ Run wanted
+      → status ≡ status_of_ended ended → IsToldOf ended told
+      → IsSession functions wanted state disk macros (remaining input) (remaining left) (contents held) (contents written) ended back
+      → DoesOn functions state macros whole remaining contents input left held written disk back task status told
+  does_run disk back task status wanted ended is ends tells session =
+      subst (λ (t : Task). DoesOn functions state macros whole remaining contents input left held written disk back t status told) (sym is)
+      (inl (ended, ends, tells, session))
 
   pub does_snapshot : (disk back : D) (task : Task) (status : Status) → task ≡ Snapshot
       → IsSnapshot functions state disk macros (contents held) (contents written) status back → left ≡ input
-      → DoesOn functions state macros whole remaining contents input left held written disk back task status
-  does_snapshot disk back task status is told same =
-      subst (λ (t : Task). DoesOn functions state macros whole remaining contents input left held written disk back t status) (sym is)
-      (inl (told, same))
+      → DoesOn functions state macros whole remaining contents input left held written disk back task status told
+  does_snapshot disk back task status is done same =
+      subst (λ (t : Task). DoesOn functions state macros whole remaining contents input left held written disk back t status told) (sym is)
+      (inl (done, same))
 
   pub does_upgrade : (disk back : D) (task : Task) (status : Status) → task ≡ Upgrade
       → IsUpgrade functions state disk macros (contents held) (contents written) status back → left ≡ input
-      → DoesOn functions state macros whole remaining contents input left held written disk back task status
-  does_upgrade disk back task status is told same =
-      subst (λ (t : Task). DoesOn functions state macros whole remaining contents input left held written disk back t status) (sym is)
-      (inl (told, same))
+      → DoesOn functions state macros whole remaining contents input left held written disk back task status told
+  does_upgrade disk back task status is done same =
+      subst (λ (t : Task). DoesOn functions state macros whole remaining contents input left held written disk back t status told) (sym is)
+      (inl (done, same))
 
   pub does_export : (disk back : D) (task : Task) (status : Status) (content : Content) → task ≡ Export content
       → IsExport functions state disk macros (contents held) (contents written) status back → left ≡ input
-      → DoesOn functions state macros whole remaining contents input left held written disk back task status
-  does_export disk back task status content is told same =
-      subst (λ (t : Task). DoesOn functions state macros whole remaining contents input left held written disk back t status) (sym is)
-      (inl (told, same))
+      → DoesOn functions state macros whole remaining contents input left held written disk back task status told
+  does_export disk back task status content is done same =
+      subst (λ (t : Task). DoesOn functions state macros whole remaining contents input left held written disk back t status told) (sym is)
+      (inl (done, same))
 
   pub does_tell : (disk back : D) (task : Task) (status : Status) (report : Report) → task ≡ Tell report
       → IsReport functions state report disk macros (contents held) (contents written) status back → left ≡ input
-      → DoesOn functions state macros whole remaining contents input left held written disk back task status
-  does_tell disk back task status report is told same =
-      subst (λ (t : Task). DoesOn functions state macros whole remaining contents input left held written disk back t status) (sym is)
-      (inl (told, same))
+      → DoesOn functions state macros whole remaining contents input left held written disk back task status told
+  does_tell disk back task status report is done same =
+      subst (λ (t : Task). DoesOn functions state macros whole remaining contents input left held written disk back t status told) (sym is)
+      (inl (done, same))
 
 -- the same of what is equal
 pub moved_performs : (functions : Functions) {D R I O : Type 0} (state : D → State) (macros : R) (whole : Bool) (remaining : I → Option (List ℕ)) (contents : O → Option (List ℕ))
-    (input v w : I) (held x y : O) (e f : Text) (t u : Task) (s r : Status) → e ≡ f → t ≡ u → s ≡ r → v ≡ w → x ≡ y
-    → Performs functions state macros whole remaining contents input w held y f u r → Performs functions state macros whole remaining contents input v held x e t s
-moved_performs functions state macros whole remaining contents input v w held x y e f t u s r same_folder same_task same_status same_left same_written given =
+    (input v w : I) (held x y : O) (told : Told) (e f : Text) (t u : Task) (s r : Status) → e ≡ f → t ≡ u → s ≡ r → v ≡ w → x ≡ y
+    → Performs functions state macros whole remaining contents input w held y f u r told → Performs functions state macros whole remaining contents input v held x e t s told
+moved_performs functions state macros whole remaining contents input v w held x y told e f t u s r same_folder same_task same_status same_left same_written given =
     rw (same_folder, same_task, same_status, same_left, same_written) given
+
+-- what is told of a session is told after it too
+kept_so : (ended : Ended) (told later : Told) → (told ≡ Nothing) ⊎ (later ≡ told) → IsToldOf ended told → IsToldOf ended later
+kept_so ended told later (inr same) tells = subst (IsToldOf ended) (sym same) tells
+kept_so End told later (inl none) tells = tt
+kept_so (Unreadable number place) told later (inl none) (refusal, is, same) = absurd (cc)
+kept_so (Unaccepted number place) told later (inl none) (refusal, is, same) = absurd (cc)
+kept_so (Store number) told later (inl none) tells = tt
+
+pub told_so : (functions : Functions) {D R I O : Type 0} (state : D → State) (macros : R) (whole : Bool) (remaining : I → Option (List ℕ)) (contents : O → Option (List ℕ))
+    (input left : I) (held written : O) (told later : Told) (disk back : D) (task : Task) (status : Status) → (told ≡ Nothing) ⊎ (later ≡ told)
+    → DoesOn functions state macros whole remaining contents input left held written disk back task status told
+    → DoesOn functions state macros whole remaining contents input left held written disk back task status later
+told_so functions state macros whole remaining contents input left held written told later disk back (Run wanted) status kept (inl (ended, is, tells, session)) =
+    inl (ended, is, kept_so ended told later kept tells, session)
+told_so functions state macros whole remaining contents input left held written told later disk back Snapshot status kept (inl done) = inl done
+told_so functions state macros whole remaining contents input left held written told later disk back Upgrade status kept (inl done) = inl done
+told_so functions state macros whole remaining contents input left held written told later disk back (Export content) status kept (inl done) = inl done
+told_so functions state macros whole remaining contents input left held written told later disk back (Tell report) status kept (inl done) = inl done
+told_so functions state macros whole remaining contents input left held written told later disk back task status kept (inr not) = inr not
+
+pub sits_so : (functions : Functions) {D R : Type 0} (state : D → State) (macros : R) (whole : Bool) (held written : Option (List ℕ)) (told later : Told) (disk back : D)
+    (wanted : Wanted) (status : Status) → (told ≡ Nothing) ⊎ (later ≡ told) → SitsOn functions state macros whole held written disk back wanted status told
+    → SitsOn functions state macros whole held written disk back wanted status later
+sits_so functions state macros whole held written told later disk back wanted status kept (inl (ended, is, tells, sessions)) =
+    inl (ended, is, kept_so ended told later kept tells, sessions)
+sits_so functions state macros whole held written told later disk back wanted status kept (inr not) = inr not

@@ -14,7 +14,7 @@ use Rattle.store_commands.specs.Report.{HasNoValue, TellsForms, TellsUpgrade, Te
 use Rattle.store_commands.specs.Status.{HasFaultNumber, TakesWords}
 use Rattle.store_commands.specs.Texts.{TellsText}
 use Rattle.store_commands.specs.declared.status.Status.{Status}
-use Rattle.store_commands.specs.declared.status.Status.TheVariants.{Done, Helped, ReaderRefused, WordsRefused, LeftOut, Fault}
+use Rattle.store_commands.specs.declared.status.Status.TheVariants.{Done, Helped, FormRefused, WordsRefused, LeftOut, Fault}
 use Rattle.store_commands.specs.declared.words.Task.TheVariants.{Export, Upgrade}
 use Rattle.store_commands.proofs.Reports.{text_fault, text_front, text_of_no_opening, text_taken}
 use Rattle.store_commands.proofs.Snapshots.{no_value, refused_fault, refused_opening}
@@ -59,7 +59,7 @@ module _ (functions : Functions) {D R : Type 0} (state : D → State) (old new :
       version_told Done told = (new.version, told had holds)
       version_told (Fault number) told = tt
       version_told Helped told = tt
-      version_told ReaderRefused told = absurd told
+      version_told FormRefused told = absurd told
       version_told WordsRefused told = tt
       version_told LeftOut told = absurd told
 
@@ -84,7 +84,7 @@ module _ (held written : Option (List ℕ)) (forms : List ℕ) where
   forms_taken Done told = tt
   forms_taken (Fault number) told = tt
   forms_taken Helped told = absurd told
-  forms_taken ReaderRefused told = absurd told
+  forms_taken FormRefused told = absurd told
   forms_taken WordsRefused told = absurd told
 
   pub forms_fault : (status : Status) → TellsForms status held written forms → HasFaultNumber status
@@ -92,7 +92,7 @@ module _ (held written : Option (List ℕ)) (forms : List ℕ) where
   forms_fault Done told = λ number is. absurd (cc)
   forms_fault (Fault number) told = text_fault held written forms (Fault number) told
   forms_fault Helped told = absurd told
-  forms_fault ReaderRefused told = absurd told
+  forms_fault FormRefused told = absurd told
   forms_fault WordsRefused told = absurd told
 
   pub forms_of_no_opening : (status : Status) (number : ℕ) → status ≡ Fault number → TellsForms status held written forms → is_of_opening number ≡ true → ⊥
@@ -105,7 +105,7 @@ module _ (held written : Option (List ℕ)) (forms : List ℕ) where
     forms_written Done told = (forms, told had holds)
     forms_written (Fault number) told = tt
     forms_written Helped told = absurd told
-    forms_written ReaderRefused told = absurd told
+    forms_written FormRefused told = absurd told
     forms_written WordsRefused told = absurd told
 
     pub forms_break : (functions : Functions) (content : Content) (status : Status) (number : ℕ) (input : List ℕ) → status ≡ Fault number

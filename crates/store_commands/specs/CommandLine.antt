@@ -1,4 +1,4 @@
--- The command line of the program, as clap reads it: `run DIR [--rescue] [--snapshot-every N]`, `snapshot DIR`, `upgrade DIR`,
+-- The command line of the program, as clap reads it: `run DIR [--rescue] [--strict] [--snapshot-every N]`, `snapshot DIR`, `upgrade DIR`,
 -- `export DIR [--data]`, `dump DIR` and `verify DIR`, each with `--existing`.
 use Rattle.std.specs.Prelude.{◌≡◌, ◌≢◌, ◌≤◌, ◌^◌, ◌-◌, ◌⊎◌, ℕ, Bool, true, false, if◌then◌else◌, List, [], ◌∷◌, ◌++◌, Option, Some, None, codes, option_map, option_and_then}
 use Rattle.std.specs.Option.{option_map_or}
@@ -13,6 +13,7 @@ use Rattle.clap.specs.declared.builder.value_parser.ValueParser.TheVariants.{Uns
 use Rattle.clap.specs.declared.error.kind.ErrorKind.TheVariants.{MissingRequiredArgument}
 use Rattle.prevalence_store.specs.declared.mode.Mode.{Mode}
 use Rattle.prevalence_store.specs.declared.mode.Mode.TheVariants.{Current, Rescue}
+use Rattle.prevalence_store.specs.declared.outcome.Wanted.{Wanted}
 use Rattle.world_forms.specs.declared.export.Content.{Content}
 use Rattle.world_forms.specs.declared.export.Content.TheVariants.{Data, World}
 use Rattle.store_commands.specs.declared.words.Task.{Task}
@@ -30,6 +31,13 @@ directory_rule = record (new_rule (codes "DIR")) {
 abbrev pub rescue_rule : Rule
 rescue_rule = record (new_rule (codes "rescue")) {
   long = Some (codes "rescue");
+  action = Some SetTrue;
+}
+
+-- --strict: a flag
+abbrev pub strict_rule : Rule
+strict_rule = record (new_rule (codes "strict")) {
+  long = Some (codes "strict");
   action = Some SetTrue;
 }
 
@@ -54,7 +62,7 @@ abbrev pub folder_line : Text → App
 folder_line name = with_rule (with_rule (new_app name) directory_rule) existing_rule
 
 abbrev pub run_line : App
-run_line = with_rule (with_rule (folder_line (codes "run")) rescue_rule) every_rule
+run_line = with_rule (with_rule (with_rule (folder_line (codes "run")) rescue_rule) strict_rule) every_rule
 
 -- --data: a flag
 abbrev pub data_rule : Rule
@@ -97,10 +105,18 @@ every_of_number (Some text) = if is_unsigned_in 0 (2 ^ 64 - 1) text then digits_
 abbrev pub every_in : List Row → ℕ
 every_in rows = every_of_number (one_of (codes "snapshot-every") rows)
 
+-- what is wanted of a session, by the rows that were found
+abbrev pub wanted_of : List Row → Wanted
+wanted_of rows = record {
+  mode = mode_of_flag (first_of (codes "rescue") rows);
+  snapshot_every = every_in rows;
+  strict = is_set (first_of (codes "strict") rows);
+}
+
 -- what a command is to do
 abbrev pub task_of : Text × List Row → Option Task
 task_of found =
-    if bytes_eq found.0 (codes "run") then Some (Run (mode_of_flag (first_of (codes "rescue") found.1)) (every_in found.1))
+    if bytes_eq found.0 (codes "run") then Some (Run (wanted_of found.1))
     else (if bytes_eq found.0 (codes "snapshot") then Some Snapshot
     else (if bytes_eq found.0 (codes "upgrade") then Some Upgrade
     else (if bytes_eq found.0 (codes "export") then Some (Export (content_of_flag (first_of (codes "data") found.1)))
@@ -146,6 +162,11 @@ abbrev pub flag_for : Mode → List Text
 flag_for Current = []
 flag_for Rescue = codes "--rescue" ∷ []
 
+-- the flag of a strict session
+abbrev pub strict_for : Bool → List Text
+strict_for false = []
+strict_for true = codes "--strict" ∷ []
+
 -- the flag of what is exported
 abbrev pub data_for : Content → List Text
 data_for World = []
@@ -164,8 +185,10 @@ existing_for true = codes "--existing" ∷ []
 
 -- The words of a command on this folder that asks for this. A number of snapshots beside `--existing` is not among them.
 abbrev pub IsLine : List Text → Text → Bool → Task → Type 0
-IsLine words folder false (Run mode every) = (option : List Text) × (words ≡ codes "run" ∷ folder ∷ (flag_for mode ++ option)) × IsEvery every option
-IsLine words folder true (Run mode every) = (every ≡ 0) × (words ≡ codes "run" ∷ folder ∷ (flag_for mode ++ existing_for true))
+IsLine words folder false (Run wanted) =
+    (option : List Text) × (words ≡ codes "run" ∷ folder ∷ (flag_for wanted.mode ++ (strict_for wanted.strict ++ option))) × IsEvery wanted.snapshot_every option
+IsLine words folder true (Run wanted) =
+    (wanted.snapshot_every ≡ 0) × (words ≡ codes "run" ∷ folder ∷ (flag_for wanted.mode ++ (strict_for wanted.strict ++ existing_for true)))
 IsLine words folder existing Snapshot = words ≡ codes "snapshot" ∷ folder ∷ existing_for existing
 IsLine words folder existing Upgrade = words ≡ codes "upgrade" ∷ folder ∷ existing_for existing
 IsLine words folder existing (Export content) = words ≡ codes "export" ∷ folder ∷ (data_for content ++ existing_for existing)

@@ -8,15 +8,17 @@ use Rattle.plist_state.specs.State.{WorldState}
 use Rattle.world_text.specs.Snapshot.{snapshot}
 use Rattle.user_macros.specs.Functions.{Functions}
 use Rattle.prevalence_store.specs.calls.Open.{IsUnopened}
-use Rattle.prevalence_store.specs.declared.mode.Mode.{Mode}
-use Rattle.prevalence_store.specs.declared.outcome.Ending.{Ending}
+use Rattle.prevalence_store.specs.declared.outcome.Ended.{Ended}
+use Rattle.prevalence_store.specs.declared.outcome.Wanted.{Wanted}
 use Rattle.store_commands.specs.Report.{DumpsWorld, IsExport, IsReport, IsSnapshot, IsUpgrade, TellsHalf, TellsVersion, WritesForms, half_line, version_line}
 use Rattle.store_commands.specs.Session.{AnswersInput, IsBrokenOff, IsSession, ReadsToEnd, half_limit}
 use Rattle.store_commands.specs.Sessions.{AreSessions}
-use Rattle.store_commands.specs.Status.{HasFaultNumber, IsCarriedOut, TakesWords, status_of_ending}
+use Rattle.store_commands.specs.Status.{HasFaultNumber, IsCarriedOut, TakesWords, status_of_ended}
 use Rattle.store_commands.specs.Texts.{IsFront}
+use Rattle.store_commands.specs.Told.{IsToldOf}
 use Rattle.store_commands.specs.declared.status.Status.{Status}
 use Rattle.store_commands.specs.declared.status.Status.TheVariants.{Fault, WordsRefused}
+use Rattle.store_commands.specs.declared.told.Told.{Told}
 use Rattle.store_commands.specs.declared.words.Report.TheVariants.{Dump, Verify}
 use Rattle.store_commands.specs.declared.words.Task.{Task}
 use Rattle.store_commands.specs.declared.words.Task.TheVariants.{Export, Run, Snapshot, Tell, Upgrade}
@@ -35,7 +37,7 @@ is_of_opening number = number == DAMAGED || (number == MISSING_MACRO || number =
 
 -- `run` alone reads
 abbrev pub reads_input : Task → Bool
-reads_input (Run mode every) = true
+reads_input (Run wanted) = true
 reads_input Snapshot = false
 reads_input Upgrade = false
 reads_input (Export content) = false
@@ -43,7 +45,7 @@ reads_input (Tell report) = false
 
 -- `run` that ends well reads to the end; the other commands read nothing
 abbrev pub TaskReads : Task → Status → List ℕ → Option (List ℕ) → Type 0
-TaskReads (Run mode every) status input left = ReadsToEnd status left
+TaskReads (Run wanted) status input left = ReadsToEnd status left
 TaskReads Snapshot status input left = left ≡ Some input
 TaskReads Upgrade status input left = left ≡ Some input
 TaskReads (Export content) status input left = left ≡ Some input
@@ -52,18 +54,18 @@ TaskReads (Tell report) status input left = left ≡ Some input
 -- ---- over the files of a folder, of which no clause can say what they hold
 
 module _ (functions : Functions) where
-  -- what a command writes where it ends well
-  abbrev pub TaskWrites : Task → Status → List ℕ → List ℕ → Option (List ℕ) → Type 0
-  TaskWrites (Run mode every) status input held written = AnswersInput functions mode status input held written
-  TaskWrites Snapshot status input held written = TellsHalf status held written
-  TaskWrites Upgrade status input held written = TellsVersion status held written
-  TaskWrites (Export content) status input held written = WritesForms status held written
-  TaskWrites (Tell Dump) status input held written = DumpsWorld status held written
-  TaskWrites (Tell Verify) status input held written = TellsHalf status held written
+  -- what a command writes if it ends well, and what of a refusal is told
+  abbrev pub TaskWrites : Task → Status → Told → List ℕ → List ℕ → Option (List ℕ) → Type 0
+  TaskWrites (Run wanted) status told input held written = AnswersInput functions wanted status told input held written
+  TaskWrites Snapshot status told input held written = TellsHalf status held written
+  TaskWrites Upgrade status told input held written = TellsVersion status held written
+  TaskWrites (Export content) status told input held written = WritesForms status held written
+  TaskWrites (Tell Dump) status told input held written = DumpsWorld status held written
+  TaskWrites (Tell Verify) status told input held written = TellsHalf status held written
 
   -- what a command wrote that met a fault is the first part of what it would have written, over the store of some world
   abbrev pub TaskBreaksOff : Task → List ℕ → List ℕ → Option (List ℕ) → Type 0
-  TaskBreaksOff (Run mode every) input held written = IsBrokenOff functions mode input held written
+  TaskBreaksOff (Run wanted) input held written = IsBrokenOff functions wanted.mode input held written
   TaskBreaksOff Snapshot input held written = (half : Half) × (generation : ℕ) × (records : ℕ) × IsFront held written (half_line half generation records)
   TaskBreaksOff Upgrade input held written = (version : ℕ) × IsFront held written (version_line version)
   TaskBreaksOff (Export content) input held written = (forms : List ℕ) × IsFront held written forms
@@ -80,37 +82,37 @@ TellsUnopened functions state disk back whole status =
 -- by two functions.
 module _ (functions : Functions) {D R : Type 0} (state : D → State) (macros : R) (whole : Bool)
     {I O : Type 0} (remaining : I → Option (List ℕ)) (contents : O → Option (List ℕ)) (input left : I) (held written : O) where
-  -- It was carried out over the store that a disk holds: a session went so, and the status is that of its ending; or a snapshot was
+  -- It was carried out over the store that a disk holds: a session went so, and the status is that of its end; or a snapshot was
   -- taken, the store was upgraded or exported, or something was told of it. The disk is left as the store that was closed left it.
-  abbrev pub CarriesOut : D → D → Task → Status → Type 0
-  CarriesOut disk back (Run mode every) status =
-      (ending : Ending) × (status ≡ status_of_ending ending)
-      × IsSession functions mode every state disk macros (remaining input) (remaining left) (contents held) (contents written) ending back
-  CarriesOut disk back Snapshot status =
+  abbrev pub CarriesOut : D → D → Task → Status → Told → Type 0
+  CarriesOut disk back (Run wanted) status told =
+      (ended : Ended) × (status ≡ status_of_ended ended) × IsToldOf ended told
+      × IsSession functions wanted state disk macros (remaining input) (remaining left) (contents held) (contents written) ended back
+  CarriesOut disk back Snapshot status told =
       IsSnapshot functions state disk macros (contents held) (contents written) status back × (left ≡ input)
-  CarriesOut disk back Upgrade status =
+  CarriesOut disk back Upgrade status told =
       IsUpgrade functions state disk macros (contents held) (contents written) status back × (left ≡ input)
-  CarriesOut disk back (Export content) status =
+  CarriesOut disk back (Export content) status told =
       IsExport functions state disk macros (contents held) (contents written) status back × (left ≡ input)
-  CarriesOut disk back (Tell report) status =
+  CarriesOut disk back (Tell report) status told =
       IsReport functions state report disk macros (contents held) (contents written) status back × (left ≡ input)
 
   -- It is carried out over the store that a disk holds; or the store is not opened, and nothing is read or written. The first disk
   -- becomes the second.
-  abbrev pub DoesOn : D → D → Task → Status → Type 0
-  DoesOn disk back task status =
-      CarriesOut disk back task status ⊎ (TellsUnopened functions state disk back whole status × IsUntouched input left held written)
+  abbrev pub DoesOn : D → D → Task → Status → Told → Type 0
+  DoesOn disk back task status told =
+      CarriesOut disk back task status told ⊎ (TellsUnopened functions state disk back whole status × IsUntouched input left held written)
 
   -- There is no memory, no seed, or the folder is not opened, and nothing is read or written; or it is done over some disk of this
   -- type. That the files of this disk are those of the folder is not said here.
-  abbrev pub Does : Task → Status → Type 0
-  Does task status =
+  abbrev pub Does : Task → Status → Told → Type 0
+  Does task status told =
       (IsEarlyFault status × IsUntouched input left held written)
-      ⊎ ((disk : D) × (back : D) × DoesOn disk back task status)
+      ⊎ ((disk : D) × (back : D) × DoesOn disk back task status told)
 
-  -- A task, for the store in a folder, was done, and this is the status.
-  pub record Performs (folder : Text) (task : Task) (status : Status) : Type 0 where
-    pub does : Does task status
+  -- A task, for the store in a folder, was done, this is the status, and this is to be told.
+  pub record Performs (folder : Text) (task : Task) (status : Status) (told : Told) : Type 0 where
+    pub does : Does task status told
     -- neither is help written nor are the words refused
     pub taken : TakesWords status
     -- no folder has an empty name
@@ -120,7 +122,7 @@ module _ (functions : Functions) {D R : Type 0} (state : D → State) (macros : 
     pub fault : HasFaultNumber status
     pub reads : (text : List ℕ) → remaining input ≡ Some text → TaskReads task status text (remaining left)
     pub writes : (text had : List ℕ) → remaining input ≡ Some text → contents held ≡ Some had
-        → TaskWrites functions task status text had (contents written)
+        → TaskWrites functions task status told text had (contents written)
     -- after a fault
     pub breaks_off : (text had : List ℕ) (number : ℕ) → remaining input ≡ Some text → contents held ≡ Some had → status ≡ Fault number
         → TaskBreaksOff functions task text had (contents written)
@@ -130,25 +132,25 @@ module _ (functions : Functions) {D R : Type 0} (state : D → State) (macros : 
 module _ (functions : Functions) {D R : Type 0} (state : D → State) (macros : R) (whole : Bool) (held written : Option (List ℕ)) where
   -- Sessions in a row went so over the store that a disk holds, and the status is that of the last one; or the store is not opened,
   -- and nothing is written. The first disk becomes the second.
-  abbrev pub SitsOn : D → D → Mode → ℕ → Status → Type 0
-  SitsOn disk back mode every status =
-      ((ending : Ending) × (status ≡ status_of_ending ending) × AreSessions functions mode every state disk macros held written ending back)
+  abbrev pub SitsOn : D → D → Wanted → Status → Told → Type 0
+  SitsOn disk back wanted status told =
+      ((ended : Ended) × (status ≡ status_of_ended ended) × IsToldOf ended told × AreSessions functions wanted state disk macros held written ended back)
       ⊎ (TellsUnopened functions state disk back whole status × (written ≡ held))
 
   -- There is no memory, no seed, or the folder is not opened, and nothing is written; or they went so over some disk of this type.
-  abbrev pub Sits : Mode → ℕ → Status → Type 0
-  Sits mode every status =
-      (IsEarlyFault status × (written ≡ held)) ⊎ ((disk : D) × (back : D) × SitsOn disk back mode every status)
+  abbrev pub Sits : Wanted → Status → Told → Type 0
+  Sits wanted status told =
+      (IsEarlyFault status × (written ≡ held)) ⊎ ((disk : D) × (back : D) × SitsOn disk back wanted status told)
 
 module _ (functions : Functions) {D R : Type 0} (state : D → State) (macros : R) (whole : Bool)
     {I O : Type 0} (remaining : I → Option (List ℕ)) (contents : O → Option (List ℕ)) (input left : I) (held written : O) where
   -- `run` is sessions in a row there; each other task is as anywhere
-  abbrev pub PerformsAtTerminal : Text → Task → Status → Type 0
-  PerformsAtTerminal folder (Run mode every) status = Sits functions state macros whole (contents held) (contents written) mode every status
-  PerformsAtTerminal folder Snapshot status = Performs functions state macros whole remaining contents input left held written folder Snapshot status
-  PerformsAtTerminal folder Upgrade status = Performs functions state macros whole remaining contents input left held written folder Upgrade status
-  PerformsAtTerminal folder (Export content) status = Performs functions state macros whole remaining contents input left held written folder (Export content) status
-  PerformsAtTerminal folder (Tell report) status = Performs functions state macros whole remaining contents input left held written folder (Tell report) status
+  abbrev pub PerformsAtTerminal : Text → Task → Status → Told → Type 0
+  PerformsAtTerminal folder (Run wanted) status told = Sits functions state macros whole (contents held) (contents written) wanted status told
+  PerformsAtTerminal folder Snapshot status told = Performs functions state macros whole remaining contents input left held written folder Snapshot status told
+  PerformsAtTerminal folder Upgrade status told = Performs functions state macros whole remaining contents input left held written folder Upgrade status told
+  PerformsAtTerminal folder (Export content) status told = Performs functions state macros whole remaining contents input left held written folder (Export content) status told
+  PerformsAtTerminal folder (Tell report) status told = Performs functions state macros whole remaining contents input left held written folder (Tell report) status told
 
 -- The words have a mistake, or ask for help: no task is done, and nothing is read. Where they are refused, or memory ran out, nothing
 -- goes to the output.

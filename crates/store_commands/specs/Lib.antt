@@ -1,8 +1,11 @@
 pub mod CommandLine
 pub mod Commands
 pub mod MacroFunctions
+pub mod Places
+pub mod Refusals
 pub mod Report
 pub mod Session
 pub mod Sessions
 pub mod Status
 pub mod Texts
+pub mod Told

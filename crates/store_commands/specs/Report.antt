@@ -15,7 +15,7 @@ use Rattle.prevalence_store.specs.calls.Streams.{Writes}
 use Rattle.store_commands.specs.Texts.{TellsText}
 use Rattle.store_commands.specs.Session.{half_limit}
 use Rattle.store_commands.specs.declared.status.Status.{Status}
-use Rattle.store_commands.specs.declared.status.Status.TheVariants.{Done, Helped, ReaderRefused, WordsRefused, LeftOut, Fault}
+use Rattle.store_commands.specs.declared.status.Status.TheVariants.{Done, Helped, FormRefused, WordsRefused, LeftOut, Fault}
 use Rattle.store_commands.specs.declared.words.Report.{Report}
 use Rattle.store_commands.specs.declared.words.Report.TheVariants.{Dump, Verify}
 
@@ -102,7 +102,7 @@ TellsForms LeftOut held written forms = Writes held written forms
 TellsForms Done held written forms = TellsText Done held written forms
 TellsForms (Fault number) held written forms = TellsText (Fault number) held written forms
 TellsForms Helped held written forms = ⊥
-TellsForms ReaderRefused held written forms = ⊥
+TellsForms FormRefused held written forms = ⊥
 TellsForms WordsRefused held written forms = ⊥
 
 -- The store that a disk holds was opened with these macro functions, forms were written, and it was closed: this is its disk. That
@@ -120,7 +120,7 @@ pub record IsExport (functions : Functions) {D R : Type 0} (state : D → State)
 -- so far as it ends well, the output has the text of some world more
 abbrev pub DumpsWorld : Status → List ℕ → Option (List ℕ) → Type 0
 DumpsWorld Done held written = (world : WorldState) × (written ≡ Some (held ++ snapshot world))
-DumpsWorld ReaderRefused held written = ⊥
+DumpsWorld FormRefused held written = ⊥
 DumpsWorld Helped held written = Unit {0}
 DumpsWorld WordsRefused held written = Unit {0}
 DumpsWorld LeftOut held written = ⊥
@@ -129,7 +129,7 @@ DumpsWorld (Fault number) held written = Unit {0}
 -- and the line on some half
 abbrev pub TellsHalf : Status → List ℕ → Option (List ℕ) → Type 0
 TellsHalf Done held written = (half : Half) × (generation : ℕ) × (records : ℕ) × (written ≡ Some (held ++ half_line half generation records))
-TellsHalf ReaderRefused held written = ⊥
+TellsHalf FormRefused held written = ⊥
 TellsHalf Helped held written = Unit {0}
 TellsHalf WordsRefused held written = Unit {0}
 TellsHalf LeftOut held written = ⊥
@@ -138,7 +138,7 @@ TellsHalf (Fault number) held written = Unit {0}
 -- and the line on some version
 abbrev pub TellsVersion : Status → List ℕ → Option (List ℕ) → Type 0
 TellsVersion Done held written = (version : ℕ) × (written ≡ Some (held ++ version_line version))
-TellsVersion ReaderRefused held written = ⊥
+TellsVersion FormRefused held written = ⊥
 TellsVersion Helped held written = Unit {0}
 TellsVersion WordsRefused held written = Unit {0}
 TellsVersion LeftOut held written = ⊥
@@ -148,7 +148,7 @@ TellsVersion (Fault number) held written = Unit {0}
 abbrev pub WritesForms : Status → List ℕ → Option (List ℕ) → Type 0
 WritesForms Done held written = (forms : List ℕ) × (written ≡ Some (held ++ forms))
 WritesForms LeftOut held written = (forms : List ℕ) × (written ≡ Some (held ++ forms))
-WritesForms ReaderRefused held written = ⊥
+WritesForms FormRefused held written = ⊥
 WritesForms Helped held written = Unit {0}
 WritesForms WordsRefused held written = Unit {0}
 WritesForms (Fault number) held written = Unit {0}

@@ -1,36 +1,39 @@
 -- What a session over a disk does, and what it has written. Of what the files of a folder hold no clause can say a thing.
-use Rattle.std.specs.Prelude.{◌≡◌, ◌≢◌, ◌⊎◌, ℕ, List, [], ◌∷◌, ◌++◌, All, Option, Some}
+use Rattle.std.specs.Prelude.{◌≡◌, ◌⊎◌, ℕ, List, [], ◌++◌, Option, Some, true}
 use Rattle.disk_trait.specs.Disk.{State}
-use Rattle.lisp_object.specs.declared.refusal.TheConstants.{DEVICE}
 use Rattle.lisp_reading.specs.Reading.{empty, refused}
 use Rattle.plist_state.specs.State.{WorldState}
 use Rattle.prevalence_store.specs.declared.mode.Mode.{Mode}
-use Rattle.prevalence_store.specs.declared.outcome.Ending.{Ending}
+use Rattle.prevalence_store.specs.declared.outcome.Ended.{Ended}
+use Rattle.prevalence_store.specs.declared.outcome.Place.{Place}
+use Rattle.prevalence_store.specs.declared.outcome.Wanted.{Wanted}
 use Rattle.prevalence_store.specs.meaning.Acceptance.{read_in}
 use Rattle.user_macros.specs.Functions.{Functions}
 use Rattle.prevalence_store.specs.calls.Open.{IsOpened}
 use Rattle.prevalence_store.specs.meaning.Answers.{Progress, after_forms, last_line, refusal_line}
-use Rattle.prevalence_store.specs.calls.Serve.{ServesInput}
+use Rattle.prevalence_store.specs.calls.Serve.{IsPlace, IsUnaccepted, ServesWanted}
 use Rattle.prevalence_store.specs.calls.Store.{StoreView}
-use Rattle.prevalence_store.specs.calls.Streams.{Writes, WritesPart}
+use Rattle.store_commands.specs.declared.refusal.Refusal.{Refusal}
 use Rattle.store_commands.specs.declared.status.Status.{Status}
-use Rattle.store_commands.specs.declared.status.Status.TheVariants.{Done, Helped, ReaderRefused, WordsRefused, LeftOut, Fault}
+use Rattle.store_commands.specs.declared.status.Status.TheVariants.{Done, Helped, FormRefused, WordsRefused, LeftOut, Fault}
+use Rattle.store_commands.specs.declared.told.Told.{Told}
+use Rattle.store_commands.specs.declared.told.Told.TheVariants.{Refused}
 
 -- how many bytes each of the two files of a store may have
 abbrev pub half_limit : ℕ
 half_limit = 1073741824
 
--- What a session does where the macro functions mean this, and each form is read in this mode.
-module _ (functions : Functions) (mode : Mode) where
-  -- The store that a disk holds was opened with these macro functions, it served the input, with a snapshot after every so many
-  -- forms that were logged, and it was closed: this is its disk.
-  pub record IsSession (every : ℕ) {D R : Type 0} (state : D → State) (disk : D) (macros : R) (had has held written : Option (List ℕ)) (ending : Ending) (back : D) : Type 0 where
-    pub opened : StoreView D R
-    pub is_opened : IsOpened functions state disk macros half_limit opened
-    pub closed : StoreView D R
-    pub serves : ServesInput functions state every opened closed is_opened.world mode had has held written ending
-    pub disk_is : back ≡ closed.disk
+-- The store that a disk holds was opened with these macro functions, it served the input as was wanted, and it was closed: this is its
+-- disk.
+pub record IsSession (functions : Functions) (wanted : Wanted) {D R : Type 0} (state : D → State) (disk : D) (macros : R) (had has held written : Option (List ℕ)) (ended : Ended) (back : D) : Type 0 where
+  pub opened : StoreView D R
+  pub is_opened : IsOpened functions state disk macros half_limit opened
+  pub closed : StoreView D R
+  pub serves : ServesWanted functions state wanted opened closed is_opened.world had has held written ended
+  pub disk_is : back ≡ closed.disk
 
+-- What a session writes where the macro functions mean this, and each form is read in this mode.
+module _ (functions : Functions) (mode : Mode) where
   -- the lines of so many forms of the input were written, and this last line
   pub record IsWritten (world : WorldState) (input held : List ℕ) (written : Option (List ℕ)) (last : List ℕ) : Type 0 where
     pub forms : ℕ
@@ -53,37 +56,55 @@ module _ (functions : Functions) (mode : Mode) where
     pub lines : far.lines ++ last_line (read_in functions far.world mode far.rest) ≡ front ++ unwritten
     pub all : written ≡ Some (held ++ front)
 
-  -- The input was answered as the store of some world answers it: to its end, or to what the reader refused.
-  abbrev pub AnswersInput : Status → List ℕ → List ℕ → Option (List ℕ) → Type 0
-  AnswersInput Done input held written =
-      (world : WorldState) × (lines : IsWritten world input held written []) × (read_in functions lines.far.world mode lines.far.rest ≡ empty)
-  AnswersInput ReaderRefused input held written =
-      (world : WorldState) × (number : ℕ) × (lines : IsWritten world input held written (refusal_line number))
-      × ((place : ℕ) × (read_in functions lines.far.world mode lines.far.rest ≡ refused number place))
-  AnswersInput Helped input held written = Unit {0}
-  AnswersInput WordsRefused input held written = Unit {0}
-  AnswersInput LeftOut input held written = ⊥
-  AnswersInput (Fault number) input held written = Unit {0}
+module _ (functions : Functions) (wanted : Wanted) where
+  -- Of what was read of the input this is left after its first forms, and in it something is refused at a place, which is told: so many
+  -- forms and so many bytes of the input come before it.
+  pub record IsAtPlace (world : WorldState) (input : List ℕ) (place : Place) (refuses : Progress → ℕ → Type 0) : Type 0 where
+    pub read : List ℕ
+    pub left : List ℕ
+    pub parts : input ≡ read ++ left
+    pub forms : ℕ
+    pub far : Progress
+    pub far_is : after_forms functions forms world wanted.mode read ≡ Some far
+    pub at : ℕ
+    pub is_refused : refuses far at
+    pub is_place : IsPlace 0 0 forms read far.rest at place
+    -- in a strict session each of these forms was accepted
+    pub accepted : wanted.strict ≡ true → far.refused ≡ []
 
--- What is told of a fault: its line, and after that of the device perhaps one more, with the cause.
-abbrev pub IsFaultText : ℕ → List ℕ → Type 0
-IsFaultText number text =
-    (text ≡ refusal_line number)
-    ⊎ ((number ≡ DEVICE) × (cause : List ℕ) × All (λ byte. byte ≢ 10) cause × (text ≡ refusal_line number ++ (cause ++ 10 ∷ [])))
+  -- the reader refused what is left at this place
+  abbrev pub IsUnreadable : Refusal → Progress → ℕ → Type 0
+  IsUnreadable refusal far at = read_in functions far.world wanted.mode far.rest ≡ refused refusal.number at
 
--- After a fault that is told, and after an export what was left out of it; or, if that failed, a part of it from its front.
-abbrev pub TellsFault : Status → Option (List ℕ) → Option (List ℕ) → Type 0
-TellsFault (Fault number) held written = (text : List ℕ) × IsFaultText number text × (Writes held written text ⊎ WritesPart held written text)
-TellsFault Done held written = Unit {0}
-TellsFault Helped held written = Unit {0}
-TellsFault ReaderRefused held written = Unit {0}
-TellsFault WordsRefused held written = Unit {0}
-TellsFault LeftOut held written = (text : List ℕ) × (Writes held written text ⊎ WritesPart held written text)
+  -- in a strict session, the form that begins at this place was refused
+  abbrev pub IsStopped : Refusal → Progress → ℕ → Type 0
+  IsStopped refusal far start = (wanted.strict ≡ true) × IsUnaccepted functions far.world wanted.mode far.rest refusal.number start
+
+  -- The answers to the input end with the line of this refusal, by the reader, or of a form of a strict session.
+  abbrev pub AnswersToRefusal : WorldState → Refusal → List ℕ → List ℕ → Option (List ℕ) → Type 0
+  AnswersToRefusal world refusal input held written =
+      ((lines : IsWritten functions wanted.mode world input held written (refusal_line refusal.number))
+      × ((place : ℕ) × (read_in functions lines.far.world wanted.mode lines.far.rest ≡ refused refusal.number place))
+      × IsAtPlace world input refusal.place (IsUnreadable refusal))
+      ⊎ ((stopped : IsAtPlace world input refusal.place (IsStopped refusal))
+      × (written ≡ Some (held ++ (stopped.far.lines ++ refusal_line refusal.number))))
+
+  -- The input was answered as the store of some world answers it: to its end, or to a refusal, which is told.
+  abbrev pub AnswersInput : Status → Told → List ℕ → List ℕ → Option (List ℕ) → Type 0
+  AnswersInput Done told input held written =
+      (world : WorldState) × (lines : IsWritten functions wanted.mode world input held written [])
+      × (read_in functions lines.far.world wanted.mode lines.far.rest ≡ empty) × (wanted.strict ≡ true → lines.far.refused ≡ [])
+  AnswersInput FormRefused told input held written =
+      (world : WorldState) × (refusal : Refusal) × (told ≡ Refused refusal) × AnswersToRefusal world refusal input held written
+  AnswersInput Helped told input held written = Unit {0}
+  AnswersInput WordsRefused told input held written = Unit {0}
+  AnswersInput LeftOut told input held written = ⊥
+  AnswersInput (Fault number) told input held written = Unit {0}
 
 -- at the end of the input nothing of it is left
 abbrev pub ReadsToEnd : Status → Option (List ℕ) → Type 0
 ReadsToEnd Done left = left ≡ Some []
-ReadsToEnd ReaderRefused left = Unit {0}
+ReadsToEnd FormRefused left = Unit {0}
 ReadsToEnd Helped left = Unit {0}
 ReadsToEnd WordsRefused left = Unit {0}
 ReadsToEnd LeftOut left = Unit {0}

@@ -6,26 +6,27 @@ use Rattle.clap.specs.declared.error.kind.ErrorKind.TheVariants.{DisplayHelp, Di
 use Rattle.disk_trait.specs.declared.host.HostError.{HostError}
 use Rattle.disk_trait.specs.declared.host.HostError.TheVariants as host
 use Rattle.lisp_object.specs.declared.refusal.TheConstants.{DEVICE, DAMAGED, OUTPUT, NO_MEMORY}
-use Rattle.prevalence_store.specs.declared.outcome.Ending.{Ending}
-use Rattle.prevalence_store.specs.declared.outcome.Ending.TheVariants.{End, Reader, Store}
+use Rattle.prevalence_store.specs.declared.outcome.Ended.{Ended}
+use Rattle.prevalence_store.specs.declared.outcome.Ended.TheVariants.{End, Store, Unaccepted, Unreadable}
 use Rattle.store_commands.specs.declared.fault.Unwritten.{Unwritten}
 use Rattle.store_commands.specs.declared.status.Status.{Status}
-use Rattle.store_commands.specs.declared.status.Status.TheVariants.{Done, Helped, ReaderRefused, WordsRefused, LeftOut, Fault}
+use Rattle.store_commands.specs.declared.status.Status.TheVariants.{Done, Helped, FormRefused, WordsRefused, LeftOut, Fault}
 
 -- the exit status
 abbrev pub code_of : Status → ℕ
 code_of Done = 0
 code_of Helped = 0
-code_of ReaderRefused = 1
+code_of FormRefused = 1
 code_of WordsRefused = 2
 code_of LeftOut = 3
 code_of (Fault number) = 3
 
 -- after a session
-abbrev pub status_of_ending : Ending → Status
-status_of_ending End = Done
-status_of_ending (Reader number) = ReaderRefused
-status_of_ending (Store number) = Fault number
+abbrev pub status_of_ended : Ended → Status
+status_of_ended End = Done
+status_of_ended (Unreadable number place) = FormRefused
+status_of_ended (Unaccepted number place) = FormRefused
+status_of_ended (Store number) = Fault number
 
 -- after a text that was written, or not whole
 abbrev pub status_of_output : Result Unit Unwritten → Status
@@ -44,13 +45,13 @@ status_of_kind DisplayVersion = Helped
 status_of_kind OutOfMemory = Fault NO_MEMORY
 status_of_kind _ = WordsRefused
 
--- the command was carried out: to its end, or to what the reader refused
+-- the command was carried out: to its end, or to a refusal that ended the session
 abbrev pub IsCarriedOut : Status → Type 0
-IsCarriedOut status = (status ≡ Done) ⊎ (status ≡ ReaderRefused)
+IsCarriedOut status = (status ≡ Done) ⊎ (status ≡ FormRefused)
 
 -- nothing is told on standard error
 abbrev pub IsQuiet : Status → Type 0
-IsQuiet status = IsCarriedOut status ⊎ (status ≡ Helped)
+IsQuiet status = (status ≡ Done) ⊎ (status ≡ Helped)
 
 -- the number is of the device, of the files, their limit, the input or the output, or of memory: 60, 62 to 68, or 90
 abbrev pub IsFaultNumber : ℕ → Type 0
@@ -65,7 +66,7 @@ abbrev pub TakesWords : Status → Type 0
 TakesWords Helped = ⊥
 TakesWords WordsRefused = ⊥
 TakesWords Done = Unit {0}
-TakesWords ReaderRefused = Unit {0}
+TakesWords FormRefused = Unit {0}
 TakesWords LeftOut = Unit {0}
 TakesWords (Fault number) = Unit {0}
 
@@ -76,7 +77,7 @@ IsAfterWords kind status = (status ≡ status_of_kind kind) ⊎ ((status_of_kind
 -- no command was carried out: help was written or not, the words were refused, or memory ran out
 abbrev pub IsOfWords : Status → Type 0
 IsOfWords Done = ⊥
-IsOfWords ReaderRefused = ⊥
+IsOfWords FormRefused = ⊥
 IsOfWords LeftOut = ⊥
 IsOfWords Helped = Unit {0}
 IsOfWords WordsRefused = Unit {0}

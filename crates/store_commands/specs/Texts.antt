@@ -4,7 +4,7 @@ use Rattle.lisp_object.specs.declared.refusal.TheConstants.{OUTPUT, NO_MEMORY}
 use Rattle.prevalence_store.specs.calls.Streams.{Writes, WritesPart}
 use Rattle.store_commands.specs.declared.fault.Unwritten.{Unwritten}
 use Rattle.store_commands.specs.declared.status.Status.{Status}
-use Rattle.store_commands.specs.declared.status.Status.TheVariants.{Done, Helped, ReaderRefused, WordsRefused, LeftOut, Fault}
+use Rattle.store_commands.specs.declared.status.Status.TheVariants.{Done, Helped, FormRefused, WordsRefused, LeftOut, Fault}
 
 -- what was written is the first part of this text, perhaps all of it
 abbrev pub IsFront : List ℕ → Option (List ℕ) → List ℕ → Type 0
@@ -29,6 +29,6 @@ abbrev pub TellsText : Status → Option (List ℕ) → Option (List ℕ) → Li
 TellsText Done held written text = Writes held written text
 TellsText (Fault number) held written text = ((number ≡ OUTPUT) × WritesFront held written text) ⊎ ((number ≡ NO_MEMORY) × (written ≡ held))
 TellsText Helped held written text = ⊥
-TellsText ReaderRefused held written text = ⊥
+TellsText FormRefused held written text = ⊥
 TellsText WordsRefused held written text = ⊥
 TellsText LeftOut held written text = ⊥

@@ -5,10 +5,12 @@ ghost use Rattle.user_macros.specs.Functions.{are_registered};
 ghost use Rattle.store_commands.specs.declared.words.Task.{Task};
 ghost use Rattle.store_commands.specs.CommandLine.{AsksFor, IsTaken, faults_of};
 ghost use Rattle.store_commands.specs.Commands.{DoesOn, Performs, PerformsAtTerminal, PerformsNone, Sits};
-ghost use Rattle.store_commands.specs.Session.{TellsFault};
 ghost use Rattle.store_commands.specs.Status.{EndsAfter, HasFaultNumber, IsAfterWords, IsOfWords, IsQuiet, TakesWords};
+ghost use Rattle.store_commands.specs.Told.{TellsFault};
+ghost use Rattle.store_commands.specs.declared.told.Told.{Told};
 
 use crate::export::export_on;
+use crate::places::Places;
 use crate::report::report_on;
 use crate::session::serve_on;
 use crate::sessions::sessions_on;
@@ -22,11 +24,11 @@ use clap::Error;
 use disk_trait::{Disk, HostDisk, HostError, IfMissing};
 use lisp_object::refusal::{INPUT, NO_MEMORY, OUTPUT};
 use plist_state::Seed;
-use prevalence_store::{Mode, Unopened};
+use prevalence_store::{Unopened, Wanted};
 use std::alloc::Global;
 use std::convert::AsStr;
 use std::fs::File;
-use std::io::{Read, Write};
+use std::io::Write;
 use std::random::RandomSource;
 use std::rt::Files;
 use user_macros::MacroFunctions;
@@ -34,14 +36,16 @@ use user_macros::MacroFunctions;
 /// Does what the words ask for, with these macro functions; the first word is the program's name.
 ///
 /// Each command is over the store in the folder DIR. `run DIR` serves `input` to `output` in the mode Current; with `--rescue`
-/// in the mode Rescue, and with `--snapshot-every N` it takes a snapshot after each N forms that were logged. `snapshot DIR` takes
+/// in the mode Rescue, with `--strict` the first form that is refused ends it, and with `--snapshot-every N` it takes a snapshot
+/// after each N forms that were logged. `snapshot DIR` takes
 /// a snapshot and writes the line on the half in use to `output`, `upgrade DIR` the version after it has taken one of files of
 /// version 1, `export DIR` the forms that make the world, `dump DIR` its text, and `verify DIR` the line on
 /// the half in use; they read nothing. A folder without a store gets one, or is a fault with `--existing`.
 ///
 /// Names are hashed by a seed that is drawn from `rt`; if it has no random bytes, the status is that of a fault of the input.
 /// Faults are found in this order: the words, the seed, DIR, the opening of the store, the command. A text on words that are refused, or
-/// the line of a fault, and after that of the device one with its cause, goes to `faults`; help and the version that was asked for
+/// the line of a fault, and after that of the device one with its cause, goes to `faults`, and so does the line on a refusal that
+/// ended the session; help and the version that was asked for
 /// go to `output`. What is written to `output` is flushed.
 pub fn program<R, M, S, I, O, F>(
     rt: &R,
@@ -55,7 +59,7 @@ where
     R: Files<File = File> + RandomSource + AllocGlobal,
     M: MacroFunctions + Drop,
     S: AsStr,
-    I: Read,
+    I: Places,
     O: Write,
     F: Write,
     requires answers { M.answers macros }
@@ -65,13 +69,14 @@ where
     ensures ends { EndsAfter (faults_of (map S.text words.now)) result }
     ensures taken { (folder : Text) (existing : Bool) (task : Task)
         → IsTaken (map S.text words.now) folder existing task
-        → Performs M.Meaning.functions ⟦<HostDisk as Disk>⟧.state macros
+        → (told : Told) × Performs M.Meaning.functions ⟦<HostDisk as Disk>⟧.state macros
         (are_registered M.Meaning.functions (M.functions macros)) I.remaining O.contents
-        input.old input.new output.old output.new folder task result }
+        input.old input.new output.old output.new folder task result told
+        × TellsFault result told (F.contents faults.old) (F.contents faults.new) }
     ensures untaken { (faults_of (map S.text words.now) ≡ [] → ⊥)
         → PerformsNone input.old input.new output.old output.new result }
     ensures fault { HasFaultNumber result }
-    ensures told { TellsFault result (F.contents faults.old) (F.contents faults.new) }
+    ensures told { (told : Told) × TellsFault result told (F.contents faults.old) (F.contents faults.new) }
     ensures quiet { IsQuiet result → faults.new ≡ faults.old }
 {
     // The words come first: if they are refused, no folder is opened and nothing is read.
@@ -108,12 +113,13 @@ where
     ensures ends { EndsAfter (faults_of (map S.text words.now)) result }
     ensures taken { (folder : Text) (existing : Bool) (task : Task)
         → IsTaken (map S.text words.now) folder existing task
-        → PerformsAtTerminal M.Meaning.functions ⟦<HostDisk as Disk>⟧.state macros
+        → (told : Told) × PerformsAtTerminal M.Meaning.functions ⟦<HostDisk as Disk>⟧.state macros
         (are_registered M.Meaning.functions (M.functions macros)) I.remaining O.contents
-        input.old input.new output.old output.new folder task result }
+        input.old input.new output.old output.new folder task result told
+        × TellsFault result told (F.contents faults.old) (F.contents faults.new) }
     ensures untaken { (faults_of (map S.text words.now) ≡ [] → ⊥)
         → PerformsNone input.old input.new output.old output.new result }
-    ensures told { TellsFault result (F.contents faults.old) (F.contents faults.new) }
+    ensures told { (told : Told) × TellsFault result told (F.contents faults.old) (F.contents faults.new) }
     ensures quiet { IsQuiet result → faults.new ≡ faults.old }
 {
     match asked_in(rt.alloc(), words) {
@@ -145,13 +151,10 @@ where
     ensures taken { TakesWords result.0 }
     ensures performs { PerformsAtTerminal M.Meaning.functions ⟦<HostDisk as Disk>⟧.state macros
         (are_registered M.Meaning.functions (M.functions macros)) I.remaining O.contents
-        input.old input.new output.old output.new asked.entry.folder.now asked.entry.task result.0 }
+        input.old input.new output.old output.new asked.entry.folder.now asked.entry.task result.0 result.1 }
 {
     match asked.task {
-        Task::Run {
-            mode,
-            snapshot_every,
-        } => sit(rt, macros, asked, mode, snapshot_every, input, output),
+        Task::Run(wanted) => sit(rt, macros, asked, wanted, input, output),
         _ => carry_out(rt, macros, asked, input, output),
     }
 }
@@ -161,8 +164,7 @@ fn sit<R, M, I, O>(
     rt: &R,
     macros: M,
     asked: Asked<'_>,
-    mode: Mode,
-    snapshot_every: u64,
+    wanted: Wanted,
     input: &mut I,
     output: &mut O,
 ) -> (Status, Told)
@@ -175,7 +177,7 @@ where
     ensures taken { TakesWords result.0 }
     ensures sits { Sits M.Meaning.functions ⟦<HostDisk as Disk>⟧.state macros
         (are_registered M.Meaning.functions (M.functions macros)) (O.contents output.old) (O.contents output.new)
-        mode snapshot_every result.0 }
+        wanted result.0 result.1 }
 {
     // the seed comes before the folder, so that nothing is made if there is none
     let Ok(seed) = Seed::draw(rt) else {
@@ -190,12 +192,14 @@ where
         disk,
         macros,
         seed,
-        mode,
-        snapshot_every,
+        wanted,
         input,
         output,
     ) {
-        Ok((ending, disk, _macros)) => (Status::of_ending(ending), cause_of(&disk)),
+        Ok((ended, disk, _macros)) => (
+            Status::of_ended(ended),
+            told_after(Told::of_session(ended, input), &disk),
+        ),
         Err(unopened) => (Status::Fault(unopened.number), cause_of(&unopened.disk)),
     }
 }
@@ -244,12 +248,12 @@ fn carry_out<R, M, I, O>(
 where
     R: Files<File = File> + RandomSource + AllocGlobal,
     M: MacroFunctions + Drop,
-    I: Read,
+    I: Places,
     O: Write,
     requires answers { M.answers macros }
     ensures { Performs M.Meaning.functions ⟦<HostDisk as Disk>⟧.state macros
         (are_registered M.Meaning.functions (M.functions macros)) I.remaining O.contents
-        input.old input.new output.old output.new asked.entry.folder.now asked.entry.task result.0 }
+        input.old input.new output.old output.new asked.entry.folder.now asked.entry.task result.0 result.1 }
 {
     // the seed comes before the folder, so that nothing is made if there is none
     let Ok(seed) = Seed::draw(rt) else {
@@ -259,7 +263,7 @@ where
         Ok(disk) => disk,
         Err(error) => return (Status::of_host(&error), Told::Cause(error)),
     };
-    let (status, disk, left_out) = carry_out_on(
+    let (status, disk, told) = carry_out_on(
         rt.alloc(),
         disk,
         macros,
@@ -268,15 +272,17 @@ where
         input,
         output,
     );
-    (status, told_after(status, left_out, &disk))
+    (status, told_after(told, &disk))
 }
 
-// What is to be told on standard error after a task.
-fn told_after(status: Status, left_out: Vec<u8>, disk: &HostDisk) -> Told {
-    if status == Status::LeftOut {
-        return Told::LeftOut(left_out);
+// What is to be told on standard error after a task; if that is nothing, the cause of a fault of the device.
+fn told_after(told: Told, disk: &HostDisk) -> Told
+    ensures { (told ≡ Told.Nothing) ⊎ (result ≡ told) }
+{
+    match told {
+        Told::Nothing => cause_of(disk),
+        told => told,
     }
-    cause_of(disk)
 }
 
 // The cause of a fault of the device, if there was one.
@@ -307,8 +313,8 @@ fn open_folder<R: Files<File = File> + RandomSource + AllocGlobal>(
     HostDisk::open_files(rt, asked.folder, if_missing)
 }
 
-// Carries a task out over the store that a disk holds, and gives the disk back as the store left it, and a line for each property
-// that was left out of an export.
+// Carries a task out over the store that a disk holds, and gives the disk back as the store left it, and what is to be told of a
+// refusal that ended a session, or of what was left out of an export.
 fn carry_out_on<D, M, I, O>(
     alloc: Global,
     disk: D,
@@ -317,62 +323,54 @@ fn carry_out_on<D, M, I, O>(
     task: Task,
     input: &mut I,
     output: &mut O,
-) -> (Status, D, Vec<u8>)
+) -> (Status, D, Told)
 where
     D: Disk + Drop,
     M: MacroFunctions + Drop,
-    I: Read,
+    I: Places,
     O: Write,
     requires room { (D.state disk).failures < 2 ^ 64 - 1 }
     requires answers { M.answers macros }
     ensures { DoesOn M.Meaning.functions D.state macros
         (are_registered M.Meaning.functions (M.functions macros)) I.remaining O.contents
-        input.old input.new output.old output.new disk result.1 task result.0 }
+        input.old input.new output.old output.new disk result.1 task result.0 result.2 }
 {
     match task {
-        Task::Run {
-            mode,
-            snapshot_every,
-        } => match serve_on(
-            alloc,
-            disk,
-            macros,
-            seed,
-            mode,
-            snapshot_every,
-            input,
-            output,
-        ) {
-            Ok((ending, disk, _macros)) => (Status::of_ending(ending), disk, Vec::new(alloc)),
-            Err(unopened) => without_store(alloc, unopened),
+        Task::Run(wanted) => match serve_on(alloc, disk, macros, seed, wanted, input, output) {
+            Ok((ended, disk, _macros)) => (
+                Status::of_ended(ended),
+                disk,
+                Told::of_session(ended, input),
+            ),
+            Err(unopened) => without_store(unopened),
         },
         Task::Snapshot => match snapshot_on(alloc, disk, macros, seed, output) {
-            Ok((status, disk, _macros)) => (status, disk, Vec::new(alloc)),
-            Err(unopened) => without_store(alloc, unopened),
+            Ok((status, disk, _macros)) => (status, disk, Told::Nothing),
+            Err(unopened) => without_store(unopened),
         },
         Task::Upgrade => match upgrade_on(alloc, disk, macros, seed, output) {
-            Ok((status, disk, _macros)) => (status, disk, Vec::new(alloc)),
-            Err(unopened) => without_store(alloc, unopened),
+            Ok((status, disk, _macros)) => (status, disk, Told::Nothing),
+            Err(unopened) => without_store(unopened),
         },
         Task::Export(content) => match export_on(alloc, disk, macros, seed, content, output) {
-            Ok((status, disk, _macros, left_out)) => (status, disk, left_out),
-            Err(unopened) => without_store(alloc, unopened),
+            Ok((status, disk, _macros, left_out)) => (status, disk, Told::LeftOut(left_out)),
+            Err(unopened) => without_store(unopened),
         },
         Task::Tell(report) => match report_on(alloc, disk, macros, seed, report, output) {
-            Ok((status, disk, _macros)) => (status, disk, Vec::new(alloc)),
-            Err(unopened) => without_store(alloc, unopened),
+            Ok((status, disk, _macros)) => (status, disk, Told::Nothing),
+            Err(unopened) => without_store(unopened),
         },
     }
 }
 
 // A store was not opened: the status, and the disk.
-fn without_store<D: Drop, M: Drop>(alloc: Global, unopened: Unopened<D, M>) -> (Status, D, Vec<u8>)
+fn without_store<D: Drop, M: Drop>(unopened: Unopened<D, M>) -> (Status, D, Told)
     ensures status { result.0 ≡ Status.Fault unopened.number }
     ensures disk { result.1 ≡ unopened.disk }
 {
     (
         Status::Fault(unopened.number),
         unopened.disk,
-        Vec::new(alloc),
+        Told::Nothing,
     )
 }

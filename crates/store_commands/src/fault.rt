@@ -1,7 +1,7 @@
 // The line of a fault, that with its cause, and how a text is written.
 ghost use Rattle.std.specs.Prelude.{◌≢◌, ℕ, List, [], ◌∷◌, ◌++◌, All};
 ghost use Rattle.prevalence_store.specs.meaning.Answers.{refusal_line};
-ghost use Rattle.store_commands.specs.Session.{IsFaultText};
+ghost use Rattle.store_commands.specs.Told.{IsFaultText};
 ghost use Rattle.store_commands.specs.Texts.{WritesOut, WritesText};
 
 use arrayvec::{ArrayString, ArrayVec};

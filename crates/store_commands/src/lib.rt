@@ -7,9 +7,11 @@
 //!   writes the forms that make the world, and `report_on` writes what is told of a store (modules `session`, `snapshot`, `upgrade`,
 //!   `export` and `report`).
 //! - `sessions_on` serves sessions in a row (module `sessions`), and `terminal` has the input that asks for them, with its prompts.
-//! - `words` has the command line: `run DIR [--rescue] [--snapshot-every N]`, `snapshot DIR`, `upgrade DIR`, `export DIR [--data]`,
+//! - `words` has the command line: `run DIR [--rescue] [--strict] [--snapshot-every N]`, `snapshot DIR`, `upgrade DIR`, `export DIR [--data]`,
 //!   `dump DIR` and `verify DIR`, each with `--existing`; `help` has the texts of its help.
-//! - `fault` writes the line of a fault, and that with its cause; `half_line` that on the half in use.
+//! - `fault` writes the line of a fault, and that with its cause; `refusal` that on the refusal that ended a session; `half_line` that
+//!   on the half in use.
+//! - `places` has the input that tells lines and columns.
 //! - `meaning` says what the macro functions of the program mean, and `macro_functions` has those that compute an object.
 #![tactic(auto)]
 
@@ -20,6 +22,8 @@ mod half_line;
 mod help;
 pub mod macro_functions;
 mod meaning;
+mod places;
+mod refusal;
 mod report;
 mod session;
 mod sessions;
@@ -35,6 +39,8 @@ pub use export::export_on;
 pub use fault::{Unwritten, write_fault, write_fault_with_cause};
 pub use half_line::write_half_line;
 pub use meaning::SixFunctions;
+pub use places::{Lines, Places, Spot};
+pub use refusal::{Refusal, Spots, write_refusal};
 pub use report::report_on;
 pub use session::{HALF_LIMIT, serve_on};
 pub use sessions::sessions_on;

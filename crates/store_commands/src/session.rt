@@ -7,7 +7,7 @@ ghost use Rattle.store_commands.specs.Session.{IsSession, half_limit};
 
 use disk_trait::Disk;
 use plist_state::Seed;
-use prevalence_store::{Ending, Mode, Store, Unopened};
+use prevalence_store::{Ended, Store, Unopened, Wanted};
 use std::alloc::Global;
 use std::io::{Read, Write};
 use user_macros::MacroFunctions;
@@ -15,9 +15,8 @@ use user_macros::MacroFunctions;
 /// How many bytes each of the two files of a store may have.
 pub const HALF_LIMIT: u64 = 1_073_741_824;
 
-/// A session over the store that a disk holds, with these macro functions, in this mode, and with names hashed by this seed. After
-/// each `snapshot_every` forms that were logged it takes a snapshot, and never if that is 0. The disk is given back as the store
-/// left it, and the macro functions.
+/// A session over the store that a disk holds, as it is wanted, with these macro functions, and with names hashed by this seed. The
+/// disk is given back as the store left it, and the macro functions.
 ///
 /// # Errors
 ///
@@ -27,11 +26,10 @@ pub fn serve_on<D, M, I, O>(
     disk: D,
     macros: M,
     seed: Seed,
-    mode: Mode,
-    snapshot_every: u64,
+    wanted: Wanted,
     input: &mut I,
     output: &mut O,
-) -> Result<(Ending, D, M), Unopened<D, M>>
+) -> Result<(Ended, D, M), Unopened<D, M>>
 where
     D: Disk,
     M: MacroFunctions,
@@ -39,7 +37,7 @@ where
     O: Write,
     requires room { (D.state disk).failures < 2 ^ 64 - 1 }
     requires answers { M.answers macros }
-    ensures served { IfOk result (λ p. IsSession M.Meaning.functions mode snapshot_every
+    ensures served { IfOk result (λ p. IsSession M.Meaning.functions wanted
         D.state disk macros (I.remaining input.old) (I.remaining input.new)
         (O.contents output.old) (O.contents output.new) p.0 p.1) }
     ensures kept { IfOk result (λ p. p.2 ≡ macros) }
@@ -49,7 +47,7 @@ where
     ensures given_back { IfErr result (λ e. e.macros ≡ macros) }
 {
     let mut store = Store::open_with_seed(alloc, disk, macros, HALF_LIMIT, seed)?;
-    let ending = store.serve(input, output, mode, snapshot_every);
+    let ended = store.serve_wanted(input, output, wanted);
     let (disk, macros) = store.close();
-    Ok((ending, disk, macros))
+    Ok((ended, disk, macros))
 }

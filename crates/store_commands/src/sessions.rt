@@ -6,17 +6,18 @@ ghost use Rattle.user_macros.specs.Functions.{are_registered};
 ghost use Rattle.store_commands.specs.Session.{half_limit};
 ghost use Rattle.store_commands.specs.Sessions.{AreSessions, InTurn};
 
+use crate::refusal::Refusal;
 use crate::session::HALF_LIMIT;
 use crate::terminal::Sessions;
 use disk_trait::Disk;
 use plist_state::Seed;
-use prevalence_store::{Ending, Mode, Store, Unopened};
+use prevalence_store::{Ended, Store, Unopened, Wanted};
 use std::alloc::Global;
 use std::io::Write;
 use user_macros::MacroFunctions;
 
-/// Sessions in a row over the store that a disk holds, as `serve_on` has one: after each one that the reader ended the input is
-/// asked for another. The ending is that of the last one.
+/// Sessions in a row over the store that a disk holds, as `serve_on` has one: after each one that a refusal ended the input is
+/// asked for another. The end is that of the last one.
 ///
 /// # Errors
 ///
@@ -26,11 +27,10 @@ pub fn sessions_on<D, M, I, O>(
     disk: D,
     macros: M,
     seed: Seed,
-    mode: Mode,
-    snapshot_every: u64,
+    wanted: Wanted,
     input: &mut I,
     output: &mut O,
-) -> Result<(Ending, D, M), Unopened<D, M>>
+) -> Result<(Ended, D, M), Unopened<D, M>>
 where
     D: Disk,
     M: MacroFunctions,
@@ -38,7 +38,7 @@ where
     O: Write,
     requires room { (D.state disk).failures < 2 ^ 64 - 1 }
     requires answers { M.answers macros }
-    ensures served { IfOk result (λ p. AreSessions M.Meaning.functions mode snapshot_every
+    ensures served { IfOk result (λ p. AreSessions M.Meaning.functions wanted
         D.state disk macros (O.contents output.old) (O.contents output.new) p.0 p.1) }
     ensures kept { IfOk result (λ p. p.2 ≡ macros) }
     ensures refused { IfErr result (λ e. IsUnopened M.Meaning.functions D.state disk
@@ -47,19 +47,18 @@ where
     ensures given_back { IfErr result (λ e. e.macros ≡ macros) }
 {
     let mut store = Store::open_with_seed(alloc, disk, macros, HALF_LIMIT, seed)?;
-    let ending = serve_in_turn(&mut store, mode, snapshot_every, input, output);
+    let ended = serve_in_turn(&mut store, wanted, input, output);
     let (disk, macros) = store.close();
-    Ok((ending, disk, macros))
+    Ok((ended, disk, macros))
 }
 
 // Sessions in a row on an open store.
 fn serve_in_turn<D, M, I, O>(
     store: &mut Store<D, M>,
-    mode: Mode,
-    snapshot_every: u64,
+    wanted: Wanted,
     input: &mut I,
     output: &mut O,
-) -> Ending
+) -> Ended
 where
     D: Disk,
     M: MacroFunctions,
@@ -68,19 +67,19 @@ where
     requires answers { M.answers store.old.macros }
     requires whole { are_registered M.Meaning.functions (M.functions store.old.macros) ≡ true }
     ensures serves { (world : WorldState) → store.old.world ≡ Some world
-        → InTurn M.Meaning.functions mode snapshot_every D.state store.old store.new world
+        → InTurn M.Meaning.functions wanted D.state store.old store.new world
         (O.contents output.old) (O.contents output.new) result }
     ensures macros { store.new.macros ≡ store.old.macros }
 {
-    let mut ending = store.serve(input, output, mode, snapshot_every);
+    let mut ended = store.serve_wanted(input, output, wanted);
     'sessions: for _ in 0..u64::MAX {
-        let Ending::Reader(_) = ending else {
+        let Some(refusal) = Refusal::of(ended, input) else {
             break;
         };
-        if !input.next_session() {
+        if !input.next_session(&refusal) {
             break;
         }
-        ending = store.serve(input, output, mode, snapshot_every);
+        ended = store.serve_wanted(input, output, wanted);
     }
-    ending
+    ended
 }

@@ -1,11 +1,11 @@
 // How the program ends.
 ghost use Rattle.std.specs.Prelude.{◌≡◌};
-ghost use Rattle.store_commands.specs.Status.{code_of, status_of_ending, status_of_host, status_of_kind};
+ghost use Rattle.store_commands.specs.Status.{code_of, status_of_ended, status_of_host, status_of_kind};
 
 use clap::error::ErrorKind;
 use disk_trait::HostError;
 use lisp_object::refusal::{DEVICE, NO_MEMORY};
-use prevalence_store::Ending;
+use prevalence_store::Ended;
 
 /// How the program ended.
 #[derive(Clone, Copy, Debug, PartialEq, Eq)]
@@ -14,8 +14,8 @@ pub enum Status {
     Done,
     /// The help or the version that was asked for was written.
     Helped,
-    /// The reader refused a form, which ended the session.
-    ReaderRefused,
+    /// A form was refused, which ended the session: by the reader, or, if the session was strict, by its evaluation.
+    FormRefused,
     /// The words of the command line were refused.
     WordsRefused,
     /// What no form can make was left out of an export; the rest was written.
@@ -25,27 +25,27 @@ pub enum Status {
 }
 
 impl Status {
-    /// The exit status: 0 where the command was carried out and after help, 1 after a refusal of the reader, 2 for words that
-    /// are refused, 3 after a fault and where something was left out of an export.
+    /// The exit status: 0 if the command was carried out and after help, 1 after a refusal that ended the session, 2 for words
+    /// that are refused, 3 after a fault and if something was left out of an export.
     pub fn code(self) -> u8
         ensures { result ≡ code_of self }
     {
         match self {
             Status::Done | Status::Helped => 0,
-            Status::ReaderRefused => 1,
+            Status::FormRefused => 1,
             Status::WordsRefused => 2,
             Status::LeftOut | Status::Fault(_) => 3,
         }
     }
 
     /// The status after a session that ended so.
-    pub fn of_ending(ending: Ending) -> Status
-        ensures { result ≡ status_of_ending ending }
+    pub fn of_ended(ended: Ended) -> Status
+        ensures { result ≡ status_of_ended ended }
     {
-        match ending {
-            Ending::End => Status::Done,
-            Ending::Reader(_) => Status::ReaderRefused,
-            Ending::Store(number) => Status::Fault(number),
+        match ended {
+            Ended::End => Status::Done,
+            Ended::Unreadable(..) | Ended::Unaccepted(..) => Status::FormRefused,
+            Ended::Store(number) => Status::Fault(number),
         }
     }
 

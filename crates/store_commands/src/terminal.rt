@@ -2,9 +2,9 @@
 ghost use Rattle.std.specs.Prelude.{◌≡◌};
 
 use crate::fault::write_text;
-use arrayvec::ArrayString;
+use crate::places::{Places, Spot};
+use crate::refusal::{Refusal, write_refusal};
 use std::cell::Cell;
-use std::fmt::Write as WriteText;
 use std::io;
 use std::io::{Read, Write};
 
@@ -16,10 +16,13 @@ const INNER_PROMPT: &[u8] = b". ";
 
 const WELCOME: &[u8] = b"Type a form and Enter; Ctrl-D ends.\n";
 
-/// An input of sessions in a row.
-pub trait Sessions: Read {
-    /// After a session that the reader ended: whether another one follows. The rest of the line is dropped.
-    fn next_session(&mut self) -> bool;
+const DROPPED: &[u8] = b"The rest of the line was dropped, and a new session begins.\n";
+
+/// An input of sessions in a row, which tells the lines of places counted in the present one.
+pub trait Sessions: Places {
+    /// After a session that a refusal ended: whether another one follows. If so, the rest of the line was dropped, and the refusal
+    /// was told.
+    fn next_session(&mut self, refusal: &Refusal) -> bool;
 }
 
 /// An input at a terminal. It is read byte by byte, so that it is known after which byte a form was answered, and a prompt is
@@ -32,9 +35,9 @@ pub struct Terminal<'a, I, P> {
     answered: &'a Cell<bool>,
     line: Line,
     last: u8,
-    // where the last byte stands, both counted from 1
-    line_number: u64,
-    column: u64,
+    // how many bytes were given, and how many of them before the present session
+    given: u64,
+    start: u64,
     is_new: bool,
     has_ended: bool,
 }
@@ -61,8 +64,8 @@ impl<'a, I, P> Terminal<'a, I, P> {
             answered,
             line: Line::Closed,
             last: b'\n',
-            line_number: 0,
-            column: 0,
+            given: 0,
+            start: 0,
             is_new: true,
             has_ended: false,
         }
@@ -92,25 +95,8 @@ impl<I, P: Write> Terminal<'_, I, P> {
     fn give(&mut self, byte: u8)
         ensures { self.new.input ≡ self.old.input }
     {
-        if self.last == b'\n' {
-            self.line_number = self.line_number.saturating_add(1);
-            self.column = 0;
-        }
-        self.column = self.column.saturating_add(1);
+        self.given = self.given.saturating_add(1);
         self.last = byte;
-    }
-
-    // Says from which place on the rest of the line is dropped.
-    fn tell_dropped(&mut self)
-        ensures { self.new.input ≡ self.old.input }
-    {
-        let mut hint = ArrayString::<160>::new();
-        let _ = writeln!(
-            hint,
-            "Line {}, column {}: the rest of the line is dropped, and a new session begins.",
-            self.line_number, self.column
-        );
-        let _ = write_text(&mut self.prompts, hint.as_bytes());
     }
 
     // What the last byte left open.
@@ -157,23 +143,37 @@ impl<I: Read, P: Write> Read for Terminal<'_, I, P> {
     }
 }
 
-impl<I: Read, P: Write> Sessions for Terminal<'_, I, P> {
-    fn next_session(&mut self) -> bool {
-        if self.has_ended {
-            return false;
-        }
-        self.tell_dropped();
-        let mut byte = [self.last];
+impl<I: Read, P: Write> Terminal<'_, I, P> {
+    // Drops the rest of the line, and tells whether it had an end.
+    fn drop_line(&mut self) -> bool {
         'line: for _ in 0..u64::MAX {
-            if byte[0] == b'\n' {
+            if self.last == b'\n' {
                 break;
             }
+            let mut byte = [0u8];
             match self.input.read(&mut byte) {
-                Ok(1) => {}
+                Ok(1) => self.give(byte[0]),
                 _ => return false,
             }
         }
-        self.last = b'\n';
+        true
+    }
+}
+
+impl<I: Places, P: Write> Places for Terminal<'_, I, P> {
+    fn spot_at(&self, bytes: u64) -> Option<Spot> {
+        self.input.spot_at(self.start.checked_add(bytes)?)
+    }
+}
+
+impl<I: Places, P: Write> Sessions for Terminal<'_, I, P> {
+    fn next_session(&mut self, refusal: &Refusal) -> bool {
+        if self.has_ended || !self.drop_line() {
+            return false;
+        }
+        let _ = write_refusal(&mut self.prompts, refusal);
+        let _ = write_text(&mut self.prompts, DROPPED);
+        self.start = self.given;
         self.line = Line::Closed;
         self.answered.set(false);
         true

@@ -1,11 +1,14 @@
 // What is told on standard error as the program ends.
 ghost use Rattle.std.specs.Prelude.{◌≡◌, ◌⊎◌};
-ghost use Rattle.store_commands.specs.Session.{TellsFault};
+ghost use Rattle.store_commands.specs.Told.{IsToldOf, TellsFault, TellsRefusal, left_out_of};
 ghost use Rattle.store_commands.specs.Status.{IsQuiet};
 
 use crate::fault::{write_fault_with_cause, write_text};
+use crate::places::Places;
+use crate::refusal::{Refusal, write_refusal};
 use crate::status::Status;
 use disk_trait::HostError;
+use prevalence_store::Ended;
 use std::io::Write;
 
 /// What is told on standard error beside the line of a fault.
@@ -16,22 +19,24 @@ pub enum Told {
     Cause(HostError),
     /// A line for each property that was left out of an export.
     LeftOut(Vec<u8>),
+    /// The refusal that ended a session.
+    Refused(Refusal),
 }
 
 /// Ends so: after a fault its line is written.
 pub fn end_with<F: Write>(faults: &mut F, status: Status) -> Status
     ensures status { result ≡ status }
-    ensures told { TellsFault status (F.contents faults.old) (F.contents faults.new) }
+    ensures told { TellsFault status Told.Nothing (F.contents faults.old) (F.contents faults.new) }
     ensures quiet { IsQuiet status ⊎ (status ≡ Status.WordsRefused) → faults.new ≡ faults.old }
 {
     end_with_told(faults, status, &Told::Nothing)
 }
 
-/// Ends so: after a fault its line is written, and after one of the device a line with the cause, if it is known; and after an
-/// export what was left out of it.
+/// Ends so: after a fault its line is written, and after one of the device a line with the cause, if it is known; after an export
+/// what was left out of it; and after a refusal that ended the session the line on it.
 pub(crate) fn end_with_told<F: Write>(faults: &mut F, status: Status, told: &Told) -> Status
     ensures status { result ≡ status }
-    ensures told { TellsFault status (F.contents faults.old) (F.contents faults.new) }
+    ensures told { TellsFault status told.now (F.contents faults.old) (F.contents faults.new) }
     ensures quiet { IsQuiet status ⊎ (status ≡ Status.WordsRefused) → faults.new ≡ faults.old }
 {
     match status {
@@ -43,11 +48,37 @@ pub(crate) fn end_with_told<F: Write>(faults: &mut F, status: Status, told: &Tol
             let _ = write_text(faults, told.left_out());
             status
         }
+        Status::FormRefused => {
+            tell_refusal(faults, told);
+            status
+        }
         _ => status,
     }
 }
 
+// Writes the line on a refusal, if one is told.
+fn tell_refusal<F: Write>(faults: &mut F, told: &Told)
+    ensures { TellsRefusal told.now (F.contents faults.old) (F.contents faults.new) }
+{
+    match told {
+        Told::Refused(refusal) => {
+            let _ = write_refusal(faults, refusal);
+        }
+        _ => {}
+    }
+}
+
 impl Told {
+    /// What is told after a session over this input that ended so.
+    pub(crate) fn of_session<I: Places>(ended: Ended, input: &I) -> Told
+        ensures { IsToldOf ended result }
+    {
+        match Refusal::of(ended, input) {
+            Some(refusal) => Told::Refused(refusal),
+            None => Told::Nothing,
+        }
+    }
+
     fn cause(&self) -> Option<&HostError> {
         match self {
             Told::Cause(cause) => Some(cause),
@@ -55,7 +86,9 @@ impl Told {
         }
     }
 
-    fn left_out(&self) -> &[u8] {
+    fn left_out(&self) -> &[u8]
+        ensures { result.now ≡ left_out_of self.now }
+    {
         match self {
             Told::LeftOut(lines) => lines.as_slice(),
             _ => &[],

@@ -4,7 +4,7 @@ ghost use Rattle.clap.specs.Words.{FailsBy, Text, app_of, found_of, kind_of, row
 ghost use Rattle.clap.specs.declared.builder.command.Command.TheViews.{out-Command as fields_of};
 ghost use Rattle.clap.specs.declared.error.kind.ErrorKind.TheVariants.{MissingRequiredArgument, OutOfMemory};
 ghost use Rattle.store_commands.specs.declared.words.Task.{Task};
-ghost use Rattle.store_commands.specs.CommandLine.{asked_in, asked_of, command_line, content_of_flag, data_rule, every_in, every_rule, existing_rule, export_line, faults_of, folder_line, is_set, mode_of_flag, program_line, rescue_rule, run_line, task_of, AsksFor};
+ghost use Rattle.store_commands.specs.CommandLine.{asked_in, asked_of, command_line, content_of_flag, data_rule, every_in, every_rule, existing_rule, export_line, faults_of, folder_line, is_set, mode_of_flag, program_line, rescue_rule, run_line, strict_rule, task_of, wanted_of, AsksFor};
 
 use crate::help::{
     DUMP_HELP, DUMP_USAGE, EXPORT_HELP, EXPORT_USAGE, PROGRAM_HELP, RUN_HELP, RUN_USAGE,
@@ -13,7 +13,7 @@ use crate::help::{
 use clap::builder::ValueParser;
 use clap::error::ErrorKind;
 use clap::{Arg, ArgAction, ArgMatches, Command, Error};
-use prevalence_store::Mode;
+use prevalence_store::{Mode, Wanted};
 use std::alloc::{AllocError, Global};
 use std::convert::AsStr;
 use world_forms::Content;
@@ -41,18 +41,15 @@ const DATA: &str = "data";
 
 const RESCUE: &str = "rescue";
 
+const STRICT: &str = "strict";
+
 const EVERY: &str = "snapshot-every";
 
 /// What is to be done with a store.
 #[derive(Clone, Copy, Debug, PartialEq, Eq)]
 pub enum Task {
-    /// Forms are served.
-    Run {
-        /// The mode in which they are read.
-        mode: Mode,
-        /// After how many forms that write a snapshot is taken; 0 is never.
-        snapshot_every: u64,
-    },
+    /// Forms are served, as it is wanted.
+    Run(Wanted),
     /// A snapshot is taken.
     Snapshot,
     /// Files of version 1 become files of version 2.
@@ -124,6 +121,15 @@ fn rescue_option<'a>(alloc: Global) -> Arg<'a>
         .action(ArgAction::SetTrue)
 }
 
+fn strict_option<'a>(alloc: Global) -> Arg<'a>
+    ensures { (rule_of result ≡ strict_rule) × (result.global ≡ false) }
+{
+    Arg::new(alloc, STRICT)
+        .long(STRICT)
+        .help("End at the first form that is refused, with status 1")
+        .action(ArgAction::SetTrue)
+}
+
 fn every_option<'a>(alloc: Global) -> Arg<'a>
     ensures { (rule_of result ≡ every_rule) × (result.global ≡ false) }
 {
@@ -160,6 +166,7 @@ fn run_command<'a>(alloc: Global) -> Result<Command<'a>, AllocError>
     let about = "Serves the forms of standard input to standard output";
     let command = folder_command(alloc, RUN, about, RUN_USAGE, RUN_HELP)?;
     let command = command.arg(rescue_option(alloc))?;
+    let command = command.arg(strict_option(alloc))?;
     command.arg(every_option(alloc))
 }
 
@@ -262,15 +269,23 @@ fn every_in(found: &ArgMatches<'_>) -> u64
     found.get_one::<u64>(EVERY).unwrap_or(0)
 }
 
+// What is wanted of a session.
+fn wanted_in(found: &ArgMatches<'_>) -> Wanted
+    ensures { result ≡ wanted_of (rows_of (found_of found.now)) }
+{
+    Wanted {
+        mode: mode_for(found.get_str(RESCUE)),
+        snapshot_every: every_in(found),
+        strict: flag_is_set(found.get_str(STRICT)),
+    }
+}
+
 // What the command of this name is to do.
 fn task_for(name: &str, found: &ArgMatches<'_>) -> Option<Task>
     ensures { result ≡ task_of (name.now, rows_of (found_of found.now)) }
 {
     match name {
-        RUN => Some(Task::Run {
-            mode: mode_for(found.get_str(RESCUE)),
-            snapshot_every: every_in(found),
-        }),
+        RUN => Some(Task::Run(wanted_in(found))),
         SNAPSHOT => Some(Task::Snapshot),
         UPGRADE => Some(Task::Upgrade),
         EXPORT => Some(Task::Export(content_for(found.get_str(DATA)))),

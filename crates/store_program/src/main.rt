@@ -14,7 +14,7 @@ use std::env;
 use std::io::{ErrorKind, IsTerminal, Write};
 use std::process::ExitCode;
 use store_commands::{
-    Answers, SixFunctions, Status, Terminal, end_with, macro_functions, program,
+    Answers, Lines, SixFunctions, Status, Terminal, end_with, macro_functions, program,
     program_at_terminal,
 };
 use user_macros::{Answer, Call, Cause, MacroFn, MacroFunctions, Macros, Refusal};
@@ -43,7 +43,7 @@ fn serve<M: MacroFunctions + Drop, F: Write>(rt: &HostRuntime, macros: M, faults
             rt,
             macros,
             words.as_slice(),
-            &mut rt.stdin(),
+            &mut Lines::new(rt.alloc(), rt.stdin()),
             &mut rt.stdout(),
             faults,
         ),
@@ -65,7 +65,8 @@ fn serve_at_terminal<M: MacroFunctions + Drop, F: Write>(
     requires answers { M.answers macros }
 {
     let answered = Cell::new(false);
-    let mut input = Terminal::new(rt.stdin(), rt.stderr(), &answered);
+    let lines = Lines::new(rt.alloc(), rt.stdin());
+    let mut input = Terminal::new(lines, rt.stderr(), &answered);
     let mut output = Answers::new(rt.stdout(), &answered);
     program_at_terminal(rt, macros, words, &mut input, &mut output, faults)
 }

@@ -3,12 +3,12 @@ use Rattle.store_commands.proofs.commands.carry_out_at_terminal.Goals as goal
 
 pub returns-in-Run-clause-performs : goal.returns-in-Run-clause-performs
 returns-in-Run-clause-performs g c =
-    sits_there _ _ _ _ g.I.Read.remaining g.O.Write.contents _ _ _ _ c.args.asked.folder.now c.args.asked.task c.sit.result.0 c.in-Run.mode c.in-Run.snapshot_every
+    sits_there _ _ _ _ g.I.Read.remaining g.O.Write.contents _ _ _ _ _ c.args.asked.folder.now c.args.asked.task c.sit.result.0 c.in-Run.wanted
     c.in-Run.is c.sit.ensures.sits
 
 pub returns-in_default-clause-performs : goal.returns-in_default-clause-performs
 returns-in_default-clause-performs g c =
-    performs_there _ _ _ _ g.I.Read.remaining g.O.Write.contents _ _ _ _ c.args.asked.folder.now c.args.asked.task c.carry_out.result.0 c.in_default.not-Run
+    performs_there _ _ _ _ g.I.Read.remaining g.O.Write.contents _ _ _ _ _ c.args.asked.folder.now c.args.asked.task c.carry_out.result.0 c.in_default.not-Run
     c.carry_out.ensures
 
 pub returns-in_default-clause-taken : goal.returns-in_default-clause-taken

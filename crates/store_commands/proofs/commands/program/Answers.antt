@@ -1,12 +1,29 @@
-use Rattle.std.proofs.Common.{◌∙◌, inl, map, refl, subst, sym}
+use Rattle.std.proofs.Common.{◌∙◌, ap, inl, map, refl, subst, sym}
 use Rattle.clap.specs.Words.{Kinds, kind_of}
 use Rattle.store_commands.specs.CommandLine.{asked_in, faults_of}
 use Rattle.store_commands.specs.Status.{EndsAfter, HasFaultNumber, IsAfterWords, IsCarriedOut, TakesWords}
 use Rattle.store_commands.proofs.CommandLineLaws.{line_is_taken}
 use Rattle.store_commands.proofs.FoundWords.{same_folder, same_task}
-use Rattle.store_commands.proofs.Statuses.{ends_after, fault_of_words, memory_at, only_memory, words_carry_out, words_open}
+use Rattle.store_commands.specs.Told.{TellsFault}
+use Rattle.store_commands.specs.declared.status.Status.{Status}
+use Rattle.store_commands.specs.declared.told.Told.TheVariants.{Nothing}
+use Rattle.store_commands.proofs.Statuses.{ends_after, fault_of_words, memory_at, only_memory, told_after_words, words_carry_out, words_open}
 use Rattle.store_commands.proofs.Tasks.{moved_performs, performs_nothing}
+use Rattle.store_commands.proofs.commands.program.Given as given
 use Rattle.store_commands.proofs.commands.program.Goals as goal
+
+-- what is told of words that gave no command
+told_of_words : (g : given.Over) (c : goal.After-end_with g) → TellsFault c.end_with.result Nothing (g.F.Write.contents c.args.faults.now) (g.F.Write.contents c.end_with.new.faults)
+told_of_words g c =
+    told_after_words c.answer_words-status.result c.end_with.result (g.F.Write.contents c.args.faults.now) (g.F.Write.contents c.answer_words-status.new.faults)
+    (g.F.Write.contents c.end_with.new.faults) c.end_with.ensures.status (λ none. ap g.F.Write.contents (c.answer_words-status.ensures.told none)) c.end_with.ensures.told
+
+-- and after a command
+told_of_task : (g : given.Over) (c : goal.After-end_with_told g)
+    → TellsFault c.end_with_told.result c.carry_out-status.result.1 (g.F.Write.contents c.args.faults.now) (g.F.Write.contents c.end_with_told.new.faults)
+told_of_task g c =
+    subst (λ (s : Status). TellsFault s c.carry_out-status.result.1 (g.F.Write.contents c.args.faults.now) (g.F.Write.contents c.end_with_told.new.faults)) (sym c.end_with_told.ensures.status)
+    c.end_with_told.ensures.told
 
 pub returns-in-Ok-clause-words : goal.returns-in-Ok-clause-words
 returns-in-Ok-clause-words g c = λ folder existing task asks. line_is_taken _ folder existing task asks
@@ -21,8 +38,12 @@ returns-in-Ok-clause-taken g c = λ folder existing task taken.
     let asked = asked_in (map g.S.AsStr.text c.args.words.now) in
     let same = same_folder asked c.in-Ok.asked.folder.now folder c.in-Ok.asked.existing existing c.in-Ok.asked.task task c.in-Ok.ensures.asked taken.1 in
     let likewise = same_task asked c.in-Ok.asked.folder.now folder c.in-Ok.asked.existing existing c.in-Ok.asked.task task c.in-Ok.ensures.asked taken.1 in
-    moved_performs _ _ _ _ g.I.Read.remaining g.O.Write.contents _ _ _ _ _ _ folder c.in-Ok.asked.folder.now task c.in-Ok.asked.task c.end_with_told.result
-    c.carry_out-status.result.0 (sym same) (sym likewise) c.end_with_told.ensures.status refl refl c.carry_out-status.ensures
+    (
+      c.carry_out-status.result.1,
+      moved_performs _ _ _ _ g.I.Read.remaining g.O.Write.contents _ _ _ _ _ _ c.carry_out-status.result.1 folder c.in-Ok.asked.folder.now task c.in-Ok.asked.task
+      c.end_with_told.result c.carry_out-status.result.0 (sym same) (sym likewise) c.end_with_told.ensures.status refl refl c.carry_out-status.ensures,
+      told_of_task g c,
+    )
 
 pub returns-in-Ok-clause-untaken : goal.returns-in-Ok-clause-untaken
 returns-in-Ok-clause-untaken g c = λ some. absurd (some c.in-Ok.ensures.faults)
@@ -42,8 +63,12 @@ pub returns-in-Err-clause-taken : goal.returns-in-Err-clause-taken
 returns-in-Err-clause-taken g c = λ folder existing task taken.
     let memory = only_memory (faults_of (map g.S.AsStr.text c.args.words.now)) (kind_of c.in-Err.error) taken.0 c.in-Err.ensures.faults in
     let ended = memory_at c.end_with.result c.answer_words-status.result (kind_of c.in-Err.error) c.end_with.ensures.status memory c.answer_words-status.ensures.status in
-    performs_nothing _ _ _ _ g.I.Read.remaining g.O.Write.contents _ _ _ _ folder task c.end_with.result (inl ended)
-    (refl, c.answer_words-status.ensures.memory (sym c.end_with.ensures.status ∙ ended))
+    (
+      Nothing,
+      performs_nothing _ _ _ _ g.I.Read.remaining g.O.Write.contents _ _ _ _ Nothing folder task c.end_with.result (inl ended)
+      (refl, c.answer_words-status.ensures.memory (sym c.end_with.ensures.status ∙ ended)),
+      told_of_words g c,
+    )
 
 pub returns-in-Err-clause-untaken : goal.returns-in-Err-clause-untaken
 returns-in-Err-clause-untaken g c = λ some.
@@ -59,3 +84,9 @@ returns-in-Err-clause-untaken g c = λ some.
 
 pub returns-in-Err-clause-fault : goal.returns-in-Err-clause-fault
 returns-in-Err-clause-fault g c = subst HasFaultNumber (sym c.end_with.ensures.status) (fault_of_words _ c.answer_words-status.ensures.of_words)
+
+pub returns-in-Ok-clause-told : goal.returns-in-Ok-clause-told
+returns-in-Ok-clause-told g c = (c.carry_out-status.result.1, told_of_task g c)
+
+pub returns-in-Err-clause-told : goal.returns-in-Err-clause-told
+returns-in-Err-clause-told g c = (Nothing, told_of_words g c)

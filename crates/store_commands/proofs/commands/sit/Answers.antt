@@ -1,5 +1,6 @@
 use Rattle.std.proofs.Common.{ap, inl, inr, refl}
-use Rattle.store_commands.proofs.Statuses.{early_after, taken_at_ending, taken_early}
+use Rattle.store_commands.proofs.Statuses.{early_after, taken_at_end, taken_early}
+use Rattle.store_commands.proofs.Tasks.{sits_so}
 use Rattle.store_commands.proofs.commands.sit.Goals as goal
 
 pub returns-in_default-clause-sits : goal.returns-in_default-clause-sits
@@ -12,11 +13,16 @@ pub returns-in-Err-clause-sits : goal.returns-in-Err-clause-sits
 returns-in-Err-clause-sits g c = inl (early_after c.of_host.result c.in-Err.error c.of_host.ensures, refl)
 
 pub returns-in-Ok-sessions_on-clause-taken : goal.returns-in-Ok-sessions_on-clause-taken
-returns-in-Ok-sessions_on-clause-taken g c = taken_at_ending c.of_ending.result c.of_ending.result c.in-Ok-sessions_on.ending refl c.of_ending.ensures
+returns-in-Ok-sessions_on-clause-taken g c = taken_at_end c.of_ended.result c.of_ended.result c.in-Ok-sessions_on.ended refl c.of_ended.ensures
 
 pub returns-in-Ok-sessions_on-clause-sits : goal.returns-in-Ok-sessions_on-clause-sits
 returns-in-Ok-sessions_on-clause-sits g c =
-    inr (c.in-Ok-open_folder.disk, c.in-Ok-sessions_on.disk, inl (c.in-Ok-sessions_on.ending, c.of_ending.ensures, c.in-Ok-sessions_on.ensures.served))
+    inr (
+      c.in-Ok-open_folder.disk,
+      c.in-Ok-sessions_on.disk,
+      sits_so _ _ _ _ _ _ c.of_session.result c.told_after.result _ _ _ _ c.told_after.ensures
+      (inl (c.in-Ok-sessions_on.ended, c.of_ended.ensures, c.of_session.ensures, c.in-Ok-sessions_on.ensures.served)),
+    )
 
 pub returns-in-Err-sessions_on-clause-sits : goal.returns-in-Err-sessions_on-clause-sits
 returns-in-Err-sessions_on-clause-sits g c =

@@ -6,7 +6,7 @@ returns-clause-served g c =
     record {
       opened = c.in_ok-store.store;
       is_opened = opened;
-      closed = c.serve-ending.new.self;
-      serves = c.serve-ending.ensures.serves opened.world opened.known;
+      closed = c.serve_wanted-ended.new.self;
+      serves = c.serve_wanted-ended.ensures.serves opened.world opened.known;
       disk_is = c.close-disk.ensures.disk;
     }

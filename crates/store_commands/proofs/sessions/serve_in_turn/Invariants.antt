@@ -8,5 +8,5 @@ abbrev pub invariant-sessions : goal.invariant-sessions
 invariant-sessions g l =
     (l.store.macros ≡ l.fn.store.macros)
     × ((world : WorldState) → l.fn.store.world ≡ Some world
-    → InTurn g.M.Meaning.Meaning.functions l.fn.mode l.fn.snapshot_every g.D.Disk.state l.fn.store l.store world
-    (g.O.Write.contents l.fn.output) (g.O.Write.contents l.output) l.ending)
+    → InTurn g.M.Meaning.Meaning.functions l.fn.wanted g.D.Disk.state l.fn.store l.store world
+    (g.O.Write.contents l.fn.output) (g.O.Write.contents l.output) l.ended)

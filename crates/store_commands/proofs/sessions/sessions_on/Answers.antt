@@ -6,7 +6,7 @@ returns-clause-served g c =
     record {
       opened = c.in_ok-store.store;
       is_opened = opened;
-      closed = c.serve_in_turn-ending.new.store;
-      serves = c.serve_in_turn-ending.ensures.serves opened.world opened.known;
+      closed = c.serve_in_turn-ended.new.store;
+      serves = c.serve_in_turn-ended.ensures.serves opened.world opened.known;
       disk_is = c.close-disk.ensures.disk;
     }

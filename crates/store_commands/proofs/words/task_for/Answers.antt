@@ -3,9 +3,8 @@ use Rattle.store_commands.proofs.FoundWords.{export_found, run_found}
 use Rattle.store_commands.proofs.words.task_for.Goals as goal
 
 pub returns-in-run : goal.returns-in-run
-returns-in-run c =
-    run_found c.args.name.now (found_of c.args.found.now) _ c.mode_for.result c.every_in.result c.in-run.is c.mode_for.ensures c.get_str.ensures c.every_in.ensures
+returns-in-run c = run_found c.args.name.now (found_of c.args.found.now) c.wanted_in.result c.in-run.is c.wanted_in.ensures
 
 pub returns-in-export : goal.returns-in-export
 returns-in-export c =
-    export_found c.args.name.now (found_of c.args.found.now) _ c.content_for.result c.in-export.is c.content_for.ensures c.get_str-in-export.ensures
+    export_found c.args.name.now (found_of c.args.found.now) _ c.content_for.result c.in-export.is c.content_for.ensures c.get_str.ensures

@@ -1,0 +1,53 @@
+-- What is told on standard error as the program ends.
+use Rattle.std.specs.Prelude.{◌≡◌, ◌≢◌, ◌⊎◌, ℕ, List, [], ◌∷◌, ◌++◌, All, Option}
+use Rattle.lisp_object.specs.declared.refusal.TheConstants.{DEVICE}
+use Rattle.prevalence_store.specs.declared.outcome.Ended.{Ended}
+use Rattle.prevalence_store.specs.declared.outcome.Ended.TheVariants as ways
+use Rattle.prevalence_store.specs.meaning.Answers.{refusal_line}
+use Rattle.prevalence_store.specs.calls.Streams.{Writes, WritesPart}
+use Rattle.store_commands.specs.Refusals.{line_of}
+use Rattle.store_commands.specs.declared.refusal.Refusal.{Refusal}
+use Rattle.store_commands.specs.declared.status.Status.{Status}
+use Rattle.store_commands.specs.declared.status.Status.TheVariants as statuses
+use Rattle.store_commands.specs.declared.told.Told.{Told}
+use Rattle.store_commands.specs.declared.told.Told.TheVariants.{Nothing, Cause, LeftOut, Refused}
+
+-- What is told of a fault: its line, and after that of the device perhaps one more, with the cause.
+abbrev pub IsFaultText : ℕ → List ℕ → Type 0
+IsFaultText number text =
+    (text ≡ refusal_line number)
+    ⊎ ((number ≡ DEVICE) × (cause : List ℕ) × All (λ byte. byte ≢ 10) cause × (text ≡ refusal_line number ++ (cause ++ 10 ∷ [])))
+
+-- the text, or, if that failed, a part of it from its front
+abbrev pub WritesSome : Option (List ℕ) → Option (List ℕ) → List ℕ → Type 0
+WritesSome held written text = Writes held written text ⊎ WritesPart held written text
+
+-- after a refusal that ended the session the line on it
+abbrev pub TellsRefusal : Told → Option (List ℕ) → Option (List ℕ) → Type 0
+TellsRefusal (Refused refusal) held written = WritesSome held written (line_of refusal)
+TellsRefusal Nothing held written = written ≡ held
+TellsRefusal (Cause error) held written = written ≡ held
+TellsRefusal (LeftOut lines) held written = written ≡ held
+
+-- the lines on what was left out of an export
+abbrev pub left_out_of : Told → List ℕ
+left_out_of (LeftOut lines) = lines.items
+left_out_of Nothing = []
+left_out_of (Cause error) = []
+left_out_of (Refused refusal) = []
+
+-- After a fault that is told, after an export what was left out of it, and after a refusal that ended the session where that was.
+abbrev pub TellsFault : Status → Told → Option (List ℕ) → Option (List ℕ) → Type 0
+TellsFault (statuses.Fault number) told held written = (text : List ℕ) × IsFaultText number text × WritesSome held written text
+TellsFault statuses.FormRefused told held written = TellsRefusal told held written
+TellsFault statuses.LeftOut told held written = WritesSome held written (left_out_of told)
+TellsFault statuses.Done told held written = Unit {0}
+TellsFault statuses.Helped told held written = Unit {0}
+TellsFault statuses.WordsRefused told held written = Unit {0}
+
+-- If a session ended with a refusal, that is told.
+abbrev pub IsToldOf : Ended → Told → Type 0
+IsToldOf ways.End told = Unit {0}
+IsToldOf (ways.Unreadable number place) told = (refusal : Refusal) × (told ≡ Refused refusal) × (refusal.number ≡ number) × (refusal.place ≡ place)
+IsToldOf (ways.Unaccepted number place) told = (refusal : Refusal) × (told ≡ Refused refusal) × (refusal.number ≡ number) × (refusal.place ≡ place)
+IsToldOf (ways.Store number) told = Unit {0}
