@@ -105,7 +105,13 @@ fn a_strict_session_ends_with_the_first_refusal(rt: HostRuntime) -> Result<(), F
 }
 
 /// A text, so many times, and another one.
-fn repeated(alloc: Global, front: &[u8], part: &[u8], count: usize, end: &[u8]) -> Result<Vec<u8>, AllocError> {
+fn repeated(
+    alloc: Global,
+    front: &[u8],
+    part: &[u8],
+    count: usize,
+    end: &[u8],
+) -> Result<Vec<u8>, AllocError> {
     let mut text = Vec::from_slice(alloc, front)?;
     for _ in 0..count {
         text.extend_from_slice(part)?;
@@ -117,17 +123,24 @@ fn repeated(alloc: Global, front: &[u8], part: &[u8], count: usize, end: &[u8]) 
 /// Whether the text of a session of this input ends so.
 fn ends_so(rt: &HostRuntime, input: &[u8], wanted: &[u8]) -> Result<bool, Fail> {
     let folder = folder_for(rt, "long")?;
-    let text = told(rt, folder.as_str(), Lack::Nothing, "run DIR --strict", input)?;
+    let text = told(
+        rt,
+        folder.as_str(),
+        Lack::Nothing,
+        "run DIR --strict",
+        input,
+    )?;
     fs::remove_dir_all(rt, folder.as_str())?;
     Ok(text.ends_with(wanted))
 }
 
 #[test]
 fn lines_are_told_of_a_long_input(rt: HostRuntime) -> Result<(), Fail> {
-    let remark: &[u8] = b"; a line of ninety-nine characters, of which there are many before the form that is refused ......\n";
-    let input = repeated(rt.alloc(), b"", remark, 22_000, b"7 )")?;
+    let remark: &[u8] =
+        b"; a line of ninety-nine characters, of which there are many before the form that is refused ......\n";
+    let input = repeated(rt.alloc(), b"", remark, 11_000, b"7 )")?;
     let wanted: &[u8] =
-        b"standard error: line 22001, column 3: refused with 4 STRAY-CLOSE in form 2, which began at line 22001, column 3\n";
+        b"standard error: line 11001, column 3: refused with 4 STRAY-CLOSE in form 2, which began at line 11001, column 3\n";
     assert!(rt; ends_so(&rt, input.as_slice(), wanted)?);
     let input = repeated(rt.alloc(), b"(", b"\n", 1_048_574, b")\n )")?;
     let wanted: &[u8] =

@@ -38,7 +38,7 @@ where
 
 /// What came of a program at a terminal: its status, its answers, its prompts and its faults.
 #[derive(Drop)]
-struct Typed {
+struct TerminalRun {
     status: u8,
     output: Vec<u8>,
     prompts: Vec<u8>,
@@ -46,7 +46,7 @@ struct Typed {
 }
 
 /// What came of a program at a terminal, where this was typed. Want of memory is an error.
-fn typed(rt: &HostRuntime, words: &[&str], input: &[u8]) -> Result<Typed, Trouble> {
+fn typed(rt: &HostRuntime, words: &[&str], input: &[u8]) -> Result<TerminalRun, Trouble> {
     let alloc = rt.alloc();
     let mut output = in_memory(alloc);
     let mut prompts = in_memory(alloc);
@@ -67,7 +67,7 @@ fn typed(rt: &HostRuntime, words: &[&str], input: &[u8]) -> Result<Typed, Troubl
     if is_short || faults.text.starts_with(b"! 90 ") {
         return Err(Trouble::Memory);
     }
-    Ok(Typed {
+    Ok(TerminalRun {
         status,
         output: output.text,
         prompts: prompts.text,
@@ -120,12 +120,12 @@ const ROWS: [Row; 10] = [
     (
         "run DIR",
         b") 7",
-        b"1\n! 4 STRAY-CLOSE\n--\nType a form and Enter; Ctrl-D ends.\n> line 1, column 1: refused with 4 STRAY-CLOSE in form 1, which began at line 1, column 1\nThe rest of the line was dropped, and a new session begins.\n",
+        b"1\n! 4 STRAY-CLOSE\n--\nType a form and Enter; Ctrl-D ends.\n> line 1, column 1: refused with 4 STRAY-CLOSE in form 1, which began at line 1, column 1\n",
     ),
     (
         "run DIR --snapshot-every 1",
         b"(SETF (GET 'A 'B)\n",
-        b"1\n! 1 END-OF-FILE\n--\nType a form and Enter; Ctrl-D ends.\n> . \n",
+        b"1\n! 1 END-OF-FILE\n--\nType a form and Enter; Ctrl-D ends.\n> . \nline 2, column 1: refused with 1 END-OF-FILE in form 1, which began at line 1, column 1\n",
     ),
     (
         "run DIR --rescue",
