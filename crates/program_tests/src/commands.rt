@@ -130,7 +130,7 @@ $ run DIR
 1
 T
 ! 3 INVALID-TRAIT
-standard error: line 2, column 4: refused with 3 INVALID-TRAIT in form 2, which began at line 2, column 1
+standard error: line 2, column 3: refused with 3 INVALID-TRAIT in form 2, which began at line 2, column 1
 ";
 
 #[test]
@@ -202,9 +202,7 @@ fn barred(rt: &HostRuntime) -> Result<(Vec<u8>, Vec<u8>), Fail> {
     fs::write(rt, place, "")?;
     let over_file = told(rt, place, Lack::Nothing, "run DIR", b"7")?;
     fs::remove_file(rt, place)?;
-    let Ok(_held) = HostDisk::open_files(rt, place, IfMissing::Make) else {
-        return Err(Fail::from("a folder that is not opened"));
-    };
+    let _held = HostDisk::open_files(rt, place, IfMissing::Make)?;
     let over_held = told(rt, place, Lack::Nothing, "verify DIR --existing", b"")?;
     fs::remove_dir_all(rt, place)?;
     Ok((over_file, over_held))
