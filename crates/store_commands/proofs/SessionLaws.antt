@@ -213,16 +213,16 @@ refused_line : (functions : Functions) (mode : Mode) (w : WorldState) (text : Li
     → far.lines ≡ before.lines ++ refusal_line number
 refused_line functions mode w text forms accepted far before number start one_more far_is before_is refuses =
     let reads : one_form functions before.world mode before.rest (read_in functions before.world mode before.rest)
-        ≡ Some (evaluated before.world mode (between start refuses.stop before.rest) (drop refuses.next before.rest) (Err number)) =
-        ap (one_form functions before.world mode before.rest) refuses.reads
-        ∙ ap (λ (e : Evaluation Object). Some (evaluated before.world mode (between start refuses.stop before.rest) (drop refuses.next before.rest) e)) refuses.refused in
+    ≡ Some (evaluated before.world mode (between start refuses.stop before.rest) (drop refuses.next before.rest) (Err number)) =
+    ap (one_form functions before.world mode before.rest) refuses.reads
+    ∙ ap (λ (e : Evaluation Object). Some (evaluated before.world mode (between start refuses.stop before.rest) (drop refuses.next before.rest) e)) refuses.refused in
     let one : one_form_more functions mode before ≡ Some (onward before (evaluated before.world mode (between start refuses.stop before.rest) (drop refuses.next before.rest) (Err number))) =
-        ap (option_map (onward before)) reads in
+    ap (option_map (onward before)) reads in
     let there : after_forms functions (suc accepted) w mode text ≡ Some (onward before (evaluated before.world mode (between start refuses.stop before.rest) (drop refuses.next before.rest) (Err number))) =
-        ap (option_and_then (one_form_more functions mode)) before_is ∙ one in
+    ap (option_and_then (one_form_more functions mode)) before_is ∙ one in
     let same : suc accepted ≡ forms = omega (arith, one_more) in
     let both : ◌≡◌ {A = Option Progress} (Some far) (Some (onward before (evaluated before.world mode (between start refuses.stop before.rest) (drop refuses.next before.rest) (Err number)))) =
-        sym far_is ∙ sym (ap (λ n. after_forms functions n w mode text) same) ∙ there in
+    sym far_is ∙ sym (ap (λ n. after_forms functions n w mode text) same) ∙ there in
     ap (λ (o : Option Progress). elim o [ None ↦ [] | Some p ↦ p.lines ]) both
 
 module _ (functions : Functions) (wanted : Wanted) {D R : Type 0} (state : D → State) (old new : StoreView D R) (w : WorldState) (had has held_now written : Option (List ℕ)) where
@@ -271,7 +271,7 @@ module _ (functions : Functions) (wanted : Wanted) {D R : Type 0} (state : D →
           accepted = λ strict. s.none_refused;
         },
         s.advances.lines held holds
-        ∙ ap (λ l. Some (held ++ l)) (refused_line functions wanted.mode w served.1 s.forms s.accepted s.far s.before number s.start s.one_more s.advances.far_is s.before_is s.refuses),
+            ∙ ap (λ l. Some (held ++ l)) (refused_line functions wanted.mode w served.1 s.forms s.accepted s.far s.before number s.start s.one_more s.advances.far_is s.before_is s.refuses),
       ))
 
   pub answers_input : (ended : Ended) (told : Told) → IsToldOf ended told → ServesSo ended → (input held : List ℕ) → had ≡ Some input → held_now ≡ Some held

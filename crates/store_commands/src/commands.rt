@@ -187,15 +187,7 @@ where
         Ok(disk) => disk,
         Err(error) => return (Status::of_host(&error), Told::Cause(error)),
     };
-    match sessions_on(
-        rt.alloc(),
-        disk,
-        macros,
-        seed,
-        wanted,
-        input,
-        output,
-    ) {
+    match sessions_on(rt.alloc(), disk, macros, seed, wanted, input, output) {
         Ok((ended, disk, _macros)) => (
             Status::of_ended(ended),
             told_after(Told::of_session(ended, input), &disk),
@@ -368,9 +360,5 @@ fn without_store<D: Drop, M: Drop>(unopened: Unopened<D, M>) -> (Status, D, Told
     ensures status { result.0 ≡ Status.Fault unopened.number }
     ensures disk { result.1 ≡ unopened.disk }
 {
-    (
-        Status::Fault(unopened.number),
-        unopened.disk,
-        Told::Nothing,
-    )
+    (Status::Fault(unopened.number), unopened.disk, Told::Nothing)
 }

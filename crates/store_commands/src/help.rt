@@ -5,7 +5,8 @@ pub const USAGE: &str =
     "./pazturrok run DIR [--existing] [--rescue] [--strict] [--snapshot-every N]\n       ./pazturrok snapshot DIR [--existing]\n       ./pazturrok upgrade DIR [--existing]\n       ./pazturrok export DIR [--existing] [--data]\n       ./pazturrok dump DIR [--existing]\n       ./pazturrok verify DIR [--existing]";
 
 /// How each command is called.
-pub const RUN_USAGE: &str = "./pazturrok run DIR [--existing] [--rescue] [--strict] [--snapshot-every N]";
+pub const RUN_USAGE: &str =
+    "./pazturrok run DIR [--existing] [--rescue] [--strict] [--snapshot-every N]";
 
 pub const SNAPSHOT_USAGE: &str = "./pazturrok snapshot DIR [--existing]";
 

@@ -4,9 +4,8 @@ ghost use Rattle.store_commands.specs.Places.{IsMoved, IsSpotAfter, Keeps};
 ghost use Rattle.store_commands.specs.declared.places.Spot.{Spot};
 
 use std::alloc::{AllocError, Global};
-use std::io;
 use std::io::Read;
-use std::mem;
+use std::{io, mem};
 
 /// Of what was given so many bytes are kept at least: those of a form, and of the read in which it ended.
 const KEPT: usize = 1_064_960;

@@ -33,11 +33,10 @@ pub returns-in-Ok-clause-taken : goal.returns-in-Ok-clause-taken
 returns-in-Ok-clause-taken g c = λ folder existing task taken.
     let asked = asked_in (map g.S.AsStr.text c.args.words.now) in
     let same = same_folder asked c.in-Ok.asked.folder.now folder c.in-Ok.asked.existing existing c.in-Ok.asked.task task c.in-Ok.ensures.asked taken.1 in
-    let likewise = same_task asked c.in-Ok.asked.folder.now folder c.in-Ok.asked.existing existing c.in-Ok.asked.task task c.in-Ok.ensures.asked taken.1 in
-    (
+    let likewise = same_task asked c.in-Ok.asked.folder.now folder c.in-Ok.asked.existing existing c.in-Ok.asked.task task c.in-Ok.ensures.asked taken.1 in (
       c.carry_out_at_terminal-status.result.1,
       moved_there _ _ _ _ g.I.Read.remaining g.O.Write.contents _ _ _ _ c.carry_out_at_terminal-status.result.1 folder c.in-Ok.asked.folder.now task c.in-Ok.asked.task
-      c.end_with_told.result c.carry_out_at_terminal-status.result.0 (sym same) (sym likewise) c.end_with_told.ensures.status c.carry_out_at_terminal-status.ensures.performs,
+          c.end_with_told.result c.carry_out_at_terminal-status.result.0 (sym same) (sym likewise) c.end_with_told.ensures.status c.carry_out_at_terminal-status.ensures.performs,
       told_of_task g c,
     )
 
@@ -49,11 +48,10 @@ returns-in-Err-clause-ends g c =
 pub returns-in-Err-clause-taken : goal.returns-in-Err-clause-taken
 returns-in-Err-clause-taken g c = λ folder existing task taken.
     let memory = only_memory (faults_of (map g.S.AsStr.text c.args.words.now)) (kind_of c.in-Err.refusal) taken.0 c.in-Err.ensures.faults in
-    let ended = memory_at c.end_with.result c.answer_words-status.result (kind_of c.in-Err.refusal) c.end_with.ensures.status memory c.answer_words-status.ensures.status in
-    (
+    let ended = memory_at c.end_with.result c.answer_words-status.result (kind_of c.in-Err.refusal) c.end_with.ensures.status memory c.answer_words-status.ensures.status in (
       Nothing,
       nothing_there _ _ _ _ g.I.Read.remaining g.O.Write.contents _ _ _ _ Nothing folder task c.end_with.result (inl ended)
-      (refl, c.answer_words-status.ensures.memory (sym c.end_with.ensures.status ∙ ended)),
+          (refl, c.answer_words-status.ensures.memory (sym c.end_with.ensures.status ∙ ended)),
       told_of_words g c,
     )
 

@@ -21,7 +21,7 @@ returns-in-Ok-sessions_on-clause-sits g c =
       c.in-Ok-open_folder.disk,
       c.in-Ok-sessions_on.disk,
       sits_so _ _ _ _ _ _ c.of_session.result c.told_after.result _ _ _ _ c.told_after.ensures
-      (inl (c.in-Ok-sessions_on.ended, c.of_ended.ensures, c.of_session.ensures, c.in-Ok-sessions_on.ensures.served)),
+          (inl (c.in-Ok-sessions_on.ended, c.of_ended.ensures, c.of_session.ensures, c.in-Ok-sessions_on.ensures.served)),
     )
 
 pub returns-in-Err-sessions_on-clause-sits : goal.returns-in-Err-sessions_on-clause-sits
