@@ -12,3 +12,4 @@ pub mod Changing
 pub mod Ending
 pub mod Standing
 pub mod Reader
+pub mod Feeds
