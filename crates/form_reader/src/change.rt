@@ -122,7 +122,7 @@ fn done_after(found: Found, start: usize, at: usize) -> Change
 
 /// What the attempt that began at `start` comes to after what a byte brings, at the offset `at` after it.
 #[inline(always)]
-fn change_of<R: MacroFunctions>(
+pub(crate) fn change_of<R: MacroFunctions>(
     with: &Surroundings<'_, R>,
     frames: &mut Frames,
     event: Event,
@@ -149,7 +149,7 @@ fn change_of<R: MacroFunctions>(
 
 /// What the attempt that began at `start` came to before the byte `c`, at the offset `at` in it, with no open call.
 #[inline(always)]
-fn done_before<R: MacroFunctions>(
+pub(crate) fn done_before<R: MacroFunctions>(
     with: &Surroundings<'_, R>,
     frames: &mut Frames,
     found: Found,

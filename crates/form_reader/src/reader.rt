@@ -4,10 +4,13 @@ ghost use Rattle.form_reader.specs.Standing.{is_standing};
 ghost use Rattle.form_reader.specs.declared.reader.ReaderState.TheVariants.{Refused, OutOfMemory};
 
 use crate::change::{Change, take_byte};
+use crate::characters::take_characters;
 use crate::ending::{ReadOutcome, last_outcome};
 use crate::frame::Frames;
 use crate::in_place::{InPlace, in_place};
+use crate::objects::is_blank;
 use crate::position::Position;
+use crate::runs::take_run;
 use crate::surroundings::Surroundings;
 use lisp_object::Datum;
 use lisp_reading::Limits;
@@ -215,6 +218,106 @@ impl FormReader {
             }
             ReaderState::Refused(..) => unreachable!(),
             ReaderState::OutOfMemory => unreachable!(),
+        }
+    }
+
+    /// Whether an object may begin here, and `c` is no whitespace.
+    #[inline(always)]
+    pub(crate) fn is_at_object(&self, readtable: &Readtable, c: u8) -> bool
+        ensures object { result ≡ true → self.now.state ≡ Open AtObject }
+        ensures other { result ≡ true → is_whitespace readtable.now c ≡ false }
+    {
+        match &self.state {
+            ReaderState::Open(Position::Object) => !is_blank(readtable.syntax(c)),
+            _ => false,
+        }
+    }
+
+    /// Some of the bytes, of which there are some, where an object may begin: as many steps as it says.
+    pub(crate) fn run<R: MacroFunctions>(
+        &mut self,
+        bytes: &[u8],
+        readtable: &Readtable,
+        base: u8,
+        packages: &Packages,
+        current: &[u8],
+        macros: &R,
+    ) -> Result<(usize, Advance), AllocError>
+        requires answers { R.answers macros.now }
+        requires lowest_base { 2 ≤ base }
+        requires highest_base { base ≤ 36 }
+        requires current { IsPackage packages.now.0 current.now }
+        requires object { self.old.state ≡ Open AtObject }
+        requires some { 0 < length bytes.now }
+        requires count { fed self.old + length bytes.now ≤ 2 ^ 63 }
+        ensures feeds { (before : List ℕ) → IsAfter
+            (setting_of (limits_of self.old) readtable.now base packages.now.0 current.now
+            (R.functions macros.now))
+            self.old before → IfOk result (λ fed. Feeds
+            (setting_of (limits_of self.old) readtable.now base packages.now.0 current.now
+            (R.functions macros.now))
+            self.new before bytes.now fed.0 fed.1) }
+        ensures some { IfOk result (λ fed. 0 < fed.0) }
+        ensures within { IfOk result (λ fed. fed.0 ≤ length bytes.now) }
+        ensures limits { limits_of self.new ≡ limits_of self.old }
+        ensures fed { fed self.new ≤ fed self.old + length bytes.now }
+        ensures advances { IfOk result (λ fed. Advances self.old self.new fed.0 fed.1) }
+        ensures sound { IfOk result (λ fed. IsSoundStep fed.1) }
+        ensures memory { OnErr result (HasNoMemory self.new) }
+        ensures between_forms { IfOk result (λ fed. LeavesBetween self.new fed.1) }
+        ensures nothing_open { IfOk result (λ fed. fed.1 ≡ AdvanceMore
+            → begun self.new ≡ fed self.new → IsBetween self.new) }
+    {
+        let with = Surroundings {
+            alloc: self.alloc,
+            limits: self.limits,
+            readtable,
+            base,
+            packages,
+            current,
+            macros,
+        };
+        // Until the bytes have come to something: where that fails, the reader answers the same again.
+        self.state = ReaderState::OutOfMemory;
+        let (count, change) = take_run(&with, &mut self.frames, self.start, self.at, bytes)?;
+        let advance = self.take(change);
+        Ok((count, advance))
+    }
+
+    /// Characters of a text, where one is gathered: how many of the bytes they are. Else none, and nothing has changed.
+    pub(crate) fn take_text(
+        &mut self,
+        bytes: &[u8],
+        readtable: &Readtable,
+    ) -> Result<usize, AllocError>
+        requires count { fed self.old + length bytes.now ≤ 2 ^ 63 }
+        ensures steps { (setting : Setting) (before : List ℕ) → setting.table ≡ readtable.now
+            → setting.limits ≡ limits_of self.old → IsAfter setting self.old before
+            → IfOk result (λ count. 0 < count → Steps setting self.new (before ++ take count bytes.now) AdvanceMore) }
+        ensures none { result ≡ Ok 0 → self.new ≡ self.old }
+        ensures within { IfOk result (λ count. count ≤ length bytes.now) }
+        ensures limits { limits_of self.new ≡ limits_of self.old }
+        ensures begun { begun self.new ≡ begun self.old }
+        ensures fed { IfOk result (λ count. fed self.new ≡ fed self.old + count) }
+        ensures spent { OnErr result (fed self.new ≡ fed self.old) }
+        ensures memory { OnErr result (HasNoMemory self.new) }
+    {
+        let at = self.at;
+        let limits = self.limits;
+        match &mut self.state {
+            ReaderState::Open(Position::Text(_, terminator, text)) => {
+                match take_characters(readtable, &limits, *terminator, text, at, bytes) {
+                    Ok(count) => {
+                        self.at += count;
+                        Ok(count)
+                    }
+                    Err(error) => {
+                        run_out(&mut self.state);
+                        Err(error)
+                    }
+                }
+            }
+            _ => Ok(0),
         }
     }
 
