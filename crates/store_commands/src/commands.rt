@@ -4,9 +4,9 @@ ghost use Rattle.clap.specs.Words.{Text, kind_of};
 ghost use Rattle.user_macros.specs.Functions.{are_registered};
 ghost use Rattle.store_commands.specs.declared.words.Task.{Task};
 ghost use Rattle.store_commands.specs.CommandLine.{AsksFor, IsTaken, faults_of};
-ghost use Rattle.store_commands.specs.Commands.{DoesOn, Performs, PerformsAtTerminal, PerformsNone, Sits};
+ghost use Rattle.store_commands.specs.Commands.{DoesOn, Performs, PerformsAtTerminal, PerformsInTurn, PerformsNone};
 ghost use Rattle.store_commands.specs.Status.{EndsAfter, HasFaultNumber, IsAfterWords, IsOfWords, IsQuiet, TakesWords};
-ghost use Rattle.store_commands.specs.Told.{TellsFault};
+ghost use Rattle.store_commands.specs.Told.{TellsFault, left_out_of};
 ghost use Rattle.store_commands.specs.declared.told.Told.{Told};
 
 use crate::export::export_on;
@@ -174,10 +174,9 @@ where
     I: Sessions,
     O: Write,
     requires answers { M.answers macros }
-    ensures taken { TakesWords result.0 }
-    ensures sits { Sits M.Meaning.functions ⟦<HostDisk as Disk>⟧.state macros
-        (are_registered M.Meaning.functions (M.functions macros)) (O.contents output.old) (O.contents output.new)
-        wanted result.0 result.1 }
+    ensures { PerformsInTurn M.Meaning.functions ⟦<HostDisk as Disk>⟧.state macros
+        (are_registered M.Meaning.functions (M.functions macros)) I.remaining O.contents
+        input.old input.new output.old output.new asked.entry.folder.now wanted result.0 result.1 }
 {
     // the seed comes before the folder, so that nothing is made if there is none
     let Ok(seed) = Seed::draw(rt) else {
@@ -277,7 +276,7 @@ where
 
 // What is to be told on standard error after a task; if that is nothing, the cause of a fault of the device.
 fn told_after(told: Told, disk: &HostDisk) -> Told
-    ensures { (told ≡ Told.Nothing) ⊎ (result ≡ told) }
+    ensures { ((told ≡ Told.Nothing) × (left_out_of result ≡ [])) ⊎ (result ≡ told) }
 {
     match told {
         Told::Nothing => cause_of(disk),
@@ -286,7 +285,9 @@ fn told_after(told: Told, disk: &HostDisk) -> Told
 }
 
 // The cause of a fault of the device, if there was one.
-fn cause_of(disk: &HostDisk) -> Told {
+fn cause_of(disk: &HostDisk) -> Told
+    ensures { left_out_of result ≡ [] }
+{
     match disk.cause() {
         Some(error) => Told::Cause(HostError::System(error)),
         None => Told::Nothing,

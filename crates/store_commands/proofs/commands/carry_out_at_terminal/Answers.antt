@@ -1,10 +1,10 @@
-use Rattle.store_commands.proofs.AtTerminal.{performs_there, sits_there}
+use Rattle.store_commands.proofs.AtTerminal.{performs_there, row_there}
 use Rattle.store_commands.proofs.commands.carry_out_at_terminal.Goals as goal
 
 pub returns-in-Run-clause-performs : goal.returns-in-Run-clause-performs
 returns-in-Run-clause-performs g c =
-    sits_there _ _ _ _ g.I.Read.remaining g.O.Write.contents _ _ _ _ _ c.args.asked.folder.now c.args.asked.task c.sit.result.0 c.in-Run.wanted
-    c.in-Run.is c.sit.ensures.sits
+    row_there _ _ _ _ g.I.Read.remaining g.O.Write.contents _ _ _ _ _ c.args.asked.folder.now c.args.asked.task c.sit.result.0 c.in-Run.wanted
+    c.in-Run.is c.sit.ensures
 
 pub returns-in_default-clause-performs : goal.returns-in_default-clause-performs
 returns-in_default-clause-performs g c =
@@ -13,3 +13,6 @@ returns-in_default-clause-performs g c =
 
 pub returns-in_default-clause-taken : goal.returns-in_default-clause-taken
 returns-in_default-clause-taken g c = c.carry_out.ensures.taken
+
+pub returns-in-Run-clause-taken : goal.returns-in-Run-clause-taken
+returns-in-Run-clause-taken g c = c.sit.ensures.taken
