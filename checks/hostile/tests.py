@@ -5,15 +5,17 @@ import subprocess
 
 from store import library, want
 
-# Only tests of these crates, whose helpers hand errors on: elsewhere an assertion may fail for want of memory alone.
-CRATES = ("log_tests", "reader_tests", "world_tests")
+CRATES = ("log_tests", "program_tests", "reader_tests", "world_tests")
 
 # What the error names with which a test ends that met want of memory. A disk in memory that finds none answers with a fault of the device.
-ERRORS = (b"AllocError", b"AllocFailed", b"OutOfMemory", b"DeviceFault")
+ERRORS = (b"AllocError", b"AllocFailed", b"Memory", b"Device")
 
 # A test that asks for memory as often is run a few times alone.
 MANY = 20_000
 FEW = 2
+
+# Tests of this module take the refusal of each call and make the call again: each of their growths is refused alone.
+AGAIN = "growth::"
 
 
 def binaries(crates):
@@ -25,17 +27,24 @@ def binaries(crates):
 
 
 def run(room, paths, most):
-    """At most so many growths of each test, each second one with all that come after it. Gives how many runs there were, and what came."""
+    """At most so many growths of each test, each second one with all that come after it; and each growth of those that make a call
+    again. Gives how many runs there were, and what came."""
     loaded = library("growth", room.folder)
     kinds = collections.Counter()
     for path in paths:
         listed = subprocess.run([path, "--list"], capture_output=True, text=True, check=True).stdout
         for test in [line.split(": ")[0] for line in listed.splitlines() if line.endswith(": test")]:
-            total = growths(room, path, test, loaded)
-            step = max(1, -(-total // (most if total < MANY else min(most, FEW))))
-            for index, number in enumerate(range(1, total + 1, step)):
-                kinds[outcome(room, path, test, loaded, number, index % 2 == 1)] += 1
+            for number, goes_on in places(test, growths(room, path, test, loaded), most):
+                kinds[outcome(room, path, test, loaded, number, goes_on)] += 1
     return sum(kinds.values()), dict(kinds)
+
+
+def places(test, total, most):
+    """The growths of a test that are refused, and whether all after them are."""
+    if test.startswith(AGAIN):
+        return [(number, False) for number in range(1, total + 1)]
+    step = max(1, -(-total // (most if total < MANY else min(most, FEW))))
+    return [(number, index % 2 == 1) for index, number in enumerate(range(1, total + 1, step))]
 
 
 def tried(room, path, test, environment):

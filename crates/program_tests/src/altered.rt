@@ -1,7 +1,7 @@
 //! Files that were altered while no store was open.
 
 use crate::asked::{Ask, asked, form, session, told};
-use crate::files::{AMPLE, Files, Left, Trouble, disk_of, disk_with, left_after};
+use crate::files::{AMPLE, Files, Left, Trouble, disk_of, disk_with, files_of, left_after};
 use crate::long::LongDisk;
 use disk_trait::MemoryDisk;
 use std::alloc::Global;
@@ -177,19 +177,6 @@ fn the_greater_generation_is_in_use(rt: HostRuntime) -> Result<(), Fail> {
     Ok(())
 }
 
-/// Whether half A is refused for memory where it tells of more bytes than there are, and the disk that is given back has the
-/// property.
-fn is_given_back_long(alloc: Global, a: &[u8]) -> Result<bool, Trouble> {
-    let disk = LongDisk {
-        disk: disk_of(alloc, a, b"")?,
-        is_long: true,
-    };
-    let (text, disk) = asked(alloc, disk, AMPLE, &[])?;
-    let LongDisk { disk, is_long: _ } = disk;
-    let left = told(alloc, disk, &[session(b"(GET 'A 'B)")])?;
-    Ok(text.as_slice() == b"unopened 90\n".as_slice() && left.as_slice() == b"7\nend\n".as_slice())
-}
-
 #[test]
 fn a_disk_that_is_refused_is_as_it_was(rt: HostRuntime) -> Result<(), Fail> {
     let alloc = rt.alloc();
@@ -206,7 +193,25 @@ fn a_disk_that_is_refused_is_as_it_was(rt: HostRuntime) -> Result<(), Fail> {
     for (a, b, limit, wanted) in cases {
         assert!(rt; opens_as(alloc, a, b, limit, wanted)?, "{wanted:?}");
     }
-    assert!(rt; is_given_back_long(alloc, whole.as_slice())?);
+    Ok(())
+}
+
+/// Whether half A is opened, and stays as it is, where it tells of more bytes than there is memory for.
+fn is_opened_long(alloc: Global) -> Result<bool, Trouble> {
+    let whole = half_a(alloc)?;
+    let disk = LongDisk {
+        disk: disk_of(alloc, whole.as_slice(), b"")?,
+        is_long: true,
+    };
+    let (text, disk) = asked(alloc, disk, AMPLE, &[session(b"(GET 'A 'B)")])?;
+    let LongDisk { disk, is_long: _ } = disk;
+    let files = files_of(alloc, disk)?;
+    Ok(text.as_slice() == b"7\nend\n".as_slice() && files.a == whole && files.b.is_empty())
+}
+
+#[test]
+fn what_comes_after_the_records_is_not_read(rt: HostRuntime) -> Result<(), Fail> {
+    assert!(rt; is_opened_long(rt.alloc())?);
     Ok(())
 }
 

@@ -1,13 +1,13 @@
 //! Calls of a store over a disk, one after the other, and the text of what they gave. No function here has a clause: so what
 //! the calls ensure is in no test.
 
+use crate::broken::{Kept, Pieces};
 use crate::by_name::ByName;
-use crate::files::{AMPLE, Trouble};
+use crate::files::{AMPLE, Trouble, asked_in_memory, trouble_of};
+use crate::lines::{ended_line, ending_line, is_short, number_line, outcome_line, outcome_lines};
 use disk_trait::{Disk, MemoryDisk};
-use lisp_object::Datum;
-use prevalence_store::{Ending, Mode, Outcome, Step, Store};
-use std::alloc::Global;
-use std::io::{Error, Read, Result as IoResult, Write};
+use prevalence_store::{Ended, Ending, Mode, Outcome, Step, Store, Wanted};
+use std::alloc::{AllocError, Global};
 use store_commands::{SixFunctions, write_half_line};
 
 /// A call of an open store, and the lines of it in the text.
@@ -15,11 +15,14 @@ use store_commands::{SixFunctions, write_half_line};
 pub enum Ask<'a> {
     /// A session: its answers, and `end`, `reader N` or `store N`.
     Serve(Serving<'a>),
+    /// A session that is strict or not, and tells where it ended: its answers, and `end`, `store N`, or `reader N` or `strict N`
+    /// with the forms before it and the places where it starts and is refused, as in `reader 4 forms 1 start 2 at 2`.
+    Wanted(bool, Serving<'a>),
     /// A form in this mode: `accepted 7` for an integer, `accepted` for another value, or `refused N`.
     Form(Mode, &'a [u8]),
     /// A snapshot: `snapshotted`, or `refused N`.
     Snapshot,
-    /// Steps, each with a line as above.
+    /// Steps, each with a line as above; or `unrun 90`.
     Run(&'a [Step<'a>]),
     /// What the store tells of the half in use: `half A generation 1 records 0`.
     Half,
@@ -63,75 +66,27 @@ pub fn form(text: &[u8]) -> Ask<'_> {
     Ask::Form(Mode::Current, text)
 }
 
-/// Gives its text in pieces of at most so many bytes, and fails after so many reads.
-#[derive(Drop)]
-struct Pieces<'a> {
-    rest: &'a [u8],
-    most: usize,
-    reads: u64,
+/// The reader and the writer of a session.
+fn streams(alloc: Global, session: Serving<'_>) -> (Pieces<'_>, Kept) {
+    let reader = Pieces {
+        rest: session.input,
+        most: session.most,
+        reads: session.reads,
+    };
+    let writer = Kept {
+        text: Vec::new(alloc),
+        room: session.room,
+        is_short: false,
+    };
+    (reader, writer)
 }
 
-impl Read for Pieces<'_> {
-    fn read(&mut self, buf: &mut [u8]) -> IoResult<usize> {
-        if self.reads == 0 {
-            return Err(Error::other("no more reads"));
-        }
-        self.reads -= 1;
-        let count = buf.len().min(self.most).min(self.rest.len());
-        buf[..count].copy_from_slice(&self.rest[..count]);
-        self.rest = &self.rest[count..];
-        Ok(count)
+/// What a writer has kept. It is an error if it found no memory.
+fn kept(writer: Kept) -> Result<Vec<u8>, Trouble> {
+    if writer.is_short {
+        return Err(Trouble::Memory);
     }
-}
-
-/// Keeps so many bytes, and then fails.
-#[derive(Drop)]
-struct Kept {
-    text: Vec<u8>,
-    room: usize,
-}
-
-impl Write for Kept {
-    fn write(&mut self, buf: &[u8]) -> IoResult<usize> {
-        if self.room == 0 {
-            return Err(Error::other("no more room"));
-        }
-        let count = buf.len().min(self.room);
-        self.text.write_all(&buf[..count])?;
-        self.room -= count;
-        Ok(count)
-    }
-
-    fn flush(&mut self) -> IoResult<()> {
-        Ok(())
-    }
-}
-
-/// A line of a word and a number.
-fn number_line(text: &mut Vec<u8>, word: &str, number: i128) -> Result<(), Trouble> {
-    match writeln!(text, "{word} {number}") {
-        Ok(()) => Ok(()),
-        Err(_) => Err(Trouble::Memory),
-    }
-}
-
-/// The line of how a session ended.
-fn ending_line(text: &mut Vec<u8>, ending: Ending) -> Result<(), Trouble> {
-    match ending {
-        Ending::End => Ok(text.extend_from_slice(b"end\n")?),
-        Ending::Reader(number) => number_line(text, "reader", i128::from(number)),
-        Ending::Store(number) => number_line(text, "store", i128::from(number)),
-    }
-}
-
-/// The line of what a form or a snapshot gave.
-fn outcome_line(text: &mut Vec<u8>, outcome: &Outcome) -> Result<(), Trouble> {
-    match outcome {
-        Outcome::Accepted(Datum::Integer(number)) => number_line(text, "accepted", *number),
-        Outcome::Accepted(_) => Ok(text.extend_from_slice(b"accepted\n")?),
-        Outcome::Snapshotted => Ok(text.extend_from_slice(b"snapshotted\n")?),
-        Outcome::Refused(number) => number_line(text, "refused", i128::from(*number)),
-    }
+    Ok(writer.text)
 }
 
 /// How a session ends, and what it writes.
@@ -139,18 +94,27 @@ fn serve<D: Disk>(
     alloc: Global,
     store: &mut Store<D, ByName>,
     session: Serving<'_>,
-) -> (Ending, Vec<u8>) {
-    let mut reader = Pieces {
-        rest: session.input,
-        most: session.most,
-        reads: session.reads,
-    };
-    let mut writer = Kept {
-        text: Vec::new(alloc),
-        room: session.room,
-    };
+) -> (Ending, Kept) {
+    let (mut reader, mut writer) = streams(alloc, session);
     let ending = store.serve(&mut reader, &mut writer, session.mode, session.every);
-    (ending, writer.text)
+    (ending, writer)
+}
+
+/// How a session ends that tells where, and what it writes.
+fn serve_wanted<D: Disk>(
+    alloc: Global,
+    store: &mut Store<D, ByName>,
+    strict: bool,
+    session: Serving<'_>,
+) -> (Ended, Kept) {
+    let (mut reader, mut writer) = streams(alloc, session);
+    let wanted = Wanted {
+        mode: session.mode,
+        snapshot_every: session.every,
+        strict,
+    };
+    let ended = store.serve_wanted(&mut reader, &mut writer, wanted);
+    (ended, writer)
 }
 
 /// The lines of a session, and that of its end.
@@ -160,9 +124,22 @@ fn session_lines<D: Disk>(
     session: Serving<'_>,
     text: &mut Vec<u8>,
 ) -> Result<(), Trouble> {
-    let (ending, answers) = serve(alloc, store, session);
-    text.extend_from_slice(answers.as_slice())?;
+    let (ending, writer) = serve(alloc, store, session);
+    text.extend_from_slice(kept(writer)?.as_slice())?;
     ending_line(text, ending)
+}
+
+/// The same of a session that tells where it ended.
+fn wanted_lines<D: Disk>(
+    alloc: Global,
+    store: &mut Store<D, ByName>,
+    strict: bool,
+    session: Serving<'_>,
+    text: &mut Vec<u8>,
+) -> Result<(), Trouble> {
+    let (ended, writer) = serve_wanted(alloc, store, strict, session);
+    text.extend_from_slice(kept(writer)?.as_slice())?;
+    ended_line(text, ended)
 }
 
 fn execute<D: Disk>(store: &mut Store<D, ByName>, mode: Mode, form: &[u8]) -> Outcome {
@@ -194,10 +171,10 @@ fn run<D: Disk>(
     steps: &[Step<'_>],
     text: &mut Vec<u8>,
 ) -> Result<(), Trouble> {
-    for outcome in &store.run(steps)? {
-        outcome_line(text, outcome)?;
+    match store.run(steps) {
+        Ok(outcomes) => outcome_lines(text, outcomes.as_slice()),
+        Err(AllocError) => Ok(text.extend_from_slice(b"unrun 90\n")?),
     }
-    Ok(())
 }
 
 /// The line on the half in use.
@@ -224,7 +201,7 @@ fn world_text<D: Disk>(
 }
 
 /// One call.
-fn ask_one<D: Disk>(
+pub fn ask_one<D: Disk>(
     alloc: Global,
     store: &mut Store<D, ByName>,
     call: Ask<'_>,
@@ -232,6 +209,7 @@ fn ask_one<D: Disk>(
 ) -> Result<(), Trouble> {
     match call {
         Ask::Serve(session) => session_lines(alloc, store, session, text),
+        Ask::Wanted(strict, session) => wanted_lines(alloc, store, strict, session, text),
         Ask::Form(mode, form) => form_line(store, mode, form, text),
         Ask::Snapshot => snapshot_line(store, text),
         Ask::Run(steps) => run(store, steps, text),
@@ -255,14 +233,22 @@ fn ask_all<D: Disk>(
 }
 
 /// An opened store, or the number of the refusal and the disk that was given back.
-pub enum Opening<D: Disk> {
+enum Opening<D: Disk> {
     Opened(Store<D, ByName>),
     Refused(u16, D),
 }
 
 /// Opens a store over a disk with all macro functions.
-pub fn open<D: Disk + Drop>(alloc: Global, disk: D, limit: u64) -> Result<Opening<D>, Trouble> {
-    open_with(alloc, disk, ByName::new(alloc, SixFunctions::new()), limit)
+pub fn open<D: Disk + Drop>(
+    alloc: Global,
+    disk: D,
+    limit: u64,
+) -> Result<Store<D, ByName>, Trouble> {
+    let macros = ByName::new(alloc, SixFunctions::new());
+    match open_with(alloc, disk, macros, limit)? {
+        Opening::Opened(store) => Ok(store),
+        Opening::Refused(number, _disk) => Err(trouble_of(number)),
+    }
 }
 
 /// Opens a store over a disk with these macro functions.
@@ -302,23 +288,24 @@ fn asked_of<D: Disk + Drop>(
 }
 
 /// Opens a disk, makes these calls, and closes the store: the text of what they gave, and the disk. Where the disk is not
-/// opened the text is `unopened N`.
+/// opened the text is `unopened N`. Want of memory is an error.
 pub fn asked<D: Disk + Drop>(
     alloc: Global,
     disk: D,
     limit: u64,
     calls: &[Ask<'_>],
 ) -> Result<(Vec<u8>, D), Trouble> {
-    asked_with(
-        alloc,
-        disk,
-        ByName::new(alloc, SixFunctions::new()),
-        limit,
-        calls,
-    )
+    let macros = ByName::new(alloc, SixFunctions::new());
+    let (text, disk) = asked_with(alloc, disk, macros, limit, calls)?;
+    for line in text.as_slice().split(|byte| *byte == b'\n') {
+        if is_short(line) {
+            return Err(Trouble::Memory);
+        }
+    }
+    Ok((text, disk))
 }
 
-/// The same with these macro functions.
+/// The same with these macro functions, where want of memory is no error.
 pub fn asked_with<D: Disk + Drop>(
     alloc: Global,
     disk: D,
@@ -338,6 +325,6 @@ pub fn asked_with<D: Disk + Drop>(
 
 /// The text of these calls over a disk in memory.
 pub fn told(alloc: Global, disk: MemoryDisk, calls: &[Ask<'_>]) -> Result<Vec<u8>, Trouble> {
-    let (text, _disk) = asked(alloc, disk, AMPLE, calls)?;
+    let (text, _disk) = asked_in_memory(alloc, disk, AMPLE, calls)?;
     Ok(text)
 }

@@ -9,7 +9,8 @@ ghost use Rattle.prevalence_store.specs.Theorem.{IsAfterSome, Keeps};
 
 use crate::asked::{asked, session};
 use crate::by_name::ByName;
-use crate::files::{AMPLE, Trouble, crashed};
+use crate::files::{AMPLE, Trouble, crashed, trouble_of};
+use crate::lines::unfaulted;
 use disk_trait::{Crash, Disk, MemoryDisk};
 use prevalence_store::{Ending, Mode, Outcome, Store, Unopened, headline};
 use std::alloc::Global;
@@ -116,24 +117,22 @@ fn left(alloc: Global, kind: Crash) -> Result<MemoryDisk, Trouble> {
     crashed(disk, kind)
 }
 
-/// Whether the other disk was opened too.
-fn opened_too(again: Result<Store<MemoryDisk, ByName>, Unopened<MemoryDisk, ByName>>) -> bool {
+/// Nothing where the other disk was opened too. It is an error if it was not.
+fn opened_too(
+    again: Result<Store<MemoryDisk, ByName>, Unopened<MemoryDisk, ByName>>,
+) -> Result<(), Trouble> {
     match again {
         Ok(store) => {
             let _disk = store.close();
-            true
+            Ok(())
         }
-        Err(_) => false,
+        Err(unopened) => Err(trouble_of(unopened.number)),
     }
 }
 
-/// Whether both disks were opened, two forms accepted and a snapshot taken.
-fn accepted_twice(
-    alloc: Global,
-    kind: Crash,
-    first: &[u8],
-    second: &[u8],
-) -> Result<bool, Trouble> {
+/// Opens both disks, executes two forms and takes a snapshot. Over disks that are open, and with forms that are accepted, that
+/// ends early for want of memory alone.
+fn accept_twice(alloc: Global, kind: Crash, first: &[u8], second: &[u8]) -> Result<(), Trouble> {
     let disk = MemoryDisk::new(alloc);
     let crashed = left(alloc, kind)?;
     if disk.failures() > 0 || crashed.failures() > 0 {
@@ -147,13 +146,13 @@ fn accepted_twice(
         first,
         second,
     ) {
-        Some((_, again)) => Ok(opened_too(again)),
-        None => Ok(false),
+        Some((_, again)) => opened_too(again),
+        None => Err(Trouble::Memory),
     }
 }
 
-/// Whether both disks were opened, and the answers to an input.
-fn served_once(alloc: Global, kind: Crash, input: &[u8]) -> Result<(bool, Vec<u8>), Trouble> {
+/// The answers to an input, over disks that are both opened.
+fn served_once(alloc: Global, kind: Crash, input: &[u8]) -> Result<Vec<u8>, Trouble> {
     let disk = left(alloc, kind)?;
     let crashed = left(alloc, kind)?;
     if disk.failures() > 0 || crashed.failures() > 0 {
@@ -163,25 +162,25 @@ fn served_once(alloc: Global, kind: Crash, input: &[u8]) -> Result<(bool, Vec<u8
     let mut answers = Vec::new(alloc);
     let macros = ByName::new(alloc, SixFunctions::new());
     match one_session(alloc, disk, crashed, macros, &mut reader, &mut answers) {
-        Some((_, _, again)) => Ok((opened_too(again), answers)),
-        None => Ok((false, answers)),
+        Some((ending, _, again)) => {
+            opened_too(again)?;
+            unfaulted(ending)?;
+            Ok(answers)
+        }
+        None => Err(Trouble::Memory),
     }
 }
 
-/// Whether the disks were opened, and an input was answered so.
+/// Whether an input was answered so.
 fn is_served(alloc: Global, kind: Crash, input: &[u8], wanted: &[u8]) -> Result<bool, Trouble> {
-    let (found, answers) = served_once(alloc, kind, input)?;
-    Ok(found && answers.as_slice() == wanted)
+    Ok(served_once(alloc, kind, input)?.as_slice() == wanted)
 }
 
 #[test]
 fn callers_find_what_was_acknowledged(rt: HostRuntime) -> Result<(), Fail> {
     let alloc = rt.alloc();
     for kind in [Crash::Kept, Crash::Lost] {
-        assert!(rt;
-            accepted_twice(alloc, kind, b"(SETF (GET 'A 'B) 7)", b"9")?,
-            "{kind:?}"
-        );
+        accept_twice(alloc, kind, b"(SETF (GET 'A 'B) 7)", b"9")?;
         assert!(rt; is_served(alloc, kind, b"(GET 'A 'B)", b"7\n")?, "{kind:?}");
     }
     Ok(())

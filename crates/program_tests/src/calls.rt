@@ -1,7 +1,7 @@
 //! Calls of the store: its refusals, and its limit.
 
-use crate::asked::{Ask, asked, form, session_in, told};
-use crate::files::{AMPLE, Trouble, left_after};
+use crate::asked::{Ask, form, session_in, told};
+use crate::files::{AMPLE, Trouble, asked_in_memory, left_after};
 use disk_trait::MemoryDisk;
 use prevalence_store::Mode;
 use std::alloc::Global;
@@ -49,7 +49,7 @@ const GET: &[u8] = b"(GET 'A 'B)";
 /// Whether two forms and a third one that reads have this text over fresh files of this limit.
 fn fills(alloc: Global, limit: u64, wanted: &[u8]) -> Result<bool, Trouble> {
     let calls = [form(SET), form(b"(SETF (GET 'A 'B) 8)"), form(GET)];
-    let (text, _disk) = asked(alloc, MemoryDisk::new(alloc), limit, &calls)?;
+    let (text, _disk) = asked_in_memory(alloc, MemoryDisk::new(alloc), limit, &calls)?;
     Ok(text.as_slice() == wanted)
 }
 

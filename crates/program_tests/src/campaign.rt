@@ -1,7 +1,9 @@
 //! A device that stops at each of its calls in turn, and a crash after that: which worlds may be found then.
 
 use crate::asked::{Ask, asked, form, session, told};
-use crate::files::{AMPLE, Files, Trouble, crashed, disk_with, files_of};
+use crate::files::{
+    AMPLE, Files, Trouble, asked_in_memory, crashed, disk_with, files_of, unfailed,
+};
 use crate::versions::first_version;
 use disk_trait::{Crash, Disk, FuseDisk, MemoryDisk, OnceDisk};
 use prevalence_store::{Mode, Step};
@@ -52,7 +54,7 @@ pub fn stopped(
     Ok(Remains {
         text,
         has_failed,
-        disk,
+        disk: unfailed(disk)?,
     })
 }
 
@@ -63,7 +65,7 @@ pub fn device_calls(alloc: Global, files: &Files, calls: &[Ask<'_>]) -> Result<u
             return Ok(passed);
         }
     }
-    Err(Trouble::Device)
+    Err(Trouble::Endless)
 }
 
 /// Whether a line is none of a form's: the end of a session, or a snapshot.
@@ -77,25 +79,36 @@ fn is_after_fault(line: &[u8]) -> bool {
 }
 
 /// How many forms a text acknowledges, and whether a device stopped in it. `None` if it is not the first lines of the whole text,
-/// then a line of 60, and then 61 alone.
-fn acknowledged(text: &[u8], whole: &[u8]) -> Option<(usize, bool)> {
+/// then a line of 60, and then 61 alone. It is an error if it is so up to a line of want of memory.
+pub fn acknowledged(text: &[u8], whole: &[u8]) -> Result<Option<(usize, bool)>, Trouble> {
     let mut wanted = whole.split(|byte| *byte == b'\n');
     let mut count: usize = 0;
     let mut has_stopped = false;
     for line in text.split(|byte| *byte == b'\n') {
         if has_stopped {
             if !is_after_fault(line) {
-                return None;
+                return Ok(None);
             }
         } else if wanted.next() == Some(line) {
             count = count.saturating_add(usize::from(!is_beside(line)));
         } else if line.ends_with(b" 60") {
             has_stopped = true;
+        } else if line.ends_with(b" 90") {
+            return Err(Trouble::Memory);
         } else {
-            return None;
+            return Ok(None);
         }
     }
-    Some((count, has_stopped))
+    Ok(Some((count, has_stopped)))
+}
+
+/// Whether a text is the one that is wanted. It is an error if it is so up to a line of want of memory, or of a fault of the device.
+pub fn is_wanted(text: &[u8], wanted: &[u8]) -> Result<bool, Trouble> {
+    match acknowledged(text, wanted)? {
+        Some((_, true)) => Err(Trouble::Device),
+        Some((_, false)) => Ok(true),
+        None => Ok(false),
+    }
 }
 
 /// The text of the world that a disk holds.
@@ -106,7 +119,7 @@ fn world_of(alloc: Global, disk: MemoryDisk) -> Result<Vec<u8>, Trouble> {
 /// The text of the world after forms over these files.
 fn world_after(alloc: Global, files: &Files, forms: &[Step<'_>]) -> Result<Vec<u8>, Trouble> {
     let disk = disk_with(alloc, files)?;
-    let (_text, disk) = asked(alloc, disk, AMPLE, &[Ask::Run(forms)])?;
+    let (_text, disk) = asked_in_memory(alloc, disk, AMPLE, &[Ask::Run(forms)])?;
     world_of(alloc, disk)
 }
 
@@ -125,7 +138,7 @@ fn worlds(alloc: Global, files: &Files, forms: &[Step<'_>]) -> Result<Vec<Vec<u8
 /// Whether one more form is accepted over a disk, and is there after a crash.
 fn takes_one_more(alloc: Global, disk: MemoryDisk) -> Result<bool, Trouble> {
     let calls = [form(b"(SETF (GET 'A 'B) 9)")];
-    let (text, disk) = asked(alloc, disk, AMPLE, &calls)?;
+    let (text, disk) = asked_in_memory(alloc, disk, AMPLE, &calls)?;
     let left = told(
         alloc,
         crashed(disk, Crash::Lost)?,
@@ -147,12 +160,13 @@ fn is_promised(
         has_failed,
         disk,
     } = left;
-    let Some((count, has_stopped)) = acknowledged(text.as_slice(), whole) else {
+    let Some((count, has_stopped)) = acknowledged(text.as_slice(), whole)? else {
         return Ok(false);
     };
     // the text of a world after the last form may have lines like answers
     let count = count.min(worlds.len().saturating_sub(1));
-    let (found, disk) = asked(alloc, crashed(disk, crash)?, AMPLE, &[Ask::World])?;
+    let disk = crashed(disk, crash)?;
+    let (found, disk) = asked_in_memory(alloc, disk, AMPLE, &[Ask::World])?;
     let is_among = worlds
         .iter()
         .skip(count)
@@ -222,7 +236,7 @@ const MOST: u64 = 256;
 fn difference(alloc: Global, row: &Row<'_>) -> Result<Option<(Stop, Crash)>, Trouble> {
     let files = files_at(alloc, row.start)?;
     let worlds = worlds(alloc, &files, row.forms)?;
-    let (whole, _disk) = asked(alloc, disk_with(alloc, &files)?, AMPLE, row.calls)?;
+    let whole = told(alloc, disk_with(alloc, &files)?, row.calls)?;
     for number in 0..MOST {
         let mut has_failed = false;
         for stop in [Stop::From(number), Stop::Once(number)] {
@@ -238,7 +252,7 @@ fn difference(alloc: Global, row: &Row<'_>) -> Result<Option<(Stop, Crash)>, Tro
             return Ok(None);
         }
     }
-    Err(Trouble::Device)
+    Err(Trouble::Endless)
 }
 
 const EIGHT: Step<'static> = Step::Form(Mode::Current, b"(SETF (GET 'A 'B) 8)");

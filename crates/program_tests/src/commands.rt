@@ -1,6 +1,6 @@
 //! The program over real files: its sessions, its other commands, and its statuses.
 
-use crate::runs::{Lack, difference, difference_in, folder_for, holds, run, told};
+use crate::runs::{Lack, difference, difference_in, folder_for, holds, is_wanted, run, told};
 use disk_trait::{HostDisk, IfMissing};
 use std::alloc::{AllocError, Global};
 use std::fs;
@@ -63,8 +63,10 @@ fn is_refused(
     bytes: &[u8],
     wanted: &[u8],
 ) -> Result<bool, Fail> {
-    let text = told_of(rt, folder, file, bytes)?;
-    Ok(text.is_some_and(|text| text.as_slice() == wanted))
+    match told_of(rt, folder, file, bytes)? {
+        Some(text) => is_wanted(text.as_slice(), wanted),
+        None => Ok(false),
+    }
 }
 
 #[test]
@@ -210,9 +212,9 @@ fn barred(rt: &HostRuntime) -> Result<(Vec<u8>, Vec<u8>), Fail> {
 fn the_cause_of_a_fault_is_told(rt: HostRuntime) -> Result<(), Fail> {
     let (over_file, over_held) = barred(&rt)?;
     let wanted: &[u8] = b"3\nstandard error: ! 60 DEVICE\nNot a directory (os error 20)\n";
-    assert!(rt; over_file.as_slice() == wanted);
+    assert!(rt; is_wanted(over_file.as_slice(), wanted)?);
     let wanted: &[u8] = b"3\nstandard error: ! 60 DEVICE\nlocked by another process\n";
-    assert!(rt; over_held.as_slice() == wanted);
+    assert!(rt; is_wanted(over_held.as_slice(), wanted)?);
     Ok(())
 }
 
@@ -298,7 +300,7 @@ fn an_existing_store_is_there_already(rt: HostRuntime) -> Result<(), Fail> {
 
 #[test]
 fn a_hyphen_is_a_folder(rt: HostRuntime) -> Result<(), Fail> {
-    let found = run(&rt, Lack::Nothing, &["store_program", "run", "-"], b"7 ");
+    let found = run(&rt, Lack::Nothing, &["store_program", "run", "-"], b"7 ")?;
     assert_eq!(rt; found.status, 0);
     assert!(rt; fs::metadata(&rt, "-/half-a").is_ok());
     fs::remove_dir_all(&rt, "-")?;

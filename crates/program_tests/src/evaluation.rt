@@ -1,8 +1,9 @@
 //! Every operator and every refusal of evaluation: forms, and what a session answers to the last of them.
 
-use crate::asked::{Opening, closed, open};
+use crate::asked::{closed, open};
 use crate::by_name::ByName;
 use crate::files::{AMPLE, Trouble};
+use crate::lines::unfaulted;
 use disk_trait::MemoryDisk;
 use prevalence_store::{Mode, Store};
 use std::alloc::{AllocError, Global};
@@ -281,11 +282,15 @@ fn lines_of(alloc: Global, forms: &[u8]) -> Result<(Vec<u8>, Vec<u8>), AllocErro
 }
 
 /// What a session answers, by itself.
-fn answers_of(alloc: Global, store: &mut Store<MemoryDisk, ByName>, input: &[u8]) -> Vec<u8> {
+fn answers_of(
+    alloc: Global,
+    store: &mut Store<MemoryDisk, ByName>,
+    input: &[u8],
+) -> Result<Vec<u8>, Trouble> {
     let mut reader = input;
     let mut answers = Vec::new(alloc);
-    let _ending = store.serve(&mut reader, &mut answers, Mode::Current, 0);
-    answers
+    unfaulted(store.serve(&mut reader, &mut answers, Mode::Current, 0))?;
+    Ok(answers)
 }
 
 /// What a store answers to a form after others, and whether it was logged.
@@ -294,24 +299,19 @@ fn answered_by(
     store: &mut Store<MemoryDisk, ByName>,
     before: &[u8],
     last: &[u8],
-) -> (Vec<u8>, bool) {
-    let _answers = answers_of(alloc, store, before);
+) -> Result<(Vec<u8>, bool), Trouble> {
+    let _answers = answers_of(alloc, store, before)?;
     let count = store.record_count();
-    let answer = answers_of(alloc, store, last);
-    (answer, store.record_count() > count)
+    let answer = answers_of(alloc, store, last)?;
+    Ok((answer, store.record_count() > count))
 }
 
 /// The same over fresh files.
 fn answered(alloc: Global, before: &[u8], last: &[u8]) -> Result<(Vec<u8>, bool), Trouble> {
-    match open(alloc, MemoryDisk::new(alloc), AMPLE)? {
-        Opening::Opened(store) => {
-            let mut store = store;
-            let answered = answered_by(alloc, &mut store, before, last);
-            let _disk = closed(store);
-            Ok(answered)
-        }
-        Opening::Refused(_, _) => Err(Trouble::Device),
-    }
+    let mut store = open(alloc, MemoryDisk::new(alloc), AMPLE)?;
+    let answered = answered_by(alloc, &mut store, before, last);
+    let _disk = closed(store);
+    answered
 }
 
 /// Whether these forms are answered so.

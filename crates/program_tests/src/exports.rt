@@ -6,9 +6,9 @@ use std::fs;
 use std::test::Fail;
 
 /// What a command over a folder writes.
-fn written(rt: &HostRuntime, folder: &str, words: &'static str) -> Result<Vec<u8>, AllocError> {
+fn written(rt: &HostRuntime, folder: &str, words: &'static str) -> Result<Vec<u8>, Fail> {
     let words = words_of(rt.alloc(), folder, words)?;
-    Ok(run(rt, Lack::Nothing, words.as_slice(), b"").output)
+    Ok(run(rt, Lack::Nothing, words.as_slice(), b"")?.output)
 }
 
 /// Whether a text has a line that is a refusal.
@@ -29,7 +29,7 @@ fn is_made_again(rt: &HostRuntime, folder: &str, copy: &str) -> Result<bool, Fai
 }
 
 /// Sessions over one folder, each with its words: after each the world is exported.
-const SESSIONS: [(&str, &[u8]); 8] = [
+const SESSIONS: [(&str, &[u8]); 9] = [
     ("run DIR", b""),
     (
         "run DIR",
@@ -38,6 +38,10 @@ const SESSIONS: [(&str, &[u8]); 8] = [
     (
         "run DIR",
         b"(MAKE-PACKAGE \"P\")(MAKE-PACKAGE \"q \\\" |\")(INTERN \"x\" \"P\")(EXPORT '(P::|x| P::Y) \"P\")",
+    ),
+    (
+        "run DIR",
+        b"(EXPORT (INTERN \"a\x01b\" \"P\") \"P\")(IMPORT (INTERN \"\x1F\"))(SETF (GET '|c\\\x02| 'V) 7)(COPY-READTABLE NIL ':|\\\x03|)",
     ),
     (
         "run DIR",
@@ -131,6 +135,41 @@ standard error: ! 68 OUTPUT
 fn a_world_is_exported(rt: HostRuntime) -> Result<(), Fail> {
     let run = difference_in(&rt, "exported", EXPORTED)?;
     assert!(rt; run.is_none(), "{run:?}");
+    Ok(())
+}
+
+/// A session with names of 4,096 letters: after its package's name each is too long for a token.
+fn long_session(alloc: Global) -> Result<Vec<u8>, AllocError> {
+    let mut name = Vec::from_slice(alloc, b"(INTERN \"")?;
+    for _ in 0..4096 {
+        name.push(b'L')?;
+    }
+    let forms: [&[u8]; 5] = [
+        b"(MAKE-PACKAGE \"P\")(EXPORT ",
+        b"\" \"P\") \"P\")(SETF (GET ",
+        b"\" \"P\") ",
+        b"\" \"KEYWORD\")) 7)(COPY-READTABLE :STANDARD ",
+        b"\" \"KEYWORD\"))(IMPORT ",
+    ];
+    let mut input = Vec::new(alloc);
+    for form in forms {
+        input.extend_from_slice(form)?;
+        input.extend_from_slice(name.as_slice())?;
+    }
+    input.extend_from_slice(b"\" \"P\"))")?;
+    Ok(input)
+}
+
+#[test]
+fn names_too_long_for_a_token_are_exported(rt: HostRuntime) -> Result<(), Fail> {
+    let folder = folder_for(&rt, "long-names")?;
+    let folder = folder.as_str();
+    let copy = format!(in rt.alloc(); "{folder}-copy")?;
+    let input = long_session(rt.alloc())?;
+    let answers = told(&rt, folder, Lack::Nothing, "run DIR", input.as_slice())?;
+    assert!(rt; !has_refusal(answers.as_slice()), "{answers:?}");
+    assert!(rt; is_made_again(&rt, folder, copy.as_str())?);
+    fs::remove_dir_all(&rt, folder)?;
     Ok(())
 }
 

@@ -6,11 +6,15 @@
 //! What a call ensures stays in the context of all that comes after it. So each call of a store is made in `asked` alone, and a test
 //! compares the text of what its calls gave with the one that is wanted.
 //!
-//! - `asked` calls a store, `by_name` has the macro functions, `files` the bytes of disks, `broken` streams that fail
+//! - `asked` calls a store, `lines` has the lines of what its calls give, `by_name` the macro functions, `files` the bytes of disks,
+//!   `broken` streams that fail, `long` disks of a test
 //! - `rows`, `evaluation`, `read_base`, `sessions`, `refusals`: what forms are answered
-//! - `calls`, `silent`, `turns`, `snapshots`, `callers`: the calls of a store
+//! - `calls`, `silent`, `turns`, `snapshots`, `callers`: the calls of a store; `wanted`: a session that is strict, and tells where
+//!   it ended
 //! - `campaign`: a device that stops at each of its calls in turn, and each kind of crash after that; `stopped`: what exactly is
-//!   left of one form or snapshot; `altered`: files that were altered; `memory`: a macro function that finds no memory
+//!   left of one form or snapshot; `altered`: files that were altered; `memory`: a macro function that finds no memory; `growth`:
+//!   calls that find none and are made again
+//! - Want of memory ends a test with an error, wherever it comes: an assertion that fails is an answer that has changed.
 //! - `versions`: files of version 1; `upgrades`: the command that makes files of version 2 of them
 //! - `macros`: the macro functions of the program
 //! - `words`: the words of the program; `commands`, by scripts of `runs`: its statuses, and real files; `exports`: the forms that
@@ -39,6 +43,10 @@ mod evaluation;
 mod exports;
 #[cfg(test)]
 mod files;
+#[cfg(test)]
+mod growth;
+#[cfg(test)]
+mod lines;
 #[cfg(test)]
 mod long;
 #[cfg(test)]
@@ -69,5 +77,7 @@ mod turns;
 mod upgrades;
 #[cfg(test)]
 mod versions;
+#[cfg(test)]
+mod wanted;
 #[cfg(test)]
 mod words;

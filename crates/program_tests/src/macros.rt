@@ -58,6 +58,14 @@ fn integers(alloc: Global, numbers: &[i128]) -> Result<Items<Datum>, AllocError>
     Ok(items)
 }
 
+/// Nothing where a function was registered. It is an error if it was not, for want of memory too.
+fn registered(given: Result<(), Refusal>) -> Result<(), Fail> {
+    match given {
+        Ok(()) => Ok(()),
+        Err(refusal) => Err(refusal.cause.into()),
+    }
+}
+
 #[test]
 fn six_functions_are_registered_and_answer(rt: HostRuntime) -> Result<(), Fail> {
     let alloc = rt.alloc();
@@ -76,37 +84,25 @@ fn six_functions_are_registered_and_answer(rt: HostRuntime) -> Result<(), Fail> 
     };
     assert!(rt; refusal.cause == Cause::Unknown);
     let Refusal { cause: _, function } = refusal;
-    assert!(rt;
-        macros
-            .register(FnName::new(b"NOTE").unwrap(), function)
-            .is_ok()
-    );
+    registered(macros.register(FnName::new(b"NOTE").unwrap(), function))?;
     let close: MacroFn = Box::new(alloc, |_call: &Call| Ok(Answer::Refused(1)))?;
-    assert!(rt;
-        macros
-            .register(FnName::new(b"CLOSE").unwrap(), close)
-            .is_ok()
-    );
+    registered(macros.register(FnName::new(b"CLOSE").unwrap(), close))?;
     let skip: MacroFn = Box::new(alloc, |_call: &Call| Ok(Answer::Nothing))?;
-    assert!(rt; macros.register(FnName::new(b"SKIP").unwrap(), skip).is_ok());
+    registered(macros.register(FnName::new(b"SKIP").unwrap(), skip))?;
     let unit: MacroFn = Box::new(
         alloc,
         move |call: &Call| -> Result<Answer, AllocError>
             requires { IsSoundCall call.now }
         { macro_functions::unit(alloc, call) },
     )?;
-    assert!(rt; macros.register(FnName::new(b"UNIT").unwrap(), unit).is_ok());
+    registered(macros.register(FnName::new(b"UNIT").unwrap(), unit))?;
     let scale: MacroFn = Box::new(
         alloc,
         |call: &Call| -> Result<Answer, AllocError>
             requires { IsSoundCall call.now }
         { Ok(macro_functions::scale(call)) },
     )?;
-    assert!(rt;
-        macros
-            .register(FnName::new(b"SCALE").unwrap(), scale)
-            .is_ok()
-    );
+    registered(macros.register(FnName::new(b"SCALE").unwrap(), scale))?;
     assert!(rt; !macros.is_whole() && !macros.covers(&table));
     let square: MacroFn = Box::new(
         alloc,
@@ -114,11 +110,7 @@ fn six_functions_are_registered_and_answer(rt: HostRuntime) -> Result<(), Fail> 
             requires { IsSoundCall call.now }
         { macro_functions::square(alloc, call) },
     )?;
-    assert!(rt;
-        macros
-            .register(FnName::new(b"SQUARE").unwrap(), square)
-            .is_ok()
-    );
+    registered(macros.register(FnName::new(b"SQUARE").unwrap(), square))?;
     assert!(rt; macros.is_whole() && macros.covers(&table));
     for (name, number, gathered, wanted) in rows(alloc)? {
         assert_eq!(rt;

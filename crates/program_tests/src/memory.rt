@@ -1,8 +1,9 @@
 //! A macro function that finds no memory: out of memory, and nothing has changed.
 
-use crate::asked::{Ask, asked, asked_with, form, session};
+use crate::asked::{Ask, asked_with, form, session, told};
 use crate::by_name::ByName;
-use crate::files::{AMPLE, Trouble};
+use crate::campaign::is_wanted;
+use crate::files::{AMPLE, Trouble, asked_in_memory, unfailed};
 use disk_trait::{FuseDisk, MemoryDisk};
 use std::alloc::Global;
 use std::test::Fail;
@@ -28,7 +29,8 @@ fn short_once(alloc: Global, call: u64) -> ByName {
 /// The text of these calls over a device that passes so many of its own, with functions of which one call finds no memory.
 fn short(alloc: Global, passed: u64, call: u64, calls: &[Ask<'_>]) -> Result<Vec<u8>, Trouble> {
     let disk = FuseDisk::new(MemoryDisk::new(alloc), passed);
-    let (text, _disk) = asked_with(alloc, disk, short_once(alloc, call), AMPLE, calls)?;
+    let (text, disk) = asked_with(alloc, disk, short_once(alloc, call), AMPLE, calls)?;
+    let _disk = unfailed(disk.into_inner())?;
     Ok(text)
 }
 
@@ -40,7 +42,7 @@ fn passed_by_two(alloc: Global) -> Result<u64, Trouble> {
             return Ok(passed);
         }
     }
-    Err(Trouble::Device)
+    Err(Trouble::Endless)
 }
 
 #[test]
@@ -51,10 +53,8 @@ fn a_form_without_memory_changes_nothing(rt: HostRuntime) -> Result<(), Fail> {
         // every device call would fail now
         let calls = [form(SQUARE), form(CLOSE), form(SET)];
         let text = short(alloc, two, call, &calls)?;
-        assert!(rt;
-            text.as_slice() == b"accepted\naccepted\nrefused 90\n".as_slice(),
-            "{call}"
-        );
+        let wanted: &[u8] = b"accepted\naccepted\nrefused 90\n";
+        assert!(rt; is_wanted(text.as_slice(), wanted)?, "{call}");
         // the same once more, with memory
         let calls = [
             form(SQUARE),
@@ -67,7 +67,7 @@ fn a_form_without_memory_changes_nothing(rt: HostRuntime) -> Result<(), Fail> {
         let text = short(alloc, u64::MAX, call, &calls)?;
         let wanted: &[u8] =
             b"accepted\naccepted\nrefused 90\nhalf A generation 1 records 2\naccepted 8\nhalf A generation 1 records 3\n";
-        assert!(rt; text.as_slice() == wanted, "{call}");
+        assert!(rt; is_wanted(text.as_slice(), wanted)?, "{call}");
     }
     Ok(())
 }
@@ -83,17 +83,18 @@ fn a_session_without_memory_ends(rt: HostRuntime) -> Result<(), Fail> {
             &[session(SESSION), Ask::Half, again],
         )?;
         let wanted: &[u8] = b"T\nT\nstore 90\nhalf A generation 1 records 2\n8\nend\n";
-        assert!(rt; text.as_slice() == wanted, "{call}");
+        assert!(rt; is_wanted(text.as_slice(), wanted)?, "{call}");
     }
     Ok(())
 }
 
 /// The text of an opening that replays the forms with functions of which one call finds no memory; and of the next one.
 fn replayed(alloc: Global, call: u64) -> Result<(Vec<u8>, Vec<u8>), Trouble> {
-    let (_text, disk) = asked(alloc, MemoryDisk::new(alloc), AMPLE, &[session(SESSION)])?;
+    let disk = MemoryDisk::new(alloc);
+    let (_text, disk) = asked_in_memory(alloc, disk, AMPLE, &[session(SESSION)])?;
     let (first, disk) = asked_with(alloc, disk, short_once(alloc, call), AMPLE, &[])?;
     let get = session(b"(GET 'A 'V)");
-    let (second, _disk) = asked(alloc, disk, AMPLE, &[get, Ask::Half])?;
+    let second = told(alloc, unfailed(disk)?, &[get, Ask::Half])?;
     Ok((first, second))
 }
 

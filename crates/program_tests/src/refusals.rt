@@ -1,9 +1,9 @@
 //! Refusals that a session answers.
 
-use crate::asked::{Opening, closed, open, session, told};
+use crate::asked::{closed, open, session, told};
 use crate::broken::{BrokenReader, FullWriter};
 use crate::by_name::ByName;
-use crate::files::{AMPLE, Trouble};
+use crate::files::{AMPLE, Trouble, trouble_of};
 use disk_trait::MemoryDisk;
 use prevalence_store::{Ending, Mode, Store};
 use std::alloc::{AllocError, Global};
@@ -113,14 +113,19 @@ fn unwritten(store: &mut Store<MemoryDisk, ByName>) -> Ending {
 
 /// How these two end, one after the other.
 fn broken_endings(alloc: Global) -> Result<(Ending, Ending), Trouble> {
-    let mut store = match open(alloc, MemoryDisk::new(alloc), AMPLE)? {
-        Opening::Opened(store) => store,
-        Opening::Refused(_, _) => return Err(Trouble::Device),
-    };
+    let mut store = open(alloc, MemoryDisk::new(alloc), AMPLE)?;
     let unread = unread(alloc, &mut store);
     let unwritten = unwritten(&mut store);
     let _disk = closed(store);
-    Ok((unread, unwritten))
+    Ok((of_a_stream(unread)?, of_a_stream(unwritten)?))
+}
+
+/// An ending that is none of memory or of the device. It is an error if it is one.
+fn of_a_stream(ending: Ending) -> Result<Ending, Trouble> {
+    match ending {
+        Ending::Store(number @ (60 | 90)) => Err(trouble_of(number)),
+        ending => Ok(ending),
+    }
 }
 
 #[test]

@@ -1,7 +1,7 @@
 //! Worked sessions: what is read, and what is answered.
 
-use crate::asked::{Ask, Serving, asked, session};
-use crate::files::{AMPLE, Trouble, left_after};
+use crate::asked::{Ask, Serving, session};
+use crate::files::{AMPLE, Trouble, asked_in_memory, left_after};
 use disk_trait::MemoryDisk;
 use prevalence_store::Mode;
 use std::alloc::Global;
@@ -270,7 +270,7 @@ fn difference(alloc: Global, rows: &[Row], most: usize) -> Result<Option<usize>,
             reads: u64::MAX,
             room: usize::MAX,
         };
-        let (text, left) = asked(alloc, disk, AMPLE, &[Ask::Serve(session)])?;
+        let (text, left) = asked_in_memory(alloc, disk, AMPLE, &[Ask::Serve(session)])?;
         if text.as_slice() != row.text {
             return Ok(Some(place));
         }

@@ -1,7 +1,8 @@
 //! Runs of the program over real files, and scripts of such runs with the texts that are wanted.
 
-use crate::broken::{BrokenReader, FullWriter};
+use crate::broken::{BrokenReader, FullWriter, Kept};
 use crate::by_name::ByName;
+use crate::files::{Trouble, trouble_of};
 use readtable_core::FnName;
 use std::alloc::{AllocError, Global};
 use std::io::{Read, Write};
@@ -17,14 +18,14 @@ fn run_over<M, I, O>(
     words: &[&str],
     input: &mut I,
     output: &mut O,
-) -> (u8, Vec<u8>)
+) -> (u8, Kept)
 where
     M: MacroFunctions + Drop,
     I: Read,
     O: Write,
     requires answers { M.answers macros }
 {
-    let mut faults = Vec::new(rt.alloc());
+    let mut faults = in_memory(rt.alloc());
     let status = program(rt, macros, words, input, output, &mut faults).code();
     (status, faults)
 }
@@ -41,6 +42,15 @@ pub enum Lack {
     Functions,
 }
 
+/// A stream that keeps what is written.
+pub fn in_memory(alloc: Global) -> Kept {
+    Kept {
+        text: Vec::new(alloc),
+        room: usize::MAX,
+        is_short: false,
+    }
+}
+
 /// What came of the program.
 #[derive(Drop)]
 pub struct Ran {
@@ -49,12 +59,12 @@ pub struct Ran {
     pub faults: Vec<u8>,
 }
 
-/// The program over an input, with all six macro functions unless it lacks something.
-pub fn run(rt: &HostRuntime, lack: Lack, words: &[&str], input: &[u8]) -> Ran {
+/// The program over an input, with all six macro functions unless it lacks something. Want of memory is an error.
+pub fn run(rt: &HostRuntime, lack: Lack, words: &[&str], input: &[u8]) -> Result<Ran, Trouble> {
     let alloc = rt.alloc();
     let mut reader = input;
     let mut broken = BrokenReader { has_begun: false };
-    let mut output = Vec::new(alloc);
+    let mut output = in_memory(alloc);
     // the borrow checker has to be told of the type of a name, which the macro functions hold
     let _name = FnName::new(b"SQUARE");
     let all = ByName::new(alloc, SixFunctions::new());
@@ -65,11 +75,14 @@ pub fn run(rt: &HostRuntime, lack: Lack, words: &[&str], input: &[u8]) -> Ran {
         Lack::Output => run_over(rt, all, words, &mut reader, &mut FullWriter),
         Lack::Functions => run_over(rt, none, words, &mut reader, &mut output),
     };
-    Ran {
-        status,
-        output,
-        faults,
+    if output.is_short || faults.is_short || faults.text.starts_with(b"! 90 ") {
+        return Err(Trouble::Memory);
     }
+    Ok(Ran {
+        status,
+        output: output.text,
+        faults: faults.text,
+    })
 }
 
 /// The words of a text, after the program's name; DIR stands for the folder, and a word that tells what is lacking counts for none.
@@ -115,7 +128,7 @@ pub fn told(
     input: &[u8],
 ) -> Result<Vec<u8>, Fail> {
     let words = words_of(rt.alloc(), folder, words)?;
-    text_of(rt.alloc(), &run(rt, lack, words.as_slice(), input))
+    text_of(rt.alloc(), &run(rt, lack, words.as_slice(), input)?)
 }
 
 /// What a run of a script lacks, by the character before its words.
@@ -143,6 +156,14 @@ fn input_and_text(alloc: Global, lines: &str) -> Result<(Vec<u8>, Vec<u8>), Allo
     Ok((input, wanted))
 }
 
+/// Whether a text of a run is the one that is wanted. It is an error if it is another one and tells of a fault of the device.
+pub fn is_wanted(found: &[u8], wanted: &[u8]) -> Result<bool, Fail> {
+    if found != wanted && found.starts_with(b"3\nstandard error: ! 60 ") {
+        return Err(trouble_of(60).into());
+    }
+    Ok(found == wanted)
+}
+
 /// Whether a run of a script has the text that is wanted.
 pub fn holds(rt: &HostRuntime, folder: &str, run: &'static str) -> Result<bool, Fail> {
     let Some((words, lines)) = run.split_once('\n') else {
@@ -150,7 +171,7 @@ pub fn holds(rt: &HostRuntime, folder: &str, run: &'static str) -> Result<bool, 
     };
     let (input, wanted) = input_and_text(rt.alloc(), lines)?;
     let found = told(rt, folder, lack_of(words), words, input.as_slice())?;
-    Ok(found == wanted)
+    is_wanted(found.as_slice(), wanted.as_slice())
 }
 
 /// The first run of a script that has another text. The words of a run stand after `$`; then its input, each line after `<`; and

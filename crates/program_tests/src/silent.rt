@@ -1,14 +1,14 @@
 //! Forms that write nothing: they are not logged, and touch no device.
 
 use crate::asked::{Ask, asked, form, session};
-use crate::files::{AMPLE, Trouble};
+use crate::files::{AMPLE, Trouble, asked_in_memory, unfailed};
 use disk_trait::{FuseDisk, MemoryDisk};
 use std::alloc::Global;
 use std::test::Fail;
 
 /// Whether these calls over fresh files of this limit have this text.
 fn is_told(alloc: Global, limit: u64, calls: &[Ask<'_>], wanted: &[u8]) -> Result<bool, Trouble> {
-    let (text, _disk) = asked(alloc, MemoryDisk::new(alloc), limit, calls)?;
+    let (text, _disk) = asked_in_memory(alloc, MemoryDisk::new(alloc), limit, calls)?;
     Ok(text.as_slice() == wanted)
 }
 
@@ -52,7 +52,8 @@ fn a_form_is_logged_where_it_writes(rt: HostRuntime) -> Result<(), Fail> {
 /// The text of a session over a device that passes so many calls.
 fn with_calls(alloc: Global, calls: u64, input: &[u8]) -> Result<Vec<u8>, Trouble> {
     let disk = FuseDisk::new(MemoryDisk::new(alloc), calls);
-    let (text, _disk) = asked(alloc, disk, AMPLE, &[session(input)])?;
+    let (text, disk) = asked(alloc, disk, AMPLE, &[session(input)])?;
+    let _disk = unfailed(disk.into_inner())?;
     Ok(text)
 }
 
@@ -64,7 +65,7 @@ fn without_device(alloc: Global, input: &[u8]) -> Result<Vec<u8>, Trouble> {
             return Ok(text);
         }
     }
-    Err(Trouble::Device)
+    Err(Trouble::Endless)
 }
 
 #[test]

@@ -1,7 +1,7 @@
 //! Snapshots: when a session takes them, what they leave, and steps one after the other.
 
-use crate::asked::{Ask, Serving, asked, session_in};
-use crate::files::{AMPLE, Files, Left, Trouble, disk_with, left_after};
+use crate::asked::{Ask, Serving, session_in};
+use crate::files::{AMPLE, Files, Left, Trouble, asked_in_memory, disk_with, left_after};
 use disk_trait::MemoryDisk;
 use prevalence_store::{Mode, Step};
 use std::alloc::Global;
@@ -83,7 +83,7 @@ fn is_as_wanted(alloc: Global, case: &Case) -> Result<bool, Trouble> {
         room: usize::MAX,
     };
     let calls = [Ask::Serve(session), Ask::Half];
-    let (text, _disk) = asked(alloc, MemoryDisk::new(alloc), case.limit, &calls)?;
+    let (text, _disk) = asked_in_memory(alloc, MemoryDisk::new(alloc), case.limit, &calls)?;
     Ok(text.as_slice() == case.text)
 }
 

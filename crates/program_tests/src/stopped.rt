@@ -1,8 +1,8 @@
 //! What a crash leaves of a form, or of a snapshot, that a device stops at each of its own calls.
 
-use crate::asked::{Ask, asked, form, session, told};
+use crate::asked::{Ask, form, session, told};
 use crate::campaign::{Stop, closed_half, device_calls, stopped};
-use crate::files::{AMPLE, Files, Trouble, crashed, files_of};
+use crate::files::{AMPLE, Files, Trouble, asked_in_memory, crashed, files_of};
 use disk_trait::{Crash, MemoryDisk};
 use std::alloc::Global;
 use std::test::Fail;
@@ -21,7 +21,7 @@ const CRASHES: [Crash; 4] = [
 /// Files whose store has the property 7 in half A.
 fn prepared(alloc: Global) -> Result<Files, Trouble> {
     let calls = [session(b"(SETF (GET 'A 'B) 7)\n")];
-    let (_text, disk) = asked(alloc, MemoryDisk::new(alloc), AMPLE, &calls)?;
+    let (_text, disk) = asked_in_memory(alloc, MemoryDisk::new(alloc), AMPLE, &calls)?;
     files_of(alloc, disk)
 }
 

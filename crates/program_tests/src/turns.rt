@@ -2,7 +2,8 @@
 
 use crate::asked::{Ask, Serving, session, told};
 use crate::by_name::ByName;
-use crate::files::{AMPLE, Trouble, left_after};
+use crate::files::{AMPLE, Trouble, left_after, trouble_of};
+use crate::lines::unfaulted;
 use disk_trait::MemoryDisk;
 use plist_state::Seed;
 use prevalence_store::Mode;
@@ -10,7 +11,7 @@ use std::alloc::Global;
 use std::cell::Cell;
 use std::io::{Read, Result as IoResult, Write};
 use std::test::Fail;
-use store_commands::{Report, SixFunctions, report_on, serve_on};
+use store_commands::{Report, SixFunctions, Status, report_on, serve_on};
 
 /// What a reader and a writer know of one another.
 #[derive(Drop)]
@@ -74,7 +75,7 @@ impl Write for Noted<'_> {
 
 /// How many reads there were before the first answer of a session that gets one byte a read; whether a read came before an answer
 /// was flushed, and whether the last one was not.
-fn watched(alloc: Global, input: &[u8]) -> (Option<u64>, bool, bool) {
+fn watched(alloc: Global, input: &[u8]) -> Result<(Option<u64>, bool, bool), Trouble> {
     let seen = nothing_seen();
     let mut reader = Counted {
         rest: input,
@@ -86,7 +87,7 @@ fn watched(alloc: Global, input: &[u8]) -> (Option<u64>, bool, bool) {
     };
     let macros = ByName::new(alloc, SixFunctions::new());
     let disk = MemoryDisk::new(alloc);
-    let _served = serve_on(
+    let served = serve_on(
         alloc,
         disk,
         macros,
@@ -96,11 +97,15 @@ fn watched(alloc: Global, input: &[u8]) -> (Option<u64>, bool, bool) {
         &mut reader,
         &mut writer,
     );
-    (writer.first, seen.is_late.get(), seen.waits.get())
+    match served {
+        Ok((ending, _disk, _macros)) => unfaulted(ending)?,
+        Err(unopened) => return Err(trouble_of(unopened.number)),
+    }
+    Ok((writer.first, seen.is_late.get(), seen.waits.get()))
 }
 
 /// Whether the text of the world, or the line on the half, is written to the output and not flushed.
-fn unflushed(alloc: Global, report: Report) -> (bool, bool) {
+fn unflushed(alloc: Global, report: Report) -> Result<(bool, bool), Trouble> {
     let seen = nothing_seen();
     let mut writer = Noted {
         seen: &seen,
@@ -108,18 +113,22 @@ fn unflushed(alloc: Global, report: Report) -> (bool, bool) {
     };
     let macros = ByName::new(alloc, SixFunctions::new());
     let disk = MemoryDisk::new(alloc);
-    let _report = report_on(alloc, disk, macros, Seed::fixed(), report, &mut writer);
-    (writer.first.is_some(), seen.waits.get())
+    match report_on(alloc, disk, macros, Seed::fixed(), report, &mut writer) {
+        Ok((Status::Fault(number), _disk, _macros)) => return Err(trouble_of(number)),
+        Ok(_) => {}
+        Err(unopened) => return Err(trouble_of(unopened.number)),
+    }
+    Ok((writer.first.is_some(), seen.waits.get()))
 }
 
 #[test]
 fn a_form_is_answered_before_the_next_read(rt: HostRuntime) -> Result<(), Fail> {
     let input = b"(SETF (GET 'A 'B) 7)\n(FROB)\n(GET 'A 'B)\n";
-    let (reads, is_late, waits) = watched(rt.alloc(), input);
+    let (reads, is_late, waits) = watched(rt.alloc(), input)?;
     assert!(rt; reads.is_some_and(|reads| reads < 21), "{reads:?}");
     assert_eq!(rt; (is_late, waits), (false, false));
     for report in [Report::Dump, Report::Verify] {
-        assert_eq!(rt; unflushed(rt.alloc(), report), (true, false));
+        assert_eq!(rt; unflushed(rt.alloc(), report)?, (true, false));
     }
     Ok(())
 }

@@ -1,16 +1,16 @@
 //! The command that makes files of version 2 of files of version 1, over a device that stops at each of its calls in turn, and each
 //! kind of crash after that.
 
-use crate::asked::{Ask, asked, told};
+use crate::asked::{Ask, told};
 use crate::by_name::ByName;
 use crate::campaign::{CRASHES, Remains, Stop};
-use crate::files::{AMPLE, Files, Trouble, crashed, disk_with};
+use crate::files::{AMPLE, Files, Trouble, asked_in_memory, crashed, disk_with, unfailed};
 use crate::versions::first_version;
 use disk_trait::{Crash, Disk, FuseDisk, MemoryDisk, OnceDisk};
 use plist_state::Seed;
 use std::alloc::Global;
 use std::test::Fail;
-use store_commands::{SixFunctions, upgrade_on};
+use store_commands::{SixFunctions, Status, upgrade_on};
 
 /// Upgrades the store of a disk: the text that is written, and the disk.
 fn upgraded<D: Disk + Drop>(alloc: Global, disk: D) -> Result<(Vec<u8>, D), Trouble> {
@@ -20,8 +20,22 @@ fn upgraded<D: Disk + Drop>(alloc: Global, disk: D) -> Result<(Vec<u8>, D), Trou
     let mut text = Vec::new(alloc);
     let macros = ByName::new(alloc, SixFunctions::new());
     match upgrade_on(alloc, disk, macros, Seed::fixed(), &mut text) {
-        Ok((_status, disk, _macros)) => Ok((text, disk)),
-        Err(unopened) => Ok((text, unopened.disk)),
+        Ok((status, disk, _macros)) => {
+            without_shortage(status)?;
+            Ok((text, disk))
+        }
+        Err(unopened) => {
+            without_shortage(Status::Fault(unopened.number))?;
+            Ok((text, unopened.disk))
+        }
+    }
+}
+
+/// Nothing where a command found memory: it is an error if it did not, or if its output in memory took nothing.
+fn without_shortage(status: Status) -> Result<(), Trouble> {
+    match status {
+        Status::Fault(68 | 90) => Err(Trouble::Memory),
+        _ => Ok(()),
     }
 }
 
@@ -41,13 +55,13 @@ fn stopped(alloc: Global, files: &Files, stop: Stop) -> Result<Remains, Trouble>
     Ok(Remains {
         text,
         has_failed,
-        disk,
+        disk: unfailed(disk)?,
     })
 }
 
 /// The texts of the world of a disk, of its upgrade, and of its world and its version then.
 fn finished(alloc: Global, disk: MemoryDisk) -> Result<Vec<u8>, Trouble> {
-    let (mut text, disk) = asked(alloc, disk, AMPLE, &[Ask::World])?;
+    let (mut text, disk) = asked_in_memory(alloc, disk, AMPLE, &[Ask::World])?;
     let (line, disk) = upgraded(alloc, disk)?;
     text.extend_from_slice(line.as_slice())?;
     let last = told(alloc, disk, &[Ask::World, Ask::Version])?;
@@ -84,7 +98,7 @@ fn difference(alloc: Global, files: &Files) -> Result<Option<(Stop, Crash)>, Tro
             return Ok(None);
         }
     }
-    Err(Trouble::Device)
+    Err(Trouble::Endless)
 }
 
 /// The end of the text of an upgrade of files of version 1 with the property 7.
@@ -105,7 +119,7 @@ fn an_upgrade_that_stops_is_made_whole_by_the_next(rt: HostRuntime) -> Result<()
 /// The texts of two upgrades of these files and of the half in use after each: the second takes no snapshot.
 fn upgraded_twice(alloc: Global, files: &Files) -> Result<Vec<u8>, Trouble> {
     let (mut text, disk) = upgraded(alloc, disk_with(alloc, files)?)?;
-    let (half, disk) = asked(alloc, disk, AMPLE, &[Ask::Half])?;
+    let (half, disk) = asked_in_memory(alloc, disk, AMPLE, &[Ask::Half])?;
     text.extend_from_slice(half.as_slice())?;
     let (line, disk) = upgraded(alloc, disk)?;
     text.extend_from_slice(line.as_slice())?;

@@ -1,7 +1,7 @@
 //! Files of version 1: they open with their worlds, go on in their version, and become version 2 at the next snapshot.
 
-use crate::asked::{Ask, asked, form, session, told};
-use crate::files::{AMPLE, Files, Left, Trouble, disk_with, files_of, left_after};
+use crate::asked::{Ask, form, session, told};
+use crate::files::{AMPLE, Files, Left, Trouble, asked_in_memory, disk_with, files_of, left_after};
 use disk_trait::MemoryDisk;
 use prevalence_store::{Mode, Step};
 use std::alloc::Global;
@@ -157,7 +157,7 @@ fn run_short(alloc: Global) -> Result<Vec<u8>, Trouble> {
         Ask::Half,
         Ask::Version,
     ];
-    let (mut text, disk) = asked(alloc, disk, 202, &calls)?;
+    let (mut text, disk) = asked_in_memory(alloc, disk, 202, &calls)?;
     let files = files_of(alloc, disk)?;
     text.extend_from_slice(if files.b.len() == 192 { b"192" } else { b"" })?;
     Ok(text)
@@ -177,7 +177,8 @@ fn with_snapshots(alloc: Global, inputs: [&[u8]; 3]) -> Result<Vec<u8>, Trouble>
     let mut text = Vec::new(alloc);
     let mut disk = MemoryDisk::new(alloc);
     for input in inputs {
-        let (answers, left) = asked(alloc, disk, AMPLE, &[session(input), Ask::Snapshot])?;
+        let calls = [session(input), Ask::Snapshot];
+        let (answers, left) = asked_in_memory(alloc, disk, AMPLE, &calls)?;
         text.extend_from_slice(answers.as_slice())?;
         disk = left;
     }

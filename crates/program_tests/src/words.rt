@@ -1,7 +1,7 @@
 //! The words of the program: which are refused, and what help is written.
 
+use crate::files::Trouble;
 use crate::runs::{Lack, Ran, run, words_of};
-use std::alloc::AllocError;
 use std::fs;
 use std::test::Fail;
 
@@ -158,10 +158,10 @@ fn is_told(found: &Ran) -> bool {
 }
 
 /// Whether the words of a row are judged as it says.
-fn is_judged(rt: &HostRuntime, row: &'static str) -> Result<bool, AllocError> {
+fn is_judged(rt: &HostRuntime, row: &'static str) -> Result<bool, Fail> {
     let (status, text) = row.split_once(' ').unwrap_or((row, ""));
     let words = words_of(rt.alloc(), "", text)?;
-    let found = run(rt, Lack::Nothing, words.as_slice(), b"7");
+    let found = run(rt, Lack::Nothing, words.as_slice(), b"7")?;
     Ok(status.parse() == Ok(found.status) && is_told(&found))
 }
 
@@ -185,27 +185,27 @@ const SILENT: [(&[&str], u8, &[u8]); 5] = [
 const NAMELESS: &[u8] = b"! 60 DEVICE\nthe folder has no name\n";
 
 /// Whether the words are judged with this status, and nothing is written.
-fn is_silent(rt: &HostRuntime, words: &[&str], status: u8, faults: &[u8]) -> bool {
-    let found = run(rt, Lack::Nothing, words, b"7");
-    found.status == status && found.output.is_empty() && found.faults.starts_with(faults)
+fn is_silent(rt: &HostRuntime, words: &[&str], status: u8, faults: &[u8]) -> Result<bool, Trouble> {
+    let found = run(rt, Lack::Nothing, words, b"7")?;
+    Ok(found.status == status && found.output.is_empty() && found.faults.starts_with(faults))
 }
 
 #[test]
 fn no_folder_is_the_present_one(rt: HostRuntime) -> Result<(), Fail> {
     for (words, status, faults) in SILENT {
-        assert!(rt; is_silent(&rt, words, status, faults), "{words:?}");
+        assert!(rt; is_silent(&rt, words, status, faults)?, "{words:?}");
     }
     assert!(rt; fs::metadata(&rt, "half-a").is_err());
     Ok(())
 }
 
 /// Whether the words of a row ask for a text that begins so.
-fn is_helped(rt: &HostRuntime, row: &'static str) -> Result<bool, AllocError> {
+fn is_helped(rt: &HostRuntime, row: &'static str) -> Result<bool, Fail> {
     let Some((words, start)) = row.split_once('\n') else {
         return Ok(false);
     };
     let words = words_of(rt.alloc(), "", words)?;
-    let found = run(rt, Lack::Nothing, words.as_slice(), b"7");
+    let found = run(rt, Lack::Nothing, words.as_slice(), b"7")?;
     Ok(found.status == 0 && found.output.starts_with(start.as_bytes()))
 }
 

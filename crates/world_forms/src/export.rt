@@ -4,7 +4,7 @@ ghost use Rattle.std.specs.Prelude.{◌≤◌};
 use crate::packages::push_packages;
 use crate::properties::push_properties;
 use crate::readtables::push_readtables;
-use crate::texts::{push_symbol, push_text};
+use crate::texts::{push_text, push_value};
 use package_table::standardized::KEYWORD;
 use plist_state::World;
 use std::alloc::{AllocError, Global};
@@ -58,7 +58,7 @@ fn push_current(forms: &mut Vec<u8>, world: &World, content: Content) -> Result<
         forms.extend_from_slice(b" (SETF *READ-BASE* ")?;
         push_decimal(forms, world.read_base())?;
         forms.extend_from_slice(b") (IN-READTABLE ")?;
-        push_symbol(forms, KEYWORD, world.current_readtable())?;
+        push_value(forms, (b"", b""), KEYWORD, world.current_readtable())?;
         forms.push(b')')?;
     }
     forms.extend_from_slice(b")")

@@ -1,5 +1,5 @@
 //! The forms that make the packages.
-use crate::texts::{push_symbol, push_text};
+use crate::texts::{push_call, push_text, push_value};
 use package_table::standardized::{COMMON_LISP, COMMON_LISP_USER, KEYWORD};
 use package_table::{PackageError, Packages};
 use std::alloc::{AllocError, Global};
@@ -18,17 +18,13 @@ fn is_standard(name: &[u8]) -> bool {
 }
 
 /// A form of an operator and texts.
-fn push_call(text: &mut Vec<u8>, operator: &[u8], texts: &[&[u8]]) -> Result<(), AllocError> {
-    text.push(b'(')?;
-    text.extend_from_slice(operator)?;
-    for argument in texts {
-        text.push(b' ')?;
-        push_text(text, argument)?;
-    }
-    text.extend_from_slice(b")\n")
+fn push_form(text: &mut Vec<u8>, operator: &[u8], texts: &[&[u8]]) -> Result<(), AllocError> {
+    push_call(text, operator, texts)?;
+    text.push(b'\n')?;
+    Ok(())
 }
 
-/// A form of an operator, a list of one symbol and the name of a package. In a list the symbol NIL is a symbol.
+/// A form of an operator, a symbol in a list and the name of a package: NIL alone would be the empty list.
 fn push_change(
     text: &mut Vec<u8>,
     operator: &[u8],
@@ -38,9 +34,9 @@ fn push_change(
 ) -> Result<(), AllocError> {
     text.push(b'(')?;
     text.extend_from_slice(operator)?;
-    text.extend_from_slice(b" '(")?;
-    push_symbol(text, home, name)?;
-    text.extend_from_slice(b") ")?;
+    text.push(b' ')?;
+    push_value(text, (b"'(", b")"), home, name)?;
+    text.push(b' ')?;
     push_text(text, owner)?;
     text.extend_from_slice(b")\n")
 }
@@ -55,7 +51,7 @@ fn push_own(
 ) -> Result<(), AllocError> {
     for name in listed(packages.own_names(alloc, owner))? {
         if !first.is_present(owner, name) {
-            push_call(text, b"INTERN", &[name, owner])?;
+            push_form(text, b"INTERN", &[name, owner])?;
         }
     }
     Ok(())
@@ -89,7 +85,7 @@ fn push_uses(
 ) -> Result<(), AllocError> {
     for used in listed(packages.uses(alloc, owner))?.as_slice() {
         if owner != COMMON_LISP_USER || used.as_slice() != COMMON_LISP {
-            push_call(text, b"USE-PACKAGE", &[used.as_slice(), owner])?;
+            push_form(text, b"USE-PACKAGE", &[used.as_slice(), owner])?;
         }
     }
     Ok(())
@@ -105,7 +101,7 @@ pub(crate) fn push_packages(
     let names = packages.package_names(alloc)?;
     for owner in &names {
         if !is_standard(owner) {
-            push_call(text, b"MAKE-PACKAGE", &[*owner])?;
+            push_form(text, b"MAKE-PACKAGE", &[*owner])?;
         }
     }
     for owner in &names {

@@ -2,7 +2,7 @@
 ghost use Rattle.std.specs.Prelude.{◌≡◌, true};
 ghost use Rattle.lisp_object.specs.Datum.{is_proper};
 
-use crate::texts::push_symbol;
+use crate::texts::{push_symbol, push_value};
 use canon_printer::print;
 use form_reader::{Limits, ReadOutcome, read_one};
 use package_table::Packages;
@@ -12,10 +12,9 @@ use readtable_core::Readtable;
 use std::alloc::{AllocError, Global};
 use user_macros::{Macros, NoFunctions};
 
-/// Adds the token of a symbol after a quote.
+/// Adds what evaluates to a symbol: its token after a quote.
 fn push_quoted(text: &mut Vec<u8>, home: &[u8], name: &[u8]) -> Result<(), AllocError> {
-    text.push(b'\'')?;
-    push_symbol(text, home, name)
+    push_value(text, (b"'", b""), home, name)
 }
 
 /// The form that sets a property.

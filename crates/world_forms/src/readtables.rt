@@ -1,7 +1,7 @@
 //! The forms that make the readtables.
 ghost use Rattle.std.specs.Prelude.{◌<◌, IfSome};
 
-use crate::texts::{push_character, push_symbol};
+use crate::texts::{push_character, push_symbol, push_value};
 use package_table::Packages;
 use package_table::standardized::KEYWORD;
 use plist_state::{STANDARD, World};
@@ -30,8 +30,14 @@ impl Forms<'_> {
         push_character(self.alloc, text, self.packages, character)
     }
 
+    /// The readtable as an argument.
+    fn push_table_name(&self, text: &mut Vec<u8>) -> Result<(), AllocError> {
+        text.push(b' ')?;
+        push_value(text, (b"", b""), KEYWORD, self.name)
+    }
+
     fn push_end(&self, text: &mut Vec<u8>) -> Result<(), AllocError> {
-        self.push_keyword(text, self.name)?;
+        self.push_table_name(text)?;
         text.extend_from_slice(b")\n")
     }
 
@@ -59,7 +65,7 @@ impl Forms<'_> {
         text.extend_from_slice(b"(SET-SYNTAX-FROM-CHAR")?;
         self.push_character(text, c)?;
         self.push_character(text, there)?;
-        self.push_keyword(text, self.name)?;
+        self.push_table_name(text)?;
         text.extend_from_slice(b" :STANDARD)\n")
     }
 
@@ -129,7 +135,7 @@ impl Forms<'_> {
         self.push_end(text)?;
         if table.case() != Case::Upcase {
             text.extend_from_slice(b"(SETF (READTABLE-CASE")?;
-            self.push_keyword(text, self.name)?;
+            self.push_table_name(text)?;
             text.push(b')')?;
             self.push_keyword(text, table.case().name())?;
             text.extend_from_slice(b")\n")?;

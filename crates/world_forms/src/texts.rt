@@ -3,26 +3,44 @@ ghost use Rattle.std.specs.Prelude.{◌<◌};
 
 use canon_printer::print;
 use lisp_object::Datum;
+use lisp_reading::Limits;
 use package_table::Packages;
 use package_table::standardized::{COMMON_LISP_USER, KEYWORD};
 use std::alloc::{AllocError, Global};
 
-/// Adds bytes between two marks, each mark and each backslash inside after a backslash.
-fn push_between(text: &mut Vec<u8>, mark: u8, bytes: &[u8]) -> Result<(), AllocError> {
-    text.push(mark)?;
-    for byte in bytes {
-        if *byte == mark || *byte == b'\\' {
-            text.push(b'\\')?;
-        }
-        text.push(*byte)?;
+/// Adds a byte, after a backslash if it would not stand for itself.
+fn push_byte(text: &mut Vec<u8>, byte: u8, is_escaped: bool) -> Result<(), AllocError> {
+    if is_escaped {
+        text.push(b'\\')?;
     }
-    text.push(mark)?;
+    text.push(byte)?;
     Ok(())
 }
 
 /// Adds a text.
 pub(crate) fn push_text(text: &mut Vec<u8>, bytes: &[u8]) -> Result<(), AllocError> {
-    push_between(text, b'"', bytes)
+    text.push(b'"')?;
+    for byte in bytes {
+        push_byte(text, *byte, *byte == b'"' || *byte == b'\\')?;
+    }
+    text.push(b'"')?;
+    Ok(())
+}
+
+/// Whether a character between bars needs a backslash: a bar, a backslash, and one whose syntax type is invalid (standard 2.1.4),
+/// which no token takes without one.
+fn is_escaped_in_bars(byte: u8) -> bool {
+    byte == b'|' || byte == b'\\' || byte < 8 || byte == 11 || (14 <= byte && byte < 32)
+}
+
+/// Adds a name between bars.
+fn push_barred(text: &mut Vec<u8>, name: &[u8]) -> Result<(), AllocError> {
+    text.push(b'|')?;
+    for byte in name {
+        push_byte(text, *byte, is_escaped_in_bars(*byte))?;
+    }
+    text.push(b'|')?;
+    Ok(())
 }
 
 /// Whether a name is read as it stands: a capital letter, and then capital letters, digits and hyphens.
@@ -41,7 +59,7 @@ fn push_name(text: &mut Vec<u8>, name: &[u8]) -> Result<(), AllocError> {
     if is_plain(name) {
         text.extend_from_slice(name)
     } else {
-        push_between(text, b'|', name)
+        push_barred(text, name)
     }
 }
 
@@ -54,6 +72,54 @@ pub(crate) fn push_symbol(text: &mut Vec<u8>, home: &[u8], name: &[u8]) -> Resul
         text.extend_from_slice(b"::")?;
     }
     push_name(text, name)
+}
+
+/// How many characters of a symbol's token come before its name.
+fn prefix_len(home: &[u8]) -> usize {
+    if home == KEYWORD {
+        1
+    } else if home == COMMON_LISP_USER {
+        0
+    } else {
+        home.len().saturating_add(2)
+    }
+}
+
+/// Whether the token of a symbol has more characters than one in a form may have.
+fn is_too_long(home: &[u8], name: &[u8]) -> bool {
+    prefix_len(home).saturating_add(name.len()) > Limits::form().token
+}
+
+/// Adds what evaluates to a symbol, with the marks round a token that keep it from being evaluated. A symbol whose token would be too
+/// long is the value of INTERN, which finds it.
+pub(crate) fn push_value(
+    text: &mut Vec<u8>,
+    (before, after): (&[u8], &[u8]),
+    home: &[u8],
+    name: &[u8],
+) -> Result<(), AllocError> {
+    if is_too_long(home, name) {
+        return push_call(text, b"INTERN", &[name, home]);
+    }
+    text.extend_from_slice(before)?;
+    push_symbol(text, home, name)?;
+    text.extend_from_slice(after)
+}
+
+/// Adds a call of an operator with texts.
+pub(crate) fn push_call(
+    text: &mut Vec<u8>,
+    operator: &[u8],
+    texts: &[&[u8]],
+) -> Result<(), AllocError> {
+    text.push(b'(')?;
+    text.extend_from_slice(operator)?;
+    for argument in texts {
+        text.push(b' ')?;
+        push_text(text, argument)?;
+    }
+    text.push(b')')?;
+    Ok(())
 }
 
 /// Adds a character below 128.

@@ -1,0 +1,77 @@
+//! Lines of the text of calls, and what they tell.
+
+use crate::files::{Trouble, trouble_of};
+use lisp_object::Datum;
+use prevalence_store::{Ended, Ending, Outcome, Place};
+use std::io::Write;
+
+/// A line of a word and a number.
+pub fn number_line(text: &mut Vec<u8>, word: &str, number: i128) -> Result<(), Trouble> {
+    match writeln!(text, "{word} {number}") {
+        Ok(()) => Ok(()),
+        Err(_) => Err(Trouble::Memory),
+    }
+}
+
+/// The line of how a session ended.
+pub fn ending_line(text: &mut Vec<u8>, ending: Ending) -> Result<(), Trouble> {
+    match ending {
+        Ending::End => Ok(text.extend_from_slice(b"end\n")?),
+        Ending::Reader(number) => number_line(text, "reader", i128::from(number)),
+        Ending::Store(number) => number_line(text, "store", i128::from(number)),
+    }
+}
+
+/// The line of a refusal that ended a session, with its place.
+fn place_line(text: &mut Vec<u8>, word: &str, number: u16, place: Place) -> Result<(), Trouble> {
+    let Place { forms, start, at } = place;
+    match writeln!(text, "{word} {number} forms {forms} start {start} at {at}") {
+        Ok(()) => Ok(()),
+        Err(_) => Err(Trouble::Memory),
+    }
+}
+
+/// The line of how a session ended that tells where.
+pub fn ended_line(text: &mut Vec<u8>, ended: Ended) -> Result<(), Trouble> {
+    match ended {
+        Ended::End => Ok(text.extend_from_slice(b"end\n")?),
+        Ended::Unreadable(number, place) => place_line(text, "reader", number, place),
+        Ended::Unaccepted(number, place) => place_line(text, "strict", number, place),
+        Ended::Store(number) => number_line(text, "store", i128::from(number)),
+    }
+}
+
+/// Nothing where a session ended in no fault. It is an error if it did, and one of memory if a writer in memory took nothing.
+pub fn unfaulted(ending: Ending) -> Result<(), Trouble> {
+    match ending {
+        Ending::End | Ending::Reader(_) => Ok(()),
+        Ending::Store(68) => Err(Trouble::Memory),
+        Ending::Store(number) => Err(trouble_of(number)),
+    }
+}
+
+/// The line of what a form or a snapshot gave.
+pub fn outcome_line(text: &mut Vec<u8>, outcome: &Outcome) -> Result<(), Trouble> {
+    match outcome {
+        Outcome::Accepted(Datum::Integer(number)) => number_line(text, "accepted", *number),
+        Outcome::Accepted(_) => Ok(text.extend_from_slice(b"accepted\n")?),
+        Outcome::Snapshotted => Ok(text.extend_from_slice(b"snapshotted\n")?),
+        Outcome::Refused(number) => number_line(text, "refused", i128::from(*number)),
+    }
+}
+
+/// The lines of what steps gave.
+pub fn outcome_lines(text: &mut Vec<u8>, outcomes: &[Outcome]) -> Result<(), Trouble> {
+    for outcome in outcomes {
+        outcome_line(text, outcome)?;
+    }
+    Ok(())
+}
+
+/// Whether a line tells of want of memory.
+pub fn is_short(line: &[u8]) -> bool {
+    matches!(
+        line,
+        b"refused 90" | b"unrun 90" | b"store 90" | b"unopened 90"
+    )
+}
