@@ -1,5 +1,5 @@
 -- What clap makes of the words of a command.
-use Rattle.std.proofs.Common.{if◌then◌else◌, ◌≡◌, ◌≢◌, ◌==◌, ◌∙◌, ◌&&◌, ◌⊎◌, ◌<◌, ◌≤◌, ◌++◌, ◌^◌, ◌-◌, ℕ, Bool, List, [], ◌∷◌, None, Some, codes, true, false, refl, rules, ap, sym, subst, inl, inr, arith}
+use Rattle.std.proofs.Common.{if◌then◌else◌, ◌≡◌, ◌≢◌, ◌==◌, ◌∙◌, ◌&&◌, ◌⊎◌, ◌<◌, ◌≤◌, ◌++◌, ◌^◌, ◌-◌, ℕ, Bool, List, [], ◌∷◌, None, Some, codes, true, false, refl, rules, ap, ap₂, sym, subst, inl, inr, arith}
 use Rattle.std.proofs.lemmas.Str.Parse.{digit_from_value}
 use Rattle.std.specs.Str.Parse.{IsNumeral, digits_value, without_leading_plus}
 use Rattle.clap.specs.ValueTests.{is_unsigned_in}
@@ -38,8 +38,8 @@ pub record IsRight (words : List Text) (folder : Text) (existing : Bool) (task :
 abbrev wanting : Mode → ℕ → Bool → Wanted
 wanting mode every strict = record { mode = mode; snapshot_every = every; strict = strict }
 
-wanted_is : (wanted : Wanted) (every : ℕ) → wanted.snapshot_every ≡ every → wanted ≡ wanting wanted.mode every wanted.strict
-wanted_is wanted every is = ap (λ n. wanting wanted.mode n wanted.strict) is
+wanted_is : (wanted : Wanted) (every : ℕ) (strict : Bool) → wanted.snapshot_every ≡ every → wanted.strict ≡ strict → wanted ≡ wanting wanted.mode every strict
+wanted_is wanted every strict is same = ap₂ (λ n b. wanting wanted.mode n b) is same
 
 -- words that are written out but for the program's name, the folder and the number
 module _ (program : Text) (x : ℕ) (xs : Text) (e : (x == 45) ≡ false) where
@@ -120,31 +120,31 @@ module _ (program : Text) (x : ℕ) (xs : Text) (e : (x == 45) ≡ false) where
 
   right_current_existing : IsRight (program ∷ codes "run" ∷ (x ∷ xs) ∷ codes "--existing" ∷ []) (x ∷ xs) true (Run (wanting Current 0 false))
   unfolding clap_on_literals
-  right_current_existing = record { taken = simp e; faultless = simp e; asked = simp e }
+  right_current_existing = record { taken = simp e; faultless = rw e (rw e refl); asked = rw e (rw e refl) }
 
   right_current_strict_any : IsRight (program ∷ codes "run" ∷ (x ∷ xs) ∷ codes "--strict" ∷ []) (x ∷ xs) false (Run (wanting Current 0 true))
   unfolding clap_on_literals
-  right_current_strict_any = record { taken = simp e; faultless = simp e; asked = simp e }
+  right_current_strict_any = record { taken = simp e; faultless = rw e (rw e refl); asked = rw e (rw e refl) }
 
   right_current_strict_existing : IsRight (program ∷ codes "run" ∷ (x ∷ xs) ∷ codes "--strict" ∷ codes "--existing" ∷ []) (x ∷ xs) true (Run (wanting Current 0 true))
   unfolding clap_on_literals
-  right_current_strict_existing = record { taken = simp e; faultless = simp e; asked = simp e }
+  right_current_strict_existing = record { taken = rw e (rw e refl); faultless = rw e (rw e refl); asked = rw e (rw e refl) }
 
   right_rescue_any : IsRight (program ∷ codes "run" ∷ (x ∷ xs) ∷ codes "--rescue" ∷ []) (x ∷ xs) false (Run (wanting Rescue 0 false))
   unfolding clap_on_literals
-  right_rescue_any = record { taken = simp e; faultless = simp e; asked = simp e }
+  right_rescue_any = record { taken = simp e; faultless = rw e (rw e refl); asked = rw e (rw e refl) }
 
   right_rescue_existing : IsRight (program ∷ codes "run" ∷ (x ∷ xs) ∷ codes "--rescue" ∷ codes "--existing" ∷ []) (x ∷ xs) true (Run (wanting Rescue 0 false))
   unfolding clap_on_literals
-  right_rescue_existing = record { taken = simp e; faultless = simp e; asked = simp e }
+  right_rescue_existing = record { taken = rw e (rw e refl); faultless = rw e (rw e refl); asked = rw e (rw e refl) }
 
   right_rescue_strict_any : IsRight (program ∷ codes "run" ∷ (x ∷ xs) ∷ codes "--rescue" ∷ codes "--strict" ∷ []) (x ∷ xs) false (Run (wanting Rescue 0 true))
   unfolding clap_on_literals
-  right_rescue_strict_any = record { taken = simp e; faultless = simp e; asked = simp e }
+  right_rescue_strict_any = record { taken = rw e (rw e refl); faultless = rw e (rw e refl); asked = rw e (rw e refl) }
 
   right_rescue_strict_existing : IsRight (program ∷ codes "run" ∷ (x ∷ xs) ∷ codes "--rescue" ∷ codes "--strict" ∷ codes "--existing" ∷ []) (x ∷ xs) true (Run (wanting Rescue 0 true))
   unfolding clap_on_literals
-  right_rescue_strict_existing = record { taken = simp e; faultless = simp e; asked = simp e }
+  right_rescue_strict_existing = record { taken = rw e (rw e refl); faultless = rw e (rw e refl); asked = rw e (rw e refl) }
 
   right_run : (mode : Mode) (strict existing : Bool) → IsRight (program ∷ codes "run" ∷ (x ∷ xs) ∷ (flag_for mode ++ (strict_for strict ++ existing_for existing))) (x ∷ xs) existing (Run (wanting mode 0 strict))
   right_run Current false false = right_current_any
@@ -164,49 +164,35 @@ module _ (program : Text) (x : ℕ) (xs : Text) (e : (x == 45) ≡ false) where
     left_kinds : or_else (or_else (or_else (if is_unsigned_in 1 1000000 (y ∷ ys) then [] else (ValueValidation ∷ [])) []) []) [] ≡ []
     left_kinds = rw passes refl
 
-    right_current_every : IsRight (program ∷ codes "run" ∷ (x ∷ xs) ∷ codes "--snapshot-every" ∷ (y ∷ ys) ∷ []) (x ∷ xs) false
-        (Run (wanting Current (every_of_number (Some (y ∷ ys))) false))
+    current_every_taken : takes command_line (program ∷ codes "run" ∷ (x ∷ xs) ∷ codes "--snapshot-every" ∷ (y ∷ ys) ∷ []) ≡ true
     unfolding clap_on_literals
-    right_current_every = record {
-      taken = simp e (rw (d, d) left);
-      faultless = simp e (rw (d, d) left_kinds);
-      asked = simp e (rw (d, d) refl);
-    }
+    current_every_taken = simp e (rw (d, d) left)
 
-    right_current_strict_every : IsRight (program ∷ codes "run" ∷ (x ∷ xs) ∷ codes "--strict" ∷ codes "--snapshot-every" ∷ (y ∷ ys) ∷ []) (x ∷ xs) false
-        (Run (wanting Current (every_of_number (Some (y ∷ ys))) true))
+    current_every_faultless : fault_of command_line (program ∷ codes "run" ∷ (x ∷ xs) ∷ codes "--snapshot-every" ∷ (y ∷ ys) ∷ []) ≡ []
     unfolding clap_on_literals
-    right_current_strict_every = record {
-      taken = simp e (rw (d, d) left);
-      faultless = simp e (rw (d, d) left_kinds);
-      asked = simp e (rw (d, d) refl);
-    }
+    current_every_faultless = simp e (rw (d, d) left_kinds)
 
-    right_rescue_every : IsRight (program ∷ codes "run" ∷ (x ∷ xs) ∷ codes "--rescue" ∷ codes "--snapshot-every" ∷ (y ∷ ys) ∷ []) (x ∷ xs) false
-        (Run (wanting Rescue (every_of_number (Some (y ∷ ys))) false))
+    current_every_asked : asked_in (program ∷ codes "run" ∷ (x ∷ xs) ∷ codes "--snapshot-every" ∷ (y ∷ ys) ∷ []) ≡ Some (x ∷ xs, false, Run (wanting Current (every_of_number (Some (y ∷ ys))) false))
     unfolding clap_on_literals
-    right_rescue_every = record {
-      taken = simp e (rw (d, d) left);
-      faultless = simp e (rw (d, d) left_kinds);
-      asked = simp e (rw (d, d) refl);
-    }
+    current_every_asked = simp e (rw (d, d) (refl {a = Some (x ∷ xs, false, Run (wanting Current (every_of_number (Some (y ∷ ys))) false))}))
 
-    right_rescue_strict_every : IsRight (program ∷ codes "run" ∷ (x ∷ xs) ∷ codes "--rescue" ∷ codes "--strict" ∷ codes "--snapshot-every" ∷ (y ∷ ys) ∷ []) (x ∷ xs) false
-        (Run (wanting Rescue (every_of_number (Some (y ∷ ys))) true))
+    rescue_every_taken : takes command_line (program ∷ codes "run" ∷ (x ∷ xs) ∷ codes "--rescue" ∷ codes "--snapshot-every" ∷ (y ∷ ys) ∷ []) ≡ true
     unfolding clap_on_literals
-    right_rescue_strict_every = record {
-      taken = simp e (rw (d, d) left);
-      faultless = simp e (rw (d, d) left_kinds);
-      asked = simp e (rw (d, d) refl);
-    }
+    rescue_every_taken = simp e (rw (d, d) left)
 
-    right_every : (mode : Mode) (strict : Bool)
-        → IsRight (program ∷ codes "run" ∷ (x ∷ xs) ∷ (flag_for mode ++ (strict_for strict ++ codes "--snapshot-every" ∷ (y ∷ ys) ∷ []))) (x ∷ xs) false
-        (Run (wanting mode (every_of_number (Some (y ∷ ys))) strict))
-    right_every Current false = right_current_every
-    right_every Current true = right_current_strict_every
-    right_every Rescue false = right_rescue_every
-    right_every Rescue true = right_rescue_strict_every
+    rescue_every_faultless : fault_of command_line (program ∷ codes "run" ∷ (x ∷ xs) ∷ codes "--rescue" ∷ codes "--snapshot-every" ∷ (y ∷ ys) ∷ []) ≡ []
+    unfolding clap_on_literals
+    rescue_every_faultless = simp e (rw (d, d) left_kinds)
+
+    rescue_every_asked : asked_in (program ∷ codes "run" ∷ (x ∷ xs) ∷ codes "--rescue" ∷ codes "--snapshot-every" ∷ (y ∷ ys) ∷ []) ≡ Some (x ∷ xs, false, Run (wanting Rescue (every_of_number (Some (y ∷ ys))) false))
+    unfolding clap_on_literals
+    rescue_every_asked = simp e (rw (d, d) (refl {a = Some (x ∷ xs, false, Run (wanting Rescue (every_of_number (Some (y ∷ ys))) false))}))
+
+    right_every : (mode : Mode)
+        → IsRight (program ∷ codes "run" ∷ (x ∷ xs) ∷ (flag_for mode ++ codes "--snapshot-every" ∷ (y ∷ ys) ∷ [])) (x ∷ xs) false
+        (Run (wanting mode (every_of_number (Some (y ∷ ys))) false))
+    right_every Current = record { taken = current_every_taken; faultless = current_every_faultless; asked = current_every_asked }
+    right_every Rescue = record { taken = rescue_every_taken; faultless = rescue_every_faultless; asked = rescue_every_asked }
 
 differs : (x y : ℕ) → x ≢ y → (x == y) ≡ false
 differs x y apart = search rules
@@ -232,13 +218,13 @@ module _ (y : ℕ) (ys : Text) (numeral : IsNumeral 10 (y ∷ ys)) where
   number_is every is above below = rw (in_range 0 (2 ^ 64 - 1) every is (omega arith) (omega arith) (omega arith)) (ap (digits_value 10) bare ∙ is)
 
 module _ (program : Text) (x : ℕ) (xs : Text) (e : (x == 45) ≡ false) where
-  right_number : (mode : Mode) (strict : Bool) (number : Text) (every : ℕ) → IsNumeral 10 number → digits_value 10 number ≡ every → 1 ≤ every → every ≤ 1000000
-      → IsRight (program ∷ codes "run" ∷ (x ∷ xs) ∷ (flag_for mode ++ (strict_for strict ++ codes "--snapshot-every" ∷ number ∷ []))) (x ∷ xs) false (Run (wanting mode every strict))
-  right_number mode strict [] every numeral is above below = let none : 0 < 0 = numeral.0 in absurd (omega arith)
-  right_number mode strict (y ∷ ys) every numeral is above below =
-      subst (λ n. IsRight (program ∷ codes "run" ∷ (x ∷ xs) ∷ (flag_for mode ++ (strict_for strict ++ codes "--snapshot-every" ∷ (y ∷ ys) ∷ []))) (x ∷ xs) false (Run (wanting mode n strict)))
+  right_number : (mode : Mode) (number : Text) (every : ℕ) → IsNumeral 10 number → digits_value 10 number ≡ every → 1 ≤ every → every ≤ 1000000
+      → IsRight (program ∷ codes "run" ∷ (x ∷ xs) ∷ (flag_for mode ++ codes "--snapshot-every" ∷ number ∷ [])) (x ∷ xs) false (Run (wanting mode every false))
+  right_number mode [] every numeral is above below = let none : 0 < 0 = numeral.0 in absurd (omega arith)
+  right_number mode (y ∷ ys) every numeral is above below =
+      subst (λ n. IsRight (program ∷ codes "run" ∷ (x ∷ xs) ∷ (flag_for mode ++ codes "--snapshot-every" ∷ (y ∷ ys) ∷ [])) (x ∷ xs) false (Run (wanting mode n false)))
       (number_is y ys numeral every is above below)
-      (right_every program x xs e y ys (differs y 45 (no_hyphen y ys numeral)) (in_range y ys numeral 1 1000000 every is above below (omega arith)) mode strict)
+      (right_every program x xs e y ys (differs y 45 (no_hyphen y ys numeral)) (in_range y ys numeral 1 1000000 every is above below (omega arith)) mode)
 
   right_plain : (line : List Text) (existing : Bool) (task : Task) → IsLine line (x ∷ xs) existing task → IsRight (program ∷ line) (x ∷ xs) existing task
   right_plain line existing Snapshot is = rw is (right_snapshot program x xs e existing)
@@ -246,10 +232,15 @@ module _ (program : Text) (x : ℕ) (xs : Text) (e : (x == 45) ≡ false) where
   right_plain line existing (Export content) is = rw is (right_content program x xs e content existing)
   right_plain line existing (Tell Dump) is = rw is (right_dump program x xs e existing)
   right_plain line existing (Tell Verify) is = rw is (right_verify program x xs e existing)
-  right_plain line false (Run wanted) (option, line_is, inl none) = rw (line_is, wanted_is wanted 0 none.0, none.1) (right_run program x xs e wanted.mode wanted.strict false)
-  right_plain line false (Run wanted) (option, line_is, inr given) =
-      rw (line_is, given.1) (right_number wanted.mode wanted.strict given.0 wanted.snapshot_every given.2 given.3 given.4 given.5)
-  right_plain line true (Run wanted) (none, line_is) = rw (line_is, wanted_is wanted 0 none) (right_run program x xs e wanted.mode wanted.strict true)
+  right_plain line false (Run wanted) (inl (none, line_is)) =
+      rw line_is (subst (λ (w : Wanted). IsRight (program ∷ codes "run" ∷ (x ∷ xs) ∷ (flag_for wanted.mode ++ (strict_for wanted.strict ++ []))) (x ∷ xs) false (Run w))
+      (sym (wanted_is wanted 0 wanted.strict none refl)) (right_run program x xs e wanted.mode wanted.strict false))
+  right_plain line false (Run wanted) (inr (lax, number, line_is, (numeral, value, above, below))) =
+      rw line_is (subst (λ (w : Wanted). IsRight (program ∷ codes "run" ∷ (x ∷ xs) ∷ (flag_for wanted.mode ++ codes "--snapshot-every" ∷ number ∷ [])) (x ∷ xs) false (Run w))
+      (sym (wanted_is wanted wanted.snapshot_every false refl lax)) (right_number wanted.mode number wanted.snapshot_every numeral value above below))
+  right_plain line true (Run wanted) (none, line_is) =
+      rw line_is (subst (λ (w : Wanted). IsRight (program ∷ codes "run" ∷ (x ∷ xs) ∷ (flag_for wanted.mode ++ (strict_for wanted.strict ++ existing_for true))) (x ∷ xs) true (Run w))
+      (sym (wanted_is wanted 0 wanted.strict none refl)) (right_run program x xs e wanted.mode wanted.strict true))
 
 pub right_line : (words : List Text) (folder : Text) (existing : Bool) (task : Task) → AsksFor words folder existing task → IsRight words folder existing task
 right_line words [] existing task asks = absurd asks.4

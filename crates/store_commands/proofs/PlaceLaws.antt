@@ -1,5 +1,5 @@
 -- Places after one text, and then after another.
-use Rattle.std.proofs.Common.{◌≡◌, ◌==◌, ◌+◌, ◌≤◌, ℕ, if◌then◌else◌, List, [], ◌∷◌, ◌++◌, Option, None, Some, length, take, append-nil, append_assoc, refl, sym, ap, subst, ◌∙◌, arith}
+use Rattle.std.proofs.Common.{◌≡◌, ◌==◌, ◌+◌, ◌-◌, ◌≤◌, ℕ, if◌then◌else◌, List, [], ◌∷◌, ◌++◌, Option, None, Some, length, take, append-nil, append_assoc, refl, sym, ap, subst, ◌∙◌, arith}
 use Rattle.std.proofs.lemmas.List.{length-append}
 use Rattle.std.proofs.Math.Seq.{take-append-add}
 use Rattle.std.specs.Prelude.{IfSome}
@@ -69,3 +69,13 @@ spot_found before (Some later) spot older newer given bytes count is many (withi
     let same : bytes ≡ length had.0 + count = omega (arith, many, before_them) in
     let taken : take bytes given ≡ had.0 ++ take count kept = ap (λ n. take n given) same ∙ ap (take (length had.0 + count)) had.1 ∙ take-append-add had.0 kept count in
     (omega (arith, all, same, within), subst (IsSpotAfter later) (sym taken) (spot_moved spot later had.0 (take count kept) had.2 moved))
+
+-- the rest of so many bytes lies in a second text
+pub moved_two : (spot mid : Spot) (one other : List ℕ) (count : ℕ) (result : Option Spot) → length one ≤ count → count - length one ≤ length other → IsMoved spot one mid
+    → IfSome result (IsMoved mid (take (count - length one) other)) → IfSome result (λ later. (count ≤ length (one ++ other)) × IsMoved spot (take count (one ++ other)) later)
+moved_two spot mid one other count None longer fits first second = tt
+moved_two spot mid one other count (Some later) longer fits first second =
+    let both = length-append one other in
+    let parts : count ≡ length one + (count - length one) = omega (arith, longer) in
+    let taken : take count (one ++ other) ≡ one ++ take (count - length one) other = ap (λ n. take n (one ++ other)) parts ∙ take-append-add one other (count - length one) in
+    (omega (arith, both, longer, fits), subst (λ t. IsMoved spot t later) (sym taken) (moved_on spot mid later one (take (count - length one) other) first second))

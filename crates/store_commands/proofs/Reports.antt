@@ -13,6 +13,7 @@ use Rattle.store_commands.specs.Texts.{TellsText, WritesOut}
 use Rattle.store_commands.specs.declared.fault.Unwritten.{Unwritten}
 use Rattle.store_commands.specs.declared.status.Status.{Status}
 use Rattle.store_commands.specs.declared.status.Status.TheVariants.{Done, Helped, FormRefused, WordsRefused, LeftOut, Fault}
+use Rattle.store_commands.specs.declared.told.Told.{Told}
 use Rattle.store_commands.specs.declared.words.Report.{Report}
 use Rattle.store_commands.specs.declared.words.Report.TheVariants.{Dump, Verify}
 use Rattle.store_commands.specs.declared.words.Task.TheVariants.{Tell}
@@ -87,10 +88,10 @@ module _ (functions : Functions) {D R : Type 0} (state : D → State) (disk : D)
   verify_writes LeftOut told = absurd told.tells
 
   -- what a report writes that ends well, and one that is broken off
-  pub report_writes : (report : Report) (status : Status) (input : List ℕ) → IsReport functions state report disk macros held written status back
-      → TaskWrites functions (Tell report) status input had written
-  report_writes Dump status input told = dump_writes status told
-  report_writes Verify status input told = verify_writes status told
+  pub report_writes : (report : Report) (status : Status) (said : Told) (input : List ℕ) → IsReport functions state report disk macros held written status back
+      → TaskWrites functions (Tell report) status said input had written
+  report_writes Dump status said input told = dump_writes status told
+  report_writes Verify status said input told = verify_writes status told
 
   pub report_breaks : (report : Report) (status : Status) (number : ℕ) (input : List ℕ) → status ≡ Fault number → IsReport functions state report disk macros held written status back
       → TaskBreaksOff functions (Tell report) input had written

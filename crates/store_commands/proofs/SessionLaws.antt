@@ -276,6 +276,7 @@ module _ (functions : Functions) (wanted : Wanted) {D R : Type 0} (state : D →
 
   pub answers_input : (ended : Ended) (told : Told) → IsToldOf ended told → ServesSo ended → (input held : List ℕ) → had ≡ Some input → held_now ≡ Some held
       → AnswersInput functions wanted (status_of_ended ended) told input held written
+  unfolding done_input
   answers_input ways.End told none served input held left holds =
       let done = done_input functions wanted.mode state old new w had has held_now written served.0 input held left holds in
       (w, done.0, done.1, λ strict. sym (ap (λ (p : Progress). p.refused) (answered_done functions wanted.mode state old new w had has held_now written served.0.text served.0.serves)) ∙ served.1 strict)

@@ -185,7 +185,7 @@ module _ (functions : Functions) {D R : Type 0} (state : D → State) (macros : 
     unopened = λ number is of. absurd (text_of_no_opening _ _ _ status number is done.tells of);
     fault = text_fault _ _ _ status done.tells;
     reads = λ text had. ap remaining same ∙ had;
-    writes = λ text had reads holds. report_writes functions state disk macros (contents held) (contents written) back had holds report status text done;
+    writes = λ text had reads holds. report_writes functions state disk macros (contents held) (contents written) back had holds report status told text done;
     breaks_off = λ text had number reads holds is.
         report_breaks functions state disk macros (contents held) (contents written) back had holds report status number text is done;
   }
@@ -258,8 +258,8 @@ IsToldAfter told later = ((told ≡ Nothing) × (left_out_of later ≡ [])) ⊎ 
 pub kept_so : (ended : Ended) (told later : Told) → IsToldAfter told later → IsToldOf ended told → IsToldOf ended later
 kept_so ended told later (inr same) tells = subst (IsToldOf ended) (sym same) tells
 kept_so End told later (inl none) tells = tt
-kept_so (Unreadable number place) told later (inl none) (refusal, is, same) = absurd (cc)
-kept_so (Unaccepted number place) told later (inl none) (refusal, is, same) = absurd (cc)
+kept_so (Unreadable number place) told later (inl none) (refusal, is, same_number, same_place) = absurd (cc)
+kept_so (Unaccepted number place) told later (inl none) (refusal, is, same_number, same_place) = absurd (cc)
 kept_so (Store number) told later (inl none) tells = tt
 
 kept_out : (told later : Told) → IsToldAfter told later → left_out_of told ≡ left_out_of later

@@ -172,21 +172,21 @@ abbrev pub data_for : Content → List Text
 data_for World = []
 data_for Data = codes "--data" ∷ []
 
--- the words of the option on snapshots: none for 0, and a decimal number from 1 to 1,000,000 else
-abbrev pub IsEvery : ℕ → List Text → Type 0
-IsEvery every words =
-    ((every ≡ 0) × (words ≡ []))
-    ⊎ ((number : Text) × (words ≡ codes "--snapshot-every" ∷ number ∷ []) × IsNumeral 10 number × (digits_value 10 number ≡ every) × (1 ≤ every) × (every ≤ 1000000))
-
 -- the flag for a store that has to be there
 abbrev pub existing_for : Bool → List Text
 existing_for false = []
 existing_for true = codes "--existing" ∷ []
 
--- The words of a command on this folder that asks for this. A number of snapshots beside `--existing` is not among them.
+-- the option on snapshots: a decimal number from 1 to 1,000,000
+abbrev pub IsEvery : ℕ → Text → Type 0
+IsEvery every number = IsNumeral 10 number × (digits_value 10 number ≡ every) × (1 ≤ every) × (every ≤ 1000000)
+
+-- The words of a command on this folder that asks for this. A number of snapshots beside `--existing` or `--strict` is not among them.
 abbrev pub IsLine : List Text → Text → Bool → Task → Type 0
 IsLine words folder false (Run wanted) =
-    (option : List Text) × (words ≡ codes "run" ∷ folder ∷ (flag_for wanted.mode ++ (strict_for wanted.strict ++ option))) × IsEvery wanted.snapshot_every option
+    ((wanted.snapshot_every ≡ 0) × (words ≡ codes "run" ∷ folder ∷ (flag_for wanted.mode ++ (strict_for wanted.strict ++ []))))
+    ⊎ ((wanted.strict ≡ false) × (number : Text) × (words ≡ codes "run" ∷ folder ∷ (flag_for wanted.mode ++ codes "--snapshot-every" ∷ number ∷ []))
+    × IsEvery wanted.snapshot_every number)
 IsLine words folder true (Run wanted) =
     (wanted.snapshot_every ≡ 0) × (words ≡ codes "run" ∷ folder ∷ (flag_for wanted.mode ++ (strict_for wanted.strict ++ existing_for true)))
 IsLine words folder existing Snapshot = words ≡ codes "snapshot" ∷ folder ∷ existing_for existing

@@ -11,20 +11,30 @@ use Rattle.store_commands.specs.declared.refusal.Spots.{Spots}
 abbrev pub form_of : Refusal → ℕ
 form_of refusal = min (refusal.place.forms + 1) (2 ^ 64 - 1)
 
--- a number, its name, and which form it was
-abbrev pub form_refused : ℕ → ℕ → List ℕ → List ℕ
-form_refused number form rest = codes ": refused with " ++ (decimal number ++ (codes " " ++ (name_of number ++ (codes " in form " ++ (decimal form ++ (codes ", which began " ++ rest))))))
+-- the line and the column of a refusal
+abbrev pub spot_text : (line column : ℕ) → List ℕ
+spot_text line column = codes "line " ++ (decimal line ++ (codes ", column " ++ (decimal column ++ codes ": ")))
 
--- the line and the column of a refusal, and of where its form began
+-- a number, its name, and which form it was
+abbrev pub refused_text : (number form : ℕ) → List ℕ
+refused_text number form = codes "refused with " ++ (decimal number ++ (codes " " ++ (name_of number ++ (codes " in form " ++ (decimal form ++ codes ", ")))))
+
+-- where that form began
+abbrev pub start_text : (line column : ℕ) → List ℕ
+start_text line column = codes "which began at line " ++ (decimal line ++ (codes ", column " ++ (decimal column ++ 10 ∷ [])))
+
 abbrev pub place_line : ℕ → ℕ → Spots → List ℕ
-place_line number form spots =
-    codes "line " ++ (decimal spots.at.line ++ (codes ", column " ++ (decimal spots.at.column ++ form_refused number form
-    (codes "at line " ++ (decimal spots.start.line ++ (codes ", column " ++ (decimal spots.start.column ++ 10 ∷ [])))))))
+place_line number form spots = spot_text spots.at.line spots.at.column ++ (refused_text number form ++ start_text spots.start.line spots.start.column)
 
 -- the same in bytes, if no lines are known
+abbrev pub byte_text : ℕ → List ℕ
+byte_text bytes = codes "after " ++ (decimal bytes ++ codes " bytes: ")
+
+abbrev pub start_byte_text : ℕ → List ℕ
+start_byte_text bytes = codes "which began after " ++ (decimal bytes ++ (codes " bytes" ++ 10 ∷ []))
+
 abbrev pub byte_line : ℕ → ℕ → Place → List ℕ
-byte_line number form place =
-    codes "after " ++ (decimal place.at ++ (codes " bytes" ++ form_refused number form (codes "after " ++ (decimal place.start ++ (codes " bytes" ++ 10 ∷ [])))))
+byte_line number form place = byte_text place.at ++ (refused_text number form ++ start_byte_text place.start)
 
 abbrev pub line_with : ℕ → ℕ → Place → Option Spots → List ℕ
 line_with number form place None = byte_line number form place

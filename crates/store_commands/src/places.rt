@@ -146,9 +146,16 @@ impl Given {
             → IfSome result (λ spot. (bytes ≤ length given) × IsSpotAfter spot (take bytes given)) }
     {
         let before = self.before?;
-        let count = usize::try_from(bytes.checked_sub(before.bytes)?).ok()?;
+        let count = bytes_between(before.bytes, bytes)?;
         before.through_two(self.older.as_slice(), self.newer.as_slice(), count)
     }
+}
+
+// How many bytes lie between these two places.
+fn bytes_between(from: u64, to: u64) -> Option<usize>
+    ensures { IfSome result (λ count. to ≡ from + count) }
+{
+    usize::try_from(to.checked_sub(from)?).ok()
 }
 
 // The place after a text more, if it is known.

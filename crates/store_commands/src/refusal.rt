@@ -1,6 +1,6 @@
 // The refusal that ended a session, and the line on it.
-ghost use Rattle.std.specs.Prelude.{◌≡◌};
-ghost use Rattle.store_commands.specs.Refusals.{IsRefusalOf, byte_line, form_of, line_of, place_line};
+ghost use Rattle.std.specs.Prelude.{◌≡◌, ◌++◌, OnOk};
+ghost use Rattle.store_commands.specs.Refusals.{IsRefusalOf, byte_line, byte_text, form_of, line_of, place_line, refused_text, spot_text, start_byte_text, start_text};
 ghost use Rattle.store_commands.specs.Texts.{WritesText};
 
 use crate::fault::{Unwritten, write_text};
@@ -8,6 +8,7 @@ use crate::places::{Places, Spot};
 use arrayvec::ArrayString;
 use lisp_object::refusal::name_of;
 use prevalence_store::{Ended, Place};
+use std::fmt;
 use std::fmt::Write as WriteText;
 use std::io::Write;
 
@@ -80,15 +81,9 @@ fn write_lines<W: Write>(
     ensures { WritesText result (W.contents faults.old) (W.contents faults.new)
         (place_line number form spots) }
 {
-    let name = name_of(number);
-    let Spots { start, at } = spots;
     let mut line = ArrayString::<256>::new();
     // the line has room for all numbers and names
-    let Ok(()) = writeln!(
-        line,
-        "line {}, column {}: refused with {number} {name} in form {form}, which began at line {}, column {}",
-        at.line, at.column, start.line, start.column
-    ) else {
+    let Ok(()) = push_lines(&mut line, number, form, spots) else {
         return Err(Unwritten);
     };
     write_text(faults, line.as_bytes())
@@ -104,14 +99,71 @@ fn write_bytes<W: Write>(
     ensures { WritesText result (W.contents faults.old) (W.contents faults.new)
         (byte_line number form place) }
 {
-    let name = name_of(number);
     let mut line = ArrayString::<256>::new();
-    let Ok(()) = writeln!(
-        line,
-        "after {} bytes: refused with {number} {name} in form {form}, which began after {} bytes",
-        place.at, place.start
-    ) else {
+    let Ok(()) = push_bytes(&mut line, number, form, place) else {
         return Err(Unwritten);
     };
     write_text(faults, line.as_bytes())
+}
+
+fn push_lines(line: &mut ArrayString<256>, number: u16, form: u64, spots: Spots) -> fmt::Result
+    ensures { OnOk result (line.new.bytes ≡ line.old.bytes ++ place_line number form spots) }
+{
+    push_spot(line, spots.at.line, spots.at.column)?;
+    push_refused(line, number, form)?;
+    push_start(line, spots.start.line, spots.start.column)
+}
+
+fn push_bytes(line: &mut ArrayString<256>, number: u16, form: u64, place: Place) -> fmt::Result
+    ensures { OnOk result (line.new.bytes ≡ line.old.bytes ++ byte_line number form place) }
+{
+    push_byte(line, place.at)?;
+    push_refused(line, number, form)?;
+    push_start_byte(line, place.start)
+}
+
+fn push_spot(text: &mut ArrayString<256>, line: u64, column: u64) -> fmt::Result
+    ensures { OnOk result (text.new.bytes ≡ text.old.bytes ++ spot_text line column) }
+{
+    let Ok(()) = write!(text, "line {line}, column {column}: ") else {
+        return Err(fmt::Error);
+    };
+    Ok(())
+}
+
+fn push_byte(text: &mut ArrayString<256>, bytes: u64) -> fmt::Result
+    ensures { OnOk result (text.new.bytes ≡ text.old.bytes ++ byte_text bytes) }
+{
+    let Ok(()) = write!(text, "after {bytes} bytes: ") else {
+        return Err(fmt::Error);
+    };
+    Ok(())
+}
+
+fn push_refused(text: &mut ArrayString<256>, number: u16, form: u64) -> fmt::Result
+    ensures { OnOk result (text.new.bytes ≡ text.old.bytes ++ refused_text number form) }
+{
+    let name = name_of(number);
+    let Ok(()) = write!(text, "refused with {number} {name} in form {form}, ") else {
+        return Err(fmt::Error);
+    };
+    Ok(())
+}
+
+fn push_start(text: &mut ArrayString<256>, line: u64, column: u64) -> fmt::Result
+    ensures { OnOk result (text.new.bytes ≡ text.old.bytes ++ start_text line column) }
+{
+    let Ok(()) = writeln!(text, "which began at line {line}, column {column}") else {
+        return Err(fmt::Error);
+    };
+    Ok(())
+}
+
+fn push_start_byte(text: &mut ArrayString<256>, bytes: u64) -> fmt::Result
+    ensures { OnOk result (text.new.bytes ≡ text.old.bytes ++ start_byte_text bytes) }
+{
+    let Ok(()) = writeln!(text, "which began after {bytes} bytes") else {
+        return Err(fmt::Error);
+    };
+    Ok(())
 }
