@@ -20,7 +20,7 @@ AGAIN = "growth::"
 
 def binaries(crates):
     """The tests binaries that the gate left in a folder of crates, of which none may be missing."""
-    found = [os.path.join(crates, name, "out", name + "_tests") for name in CRATES]
+    found = [os.path.join(os.path.abspath(crates), name, "out", name + "_tests") for name in CRATES]
     for path in found:
         want(os.path.isfile(path), path, "is missing: `rt ci` makes it")
     return found
@@ -49,7 +49,8 @@ def places(test, total, most):
 
 def tried(room, path, test, environment):
     """A run of one test, whose files go into the room."""
-    return subprocess.run([path, test], capture_output=True, timeout=600, env={"TMPDIR": room.folder, **environment})
+    environment = {"TMPDIR": room.folder, **environment}
+    return subprocess.run([path, test], capture_output=True, timeout=600, cwd=room.folder, env=environment)
 
 
 def growths(room, path, test, loaded):

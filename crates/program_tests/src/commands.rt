@@ -12,7 +12,7 @@ const KEPT: [(&str, usize); 4] = [
     (" run DIR\n< (SETF (GET 'A 'B) 7)\n0\n7\n", 180),
     (" run DIR\n< (GET 'A 'B)\n0\n7\n", 180),
     (
-        " run DIR\n< (GET 'A 'B)\n< )\n< (GET 'A 'B)\n1\n7\n! 4 STRAY-CLOSE\n",
+        " run DIR\n< (GET 'A 'B)\n< )\n< (GET 'A 'B)\n1\n7\n! 4 STRAY-CLOSE\nstandard error: line 2, column 1: refused with 4 STRAY-CLOSE in form 2, which began at line 2, column 1\n",
         180,
     ),
 ];
@@ -115,6 +115,7 @@ $ run DIR
 T
 (1)
 ! 1 END-OF-FILE
+standard error: line 4, column 1: refused with 1 END-OF-FILE in form 3, which began at line 3, column 1
 $ run --rescue DIR
 < (COPY-READTABLE NIL :USER)
 0
@@ -129,6 +130,7 @@ $ run DIR
 1
 T
 ! 3 INVALID-TRAIT
+standard error: line 2, column 4: refused with 3 INVALID-TRAIT in form 2, which began at line 2, column 1
 ";
 
 #[test]

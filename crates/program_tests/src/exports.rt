@@ -29,7 +29,7 @@ fn is_made_again(rt: &HostRuntime, folder: &str, copy: &str) -> Result<bool, Fai
 }
 
 /// Sessions over one folder, each with its words: after each the world is exported.
-const SESSIONS: [(&str, &[u8]); 9] = [
+const SESSIONS: [(&str, &[u8]); 10] = [
     ("run DIR", b""),
     (
         "run DIR",
@@ -42,6 +42,10 @@ const SESSIONS: [(&str, &[u8]); 9] = [
     (
         "run DIR",
         b"(EXPORT (INTERN \"a\x01b\" \"P\") \"P\")(IMPORT (INTERN \"\x1F\"))(SETF (GET '|c\\\x02| 'V) 7)(COPY-READTABLE NIL ':|\\\x03|)",
+    ),
+    (
+        "run DIR",
+        b"(IMPORT 'A \"P\")(EXPORT 'A \"P\")(SETF (GET 'A 'B) 1)(SETF (GET 'A 'AA) 2)(SETF (GET '|12| '|-1|) '|1+|)(SET-MACRO-CHARACTER #\\$ :NOTE T)(MAKE-DISPATCH-MACRO-CHARACTER #\\~)",
     ),
     (
         "run DIR",

@@ -54,6 +54,17 @@ fn form_at(row: &Row, number: usize) -> Option<(Mode, &'static [u8])> {
     None
 }
 
+/// The step of this number: a form of a row, or a snapshot after the last one.
+fn step_at(row: &Row, number: usize) -> Step<'static> {
+    match form_at(row, number) {
+        Some((mode, form)) => Step::Form(mode, form),
+        None => Step::Snapshot,
+    }
+}
+
+/// How many steps a row has at most.
+const MOST: usize = 16;
+
 /// The text of the world after so many forms of a row, by calls of a store that is opened for each.
 fn world_after(alloc: Global, row: &Row, count: usize, way: Way) -> Result<Vec<u8>, Trouble> {
     let mut disk = MemoryDisk::new(alloc);
@@ -169,15 +180,14 @@ fn taken_all<D: Disk>(
     row: &Row,
 ) -> Result<Vec<u8>, Trouble> {
     let mut text = Vec::new(alloc);
-    let mut count = 0;
-    while let Some((mode, form)) = form_at(row, count) {
-        let step = Step::Form(mode, form);
+    for count in 0..MOST {
+        let step = step_at(row, count);
         let lines = taken(alloc, store, calls, way, step, row, count)?;
         text.extend_from_slice(lines.as_slice())?;
-        count += 1;
+        if step == Step::Snapshot {
+            break;
+        }
     }
-    let lines = taken(alloc, store, calls, way, Step::Snapshot, row, count)?;
-    text.extend_from_slice(lines.as_slice())?;
     Ok(text)
 }
 
@@ -225,7 +235,7 @@ fn is_taken(alloc: Global, row: &Row, way: Way) -> Result<bool, Trouble> {
     let mut store = opened(alloc, disk, row.limit)?;
     let world = world_of(alloc, &mut store);
     let _disk = closed(store);
-    Ok(world? == world_after(alloc, row, usize::MAX, way)?)
+    Ok(world? == world_after(alloc, row, MOST, way)?)
 }
 
 /// Serves the forms of a session from this one on.
@@ -248,15 +258,17 @@ fn serve_from<D: Disk>(
 /// How many forms of a session these answers are of. `None` if they are no answers of its first forms.
 fn answered(session: &Session, answers: &[u8]) -> Option<usize> {
     let mut rest = answers;
-    let mut count = 0;
-    for form in session.forms {
+    for (count, form) in session.forms.iter().enumerate() {
         if rest.is_empty() {
             return Some(count);
         }
         rest = rest.strip_prefix(form.answer)?;
-        count += 1;
     }
-    if rest.is_empty() { Some(count) } else { None }
+    if rest.is_empty() {
+        Some(session.forms.len())
+    } else {
+        None
+    }
 }
 
 /// How many forms of a session are in, which began after so many forms of its row and was answered so far: those that were

@@ -18,7 +18,7 @@
 //! - `versions`: files of version 1; `upgrades`: the command that makes files of version 2 of them
 //! - `macros`: the macro functions of the program
 //! - `words`: the words of the program; `commands`, by scripts of `runs`: its statuses, and real files; `exports`: the forms that
-//!   make a world; `terminal`: sessions in a row
+//!   make a world; `terminal`: sessions in a row; `places`: the line on the refusal that ended a session, and sessions that are strict
 #![tactic(auto)]
 
 #[cfg(test)]
@@ -53,6 +53,8 @@ mod long;
 mod macros;
 #[cfg(test)]
 mod memory;
+#[cfg(test)]
+mod places;
 #[cfg(test)]
 mod read_base;
 #[cfg(test)]

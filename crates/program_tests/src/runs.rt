@@ -8,7 +8,7 @@ use std::alloc::{AllocError, Global};
 use std::io::{Read, Write};
 use std::test::Fail;
 use std::{env, fs, process};
-use store_commands::{SixFunctions, program};
+use store_commands::{Lines, SixFunctions, program};
 use user_macros::{MacroFunctions, Macros};
 
 /// The program over these streams and with these macro functions: its status, and what it told of faults.
@@ -26,7 +26,8 @@ where
     requires answers { M.answers macros }
 {
     let mut faults = in_memory(rt.alloc());
-    let status = program(rt, macros, words, input, output, &mut faults).code();
+    let mut input = Lines::new(rt.alloc(), input);
+    let status = program(rt, macros, words, &mut input, output, &mut faults).code();
     (status, faults)
 }
 

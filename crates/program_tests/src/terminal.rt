@@ -1,13 +1,15 @@
 //! Sessions in a row at a terminal: what is answered, and which prompts are written.
 
+use crate::broken::Kept;
 use crate::by_name::ByName;
-use crate::runs::{folder_for, words_of};
+use crate::files::Trouble;
+use crate::runs::{folder_for, in_memory, words_of};
 use readtable_core::FnName;
 use std::cell::Cell;
 use std::fs;
 use std::io::{Read, Write};
 use std::test::Fail;
-use store_commands::{Answers, SixFunctions, Terminal, program_at_terminal};
+use store_commands::{Answers, Lines, SixFunctions, Terminal, program_at_terminal};
 use user_macros::MacroFunctions;
 
 /// The status of a program at a terminal, with these streams. They are parameters of types of their own, as the terminal would
@@ -19,7 +21,7 @@ fn sit<M, I, O, P>(
     input: I,
     output: O,
     prompts: P,
-    faults: &mut Vec<u8>,
+    faults: &mut Kept,
 ) -> u8
 where
     M: MacroFunctions + Drop,
@@ -29,17 +31,26 @@ where
     requires answers { M.answers macros }
 {
     let answered = Cell::new(false);
-    let mut terminal = Terminal::new(input, prompts, &answered);
+    let mut terminal = Terminal::new(Lines::new(rt.alloc(), input), prompts, &answered);
     let mut answers = Answers::new(output, &answered);
     program_at_terminal(rt, macros, words, &mut terminal, &mut answers, faults).code()
 }
 
-/// What came of a program at a terminal, where this was typed: its status, its answers, its prompts and its faults.
-fn typed(rt: &HostRuntime, words: &[&str], input: &[u8]) -> (u8, Vec<u8>, Vec<u8>, Vec<u8>) {
+/// What came of a program at a terminal: its status, its answers, its prompts and its faults.
+#[derive(Drop)]
+struct TerminalRun {
+    status: u8,
+    output: Vec<u8>,
+    prompts: Vec<u8>,
+    faults: Vec<u8>,
+}
+
+/// What came of a program at a terminal, where this was typed. Want of memory is an error.
+fn typed(rt: &HostRuntime, words: &[&str], input: &[u8]) -> Result<TerminalRun, Trouble> {
     let alloc = rt.alloc();
-    let mut output = Vec::new(alloc);
-    let mut prompts = Vec::new(alloc);
-    let mut faults = Vec::new(alloc);
+    let mut output = in_memory(alloc);
+    let mut prompts = in_memory(alloc);
+    let mut faults = in_memory(alloc);
     // the borrow checker has to be told of the type of a name, which the macro functions hold
     let _name = FnName::new(b"SQUARE");
     let macros = ByName::new(alloc, SixFunctions::new());
@@ -52,7 +63,16 @@ fn typed(rt: &HostRuntime, words: &[&str], input: &[u8]) -> (u8, Vec<u8>, Vec<u8
         &mut prompts,
         &mut faults,
     );
-    (status, output, prompts, faults)
+    let is_short = output.is_short || prompts.is_short || faults.is_short;
+    if is_short || faults.text.starts_with(b"! 90 ") {
+        return Err(Trouble::Memory);
+    }
+    Ok(TerminalRun {
+        status,
+        output: output.text,
+        prompts: prompts.text,
+        faults: faults.text,
+    })
 }
 
 /// The text of it: the status and the answers, and after a line of hyphens the prompts and the faults.
@@ -63,13 +83,13 @@ fn text_of(
     input: &[u8],
 ) -> Result<Vec<u8>, Fail> {
     let words = words_of(rt.alloc(), folder, words)?;
-    let (status, output, prompts, faults) = typed(rt, words.as_slice(), input);
+    let found = typed(rt, words.as_slice(), input)?;
     let mut text = Vec::new(rt.alloc());
-    writeln!(text, "{status}")?;
-    text.extend_from_slice(output.as_slice())?;
+    writeln!(text, "{}", found.status)?;
+    text.extend_from_slice(found.output.as_slice())?;
     text.extend_from_slice(b"--\n")?;
-    text.extend_from_slice(prompts.as_slice())?;
-    text.extend_from_slice(faults.as_slice())?;
+    text.extend_from_slice(found.prompts.as_slice())?;
+    text.extend_from_slice(found.faults.as_slice())?;
     Ok(text)
 }
 
@@ -90,22 +110,22 @@ const ROWS: [Row; 10] = [
     (
         "run DIR",
         b"10.5 (SETF (GET 'A 'B) 8)\n(GET 'A 'B)\n",
-        b"0\n! 7 FLOAT-TOKEN\n7\n--\nType a form and Enter; Ctrl-D ends.\n> Line 1, column 5: the rest of the line is dropped, and a new session begins.\n> > \n",
+        b"0\n! 7 FLOAT-TOKEN\n7\n--\nType a form and Enter; Ctrl-D ends.\n> line 1, column 5: refused with 7 FLOAT-TOKEN in form 1, which began at line 1, column 1\nThe rest of the line was dropped, and a new session begins.\n> > \n",
     ),
     (
         "run DIR --existing",
         b"(FROB)\n )\n",
-        b"0\n! 31 UNKNOWN-OPERATOR\n! 4 STRAY-CLOSE\n--\nType a form and Enter; Ctrl-D ends.\n> > Line 2, column 2: the rest of the line is dropped, and a new session begins.\n> \n",
+        b"0\n! 31 UNKNOWN-OPERATOR\n! 4 STRAY-CLOSE\n--\nType a form and Enter; Ctrl-D ends.\n> > line 2, column 2: refused with 4 STRAY-CLOSE in form 2, which began at line 2, column 2\nThe rest of the line was dropped, and a new session begins.\n> \n",
     ),
     (
         "run DIR",
         b") 7",
-        b"1\n! 4 STRAY-CLOSE\n--\nType a form and Enter; Ctrl-D ends.\n> Line 1, column 1: the rest of the line is dropped, and a new session begins.\n",
+        b"1\n! 4 STRAY-CLOSE\n--\nType a form and Enter; Ctrl-D ends.\n> line 1, column 1: refused with 4 STRAY-CLOSE in form 1, which began at line 1, column 1\n",
     ),
     (
         "run DIR --snapshot-every 1",
         b"(SETF (GET 'A 'B)\n",
-        b"1\n! 1 END-OF-FILE\n--\nType a form and Enter; Ctrl-D ends.\n> . \n",
+        b"1\n! 1 END-OF-FILE\n--\nType a form and Enter; Ctrl-D ends.\n> . \nline 2, column 1: refused with 1 END-OF-FILE in form 1, which began at line 1, column 1\n",
     ),
     (
         "run DIR --rescue",

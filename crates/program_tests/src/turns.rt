@@ -3,10 +3,9 @@
 use crate::asked::{Ask, Serving, session, told};
 use crate::by_name::ByName;
 use crate::files::{AMPLE, Trouble, left_after, trouble_of};
-use crate::lines::unfaulted;
 use disk_trait::MemoryDisk;
 use plist_state::Seed;
-use prevalence_store::Mode;
+use prevalence_store::{Ended, Mode, Wanted};
 use std::alloc::Global;
 use std::cell::Cell;
 use std::io::{Read, Result as IoResult, Write};
@@ -87,18 +86,23 @@ fn watched(alloc: Global, input: &[u8]) -> Result<(Option<u64>, bool, bool), Tro
     };
     let macros = ByName::new(alloc, SixFunctions::new());
     let disk = MemoryDisk::new(alloc);
+    let wanted = Wanted {
+        mode: Mode::Current,
+        snapshot_every: 0,
+        strict: false,
+    };
     let served = serve_on(
         alloc,
         disk,
         macros,
         Seed::fixed(),
-        Mode::Current,
-        0,
+        wanted,
         &mut reader,
         &mut writer,
     );
     match served {
-        Ok((ending, _disk, _macros)) => unfaulted(ending)?,
+        Ok((Ended::Store(number), _disk, _macros)) => return Err(trouble_of(number)),
+        Ok(_) => {}
         Err(unopened) => return Err(trouble_of(unopened.number)),
     }
     Ok((writer.first, seen.is_late.get(), seen.waits.get()))

@@ -107,6 +107,7 @@ const REFUSED: &str = "\
 
 /// A session of a form that sets a property, of a form that is refused, and of one that sets the property anew; and what
 /// comes of it, if it is strict or not.
+#[derive(Drop)]
 struct Refusal {
     input: Vec<u8>,
     strict: Vec<u8>,

@@ -10,7 +10,7 @@ const HELPS: &str = r#"
 $ --help
 A store for Lisp forms that keeps what it has answered
 
-Usage: ./pazturrok run DIR [--existing] [--rescue] [--snapshot-every N]
+Usage: ./pazturrok run DIR [--existing] [--rescue] [--strict] [--snapshot-every N]
        ./pazturrok snapshot DIR [--existing]
        ./pazturrok upgrade DIR [--existing]
        ./pazturrok export DIR [--existing] [--data]
@@ -36,7 +36,7 @@ A first form, in a new folder:
 $ run --help
 Serves the forms of standard input to standard output
 
-Usage: ./pazturrok run DIR [--existing] [--rescue] [--snapshot-every N]
+Usage: ./pazturrok run DIR [--existing] [--rescue] [--strict] [--snapshot-every N]
 
 Arguments:
   <DIR>  The folder of the store, made where it is missing
@@ -44,6 +44,7 @@ Arguments:
 Options:
       --existing            Refuse a folder that holds no store, and make nothing
       --rescue              Read each form under the standard readtable in COMMON-LISP-USER
+      --strict              End at the first form that is refused, with status 1
       --snapshot-every <N>  Take a snapshot after each N forms that write, N from 1 to 1,000,000
   -h, --help                Print help
 
@@ -97,6 +98,8 @@ const JUDGED: &str = "\
 2 run /dev/null --rescue=no
 2 run /dev/null --rescue --rescue
 2 run /dev/null --existing --existing
+2 run /dev/null --strict=no
+2 run /dev/null --strict --strict
 2 run /dev/null --data
 2 run /dev/null --every 5
 2 run /dev/null more
@@ -109,6 +112,7 @@ const JUDGED: &str = "\
 2 snapshot
 2 snapshot /dev/null more
 2 snapshot /dev/null --snapshot-every 1
+2 snapshot /dev/null --strict
 2 upgrade
 2 upgrade /dev/null --rescue
 2 export
@@ -117,6 +121,7 @@ const JUDGED: &str = "\
 2 dump
 2 dump /dev/null more
 2 dump /dev/null --data
+2 dump /dev/null --strict
 2 dump /dev/null --snapshot-every 1
 2 verify
 2 verify /dev/null more
@@ -125,7 +130,8 @@ const JUDGED: &str = "\
 3 run /dev/null
 3 run /dev/null --snapshot-every 1
 3 run /dev/null --snapshot-every 1000000
-3 run --snapshot-every=5 --rescue --existing /dev/null
+3 run /dev/null --strict
+3 run --snapshot-every=5 --rescue --strict --existing /dev/null
 3 snapshot /dev/null
 3 snapshot --existing /dev/null
 3 upgrade /dev/null

@@ -1,11 +1,11 @@
 -- What clap makes of the words of a command.
-use Rattle.std.proofs.Common.{if◌then◌else◌, ◌≡◌, ◌≢◌, ◌==◌, ◌∙◌, ◌&&◌, ◌⊎◌, ◌<◌, ◌≤◌, ◌++◌, ◌^◌, ◌-◌, ℕ, Bool, List, [], ◌∷◌, None, Some, codes, true, false, refl, rules, ap, ap₂, sym, subst, inl, inr, arith}
+use Rattle.std.proofs.Common.{if◌then◌else◌, ◌≡◌, ◌≢◌, ◌==◌, ◌∙◌, ◌&&◌, ◌⊎◌, ◌<◌, ◌≤◌, ◌++◌, ◌^◌, ◌-◌, ℕ, Bool, List, [], ◌∷◌, Option, None, Some, option_map, option_and_then, codes, true, false, refl, rules, ap, ap₂, sym, subst, inl, inr, arith}
 use Rattle.std.proofs.lemmas.Str.Parse.{digit_from_value}
 use Rattle.std.specs.Str.Parse.{IsNumeral, digits_value, without_leading_plus}
 use Rattle.clap.specs.ValueTests.{is_unsigned_in}
 use Rattle.clap.specs.declared.builder.value_parser.ValueParser.TheVariants.{Unsigned}
 use Rattle.clap.specs.Kinds.{Kinds, or_else}
-use Rattle.clap.specs.Words.{IsAmong, Text, fault_of, is_simple, is_simple_and_free, takes}
+use Rattle.clap.specs.Words.{IsAmong, Row, Text, fault_of, first_of, is_simple, is_simple_and_free, subcommand_of, takes}
 use Rattle.clap.specs.declared.error.kind.ErrorKind.{ErrorKind}
 use Rattle.clap.specs.declared.error.kind.ErrorKind.TheVariants.{MissingRequiredArgument, OutOfMemory, ValueValidation}
 use Rattle.clap.proofs.OnLiterals.{clap_on_literals}
@@ -18,7 +18,7 @@ use Rattle.world_forms.specs.declared.export.Content.TheVariants.{Data, World}
 use Rattle.store_commands.specs.declared.words.Task.{Task}
 use Rattle.store_commands.specs.declared.words.Report.TheVariants.{Dump, Verify}
 use Rattle.store_commands.specs.declared.words.Task.TheVariants.{Export, Run, Snapshot, Tell, Upgrade}
-use Rattle.store_commands.specs.CommandLine.{AsksFor, IsLine, IsTaken, asked_in, command_line, data_for, every_of_number, existing_for, faults_of, flag_for, missing_command, strict_for}
+use Rattle.store_commands.specs.CommandLine.{AsksFor, IsLine, IsTaken, asked_in, asked_of, command_line, data_for, every_in, every_of_number, existing_for, faults_of, flag_for, is_set, missing_command, mode_of_flag, strict_for}
 
 pub simple_line : is_simple command_line ≡ true
 unfolding clap_on_literals
@@ -40,6 +40,21 @@ wanting mode every strict = record { mode = mode; snapshot_every = every; strict
 
 wanted_is : (wanted : Wanted) (every : ℕ) (strict : Bool) → wanted.snapshot_every ≡ every → wanted.strict ≡ strict → wanted ≡ wanting wanted.mode every strict
 wanted_is wanted every strict is same = ap₂ (λ n b. wanting wanted.mode n b) is same
+
+-- what is asked for, from the parts of what was found
+asked_from : (found : Option (Text × List Row)) (folder : Text) (existing : Bool) (mode : Mode) (every : ℕ) (strict : Bool) → option_map {B = Text} (λ p. p.0) found ≡ Some (codes "run")
+    → option_map {B = Option Text} (λ p. first_of (codes "DIR") p.1) found ≡ Some (Some folder) → option_map {B = Bool} (λ p. is_set (first_of (codes "existing") p.1)) found ≡ Some existing
+    → option_map {B = Mode} (λ p. mode_of_flag (first_of (codes "rescue") p.1)) found ≡ Some mode → option_map {B = ℕ} (λ p. every_in p.1) found ≡ Some every
+    → option_map {B = Bool} (λ p. is_set (first_of (codes "strict") p.1)) found ≡ Some strict → option_and_then asked_of found ≡ Some (folder, existing, Run (wanting mode every strict))
+asked_from None folder existing mode every strict name at there way number ends = absurd (cc)
+asked_from (Some (is, rows)) folder existing mode every strict name at there way number ends =
+    let name_is : is ≡ codes "run" = cc in
+    let folder_is : first_of (codes "DIR") rows ≡ Some folder = cc in
+    let existing_is : is_set (first_of (codes "existing") rows) ≡ existing = cc in
+    let mode_is : mode_of_flag (first_of (codes "rescue") rows) ≡ mode = cc in
+    let every_is : every_in rows ≡ every = cc in
+    let strict_is : is_set (first_of (codes "strict") rows) ≡ strict = cc in
+    rw (name_is, folder_is, existing_is, mode_is, every_is, strict_is) refl
 
 -- words that are written out but for the program's name, the folder and the number
 module _ (program : Text) (x : ℕ) (xs : Text) (e : (x == 45) ≡ false) where
@@ -184,9 +199,38 @@ module _ (program : Text) (x : ℕ) (xs : Text) (e : (x == 45) ≡ false) where
     unfolding clap_on_literals
     rescue_every_faultless = simp e (rw (d, d) left_kinds)
 
-    rescue_every_asked : asked_in (program ∷ codes "run" ∷ (x ∷ xs) ∷ codes "--rescue" ∷ codes "--snapshot-every" ∷ (y ∷ ys) ∷ []) ≡ Some (x ∷ xs, false, Run (wanting Rescue (every_of_number (Some (y ∷ ys))) false))
+    -- what is found of these words, one thing after the other
+    abbrev rescue_every : Option (Text × List Row)
+    rescue_every = subcommand_of command_line (program ∷ codes "run" ∷ (x ∷ xs) ∷ codes "--rescue" ∷ codes "--snapshot-every" ∷ (y ∷ ys) ∷ [])
+
+    rescue_every_name : option_map {B = Text} (λ p. p.0) rescue_every ≡ Some (codes "run")
     unfolding clap_on_literals
-    rescue_every_asked = simp e (rw (d, d) (refl {a = Some (x ∷ xs, false, Run (wanting Rescue (every_of_number (Some (y ∷ ys))) false))}))
+    rescue_every_name = simp e (rw (d, d) (refl {a = Some (codes "run")}))
+
+    rescue_every_folder : option_map {B = Option Text} (λ p. first_of (codes "DIR") p.1) rescue_every ≡ Some (Some (x ∷ xs))
+    unfolding clap_on_literals
+    rescue_every_folder = simp e (rw (d, d) (refl {a = Some (Some (x ∷ xs))}))
+
+    rescue_every_existing : option_map {B = Bool} (λ p. is_set (first_of (codes "existing") p.1)) rescue_every ≡ Some (false)
+    unfolding clap_on_literals
+    rescue_every_existing = simp e (rw (d, d) (refl {a = Some (false)}))
+
+    rescue_every_mode : option_map {B = Mode} (λ p. mode_of_flag (first_of (codes "rescue") p.1)) rescue_every ≡ Some (Rescue)
+    unfolding clap_on_literals
+    rescue_every_mode = simp e (rw (d, d) (refl {a = Some (Rescue)}))
+
+    rescue_every_number : option_map {B = ℕ} (λ p. every_in p.1) rescue_every ≡ Some (every_of_number (Some (y ∷ ys)))
+    unfolding clap_on_literals
+    rescue_every_number = simp e (rw (d, d) (refl {a = Some (every_of_number (Some (y ∷ ys)))}))
+
+    rescue_every_strict : option_map {B = Bool} (λ p. is_set (first_of (codes "strict") p.1)) rescue_every ≡ Some (false)
+    unfolding clap_on_literals
+    rescue_every_strict = simp e (rw (d, d) (refl {a = Some (false)}))
+
+    rescue_every_asked : asked_in (program ∷ codes "run" ∷ (x ∷ xs) ∷ codes "--rescue" ∷ codes "--snapshot-every" ∷ (y ∷ ys) ∷ []) ≡ Some (x ∷ xs, false, Run (wanting Rescue (every_of_number (Some (y ∷ ys))) false))
+    rescue_every_asked =
+        asked_from rescue_every (x ∷ xs) false Rescue (every_of_number (Some (y ∷ ys))) false rescue_every_name rescue_every_folder rescue_every_existing rescue_every_mode
+        rescue_every_number rescue_every_strict
 
     right_every : (mode : Mode)
         → IsRight (program ∷ codes "run" ∷ (x ∷ xs) ∷ (flag_for mode ++ codes "--snapshot-every" ∷ (y ∷ ys) ∷ [])) (x ∷ xs) false
