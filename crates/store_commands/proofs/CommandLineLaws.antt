@@ -42,10 +42,10 @@ wanted_is : (wanted : Wanted) (every : ℕ) (strict : Bool) → wanted.snapshot_
 wanted_is wanted every strict is same = ap₂ (λ n b. wanting wanted.mode n b) is same
 
 -- what is asked for, from the parts of what was found
-asked_from : (found : Option (Text × List Row)) (folder : Text) (existing : Bool) (mode : Mode) (every : ℕ) (strict : Bool) → option_map {B = Text} (λ p. p.0) found ≡ Some (codes "run")
-    → option_map {B = Option Text} (λ p. first_of (codes "DIR") p.1) found ≡ Some (Some folder) → option_map {B = Bool} (λ p. is_set (first_of (codes "existing") p.1)) found ≡ Some existing
-    → option_map {B = Mode} (λ p. mode_of_flag (first_of (codes "rescue") p.1)) found ≡ Some mode → option_map {B = ℕ} (λ p. every_in p.1) found ≡ Some every
-    → option_map {B = Bool} (λ p. is_set (first_of (codes "strict") p.1)) found ≡ Some strict → option_and_then asked_of found ≡ Some (folder, existing, Run (wanting mode every strict))
+asked_from : (found : Option (Text × List Row)) (folder : Text) (existing : Bool) (mode : Mode) (every : ℕ) (strict : Bool) → option_map (λ (p : Text × List Row). p.0) found ≡ Some (codes "run")
+    → option_map (λ (p : Text × List Row). first_of (codes "DIR") p.1) found ≡ Some (Some folder) → option_map (λ (p : Text × List Row). is_set (first_of (codes "existing") p.1)) found ≡ Some existing
+    → option_map (λ (p : Text × List Row). mode_of_flag (first_of (codes "rescue") p.1)) found ≡ Some mode → option_map (λ (p : Text × List Row). every_in p.1) found ≡ Some every
+    → option_map (λ (p : Text × List Row). is_set (first_of (codes "strict") p.1)) found ≡ Some strict → option_and_then asked_of found ≡ Some (folder, existing, Run (wanting mode every strict))
 asked_from None folder existing mode every strict name at there way number ends = absurd (cc)
 asked_from (Some (is, rows)) folder existing mode every strict name at there way number ends =
     let name_is : is ≡ codes "run" = cc in
@@ -203,27 +203,27 @@ module _ (program : Text) (x : ℕ) (xs : Text) (e : (x == 45) ≡ false) where
     abbrev rescue_every : Option (Text × List Row)
     rescue_every = subcommand_of command_line (program ∷ codes "run" ∷ (x ∷ xs) ∷ codes "--rescue" ∷ codes "--snapshot-every" ∷ (y ∷ ys) ∷ [])
 
-    rescue_every_name : option_map {B = Text} (λ p. p.0) rescue_every ≡ Some (codes "run")
+    rescue_every_name : option_map (λ (p : Text × List Row). p.0) rescue_every ≡ Some (codes "run")
     unfolding clap_on_literals
     rescue_every_name = simp e (rw (d, d) (refl {a = Some (codes "run")}))
 
-    rescue_every_folder : option_map {B = Option Text} (λ p. first_of (codes "DIR") p.1) rescue_every ≡ Some (Some (x ∷ xs))
+    rescue_every_folder : option_map (λ (p : Text × List Row). first_of (codes "DIR") p.1) rescue_every ≡ Some (Some (x ∷ xs))
     unfolding clap_on_literals
     rescue_every_folder = simp e (rw (d, d) (refl {a = Some (Some (x ∷ xs))}))
 
-    rescue_every_existing : option_map {B = Bool} (λ p. is_set (first_of (codes "existing") p.1)) rescue_every ≡ Some (false)
+    rescue_every_existing : option_map (λ (p : Text × List Row). is_set (first_of (codes "existing") p.1)) rescue_every ≡ Some (false)
     unfolding clap_on_literals
     rescue_every_existing = simp e (rw (d, d) (refl {a = Some (false)}))
 
-    rescue_every_mode : option_map {B = Mode} (λ p. mode_of_flag (first_of (codes "rescue") p.1)) rescue_every ≡ Some (Rescue)
+    rescue_every_mode : option_map (λ (p : Text × List Row). mode_of_flag (first_of (codes "rescue") p.1)) rescue_every ≡ Some (Rescue)
     unfolding clap_on_literals
     rescue_every_mode = simp e (rw (d, d) (refl {a = Some (Rescue)}))
 
-    rescue_every_number : option_map {B = ℕ} (λ p. every_in p.1) rescue_every ≡ Some (every_of_number (Some (y ∷ ys)))
+    rescue_every_number : option_map (λ (p : Text × List Row). every_in p.1) rescue_every ≡ Some (every_of_number (Some (y ∷ ys)))
     unfolding clap_on_literals
     rescue_every_number = simp e (rw (d, d) (refl {a = Some (every_of_number (Some (y ∷ ys)))}))
 
-    rescue_every_strict : option_map {B = Bool} (λ p. is_set (first_of (codes "strict") p.1)) rescue_every ≡ Some (false)
+    rescue_every_strict : option_map (λ (p : Text × List Row). is_set (first_of (codes "strict") p.1)) rescue_every ≡ Some (false)
     unfolding clap_on_literals
     rescue_every_strict = simp e (rw (d, d) (refl {a = Some (false)}))
 

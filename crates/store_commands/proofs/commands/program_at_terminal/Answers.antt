@@ -11,16 +11,15 @@ use Rattle.store_commands.specs.declared.told.Told.TheVariants.{Nothing}
 use Rattle.store_commands.proofs.Statuses.{ends_after, memory_at, only_memory, told_after_words, words_carry_out, words_open}
 use Rattle.store_commands.proofs.commands.program_at_terminal.Given as given
 use Rattle.store_commands.proofs.commands.program_at_terminal.Goals as goal
-use Rattle.store_commands.proofs.commands.program_at_terminal.Goals.{After-end_with, After-end_with_told}
 
 -- what is told of words that gave no command
-told_of_words : (g : given.Over) (c : After-end_with g) → TellsFault c.end_with.result Nothing (g.F.Write.contents c.args.faults.now) (g.F.Write.contents c.end_with.new.faults)
+told_of_words : (g : given.Over) (c : goal.After-drop-macros g) → TellsFault c.end_with.result Nothing (g.F.Write.contents c.args.faults.now) (g.F.Write.contents c.end_with.new.faults)
 told_of_words g c =
     told_after_words c.answer_words-status.result c.end_with.result (g.F.Write.contents c.args.faults.now) (g.F.Write.contents c.answer_words-status.new.faults)
     (g.F.Write.contents c.end_with.new.faults) c.end_with.ensures.status (λ none. ap g.F.Write.contents (c.answer_words-status.ensures.told none)) c.end_with.ensures.told
 
 -- and after a command
-told_of_task : (g : given.Over) (c : After-end_with_told g)
+told_of_task : (g : given.Over) (c : goal.Joined-told g)
     → TellsFault c.end_with_told.result c.carry_out_at_terminal-status.result.1 (g.F.Write.contents c.args.faults.now) (g.F.Write.contents c.end_with_told.new.faults)
 told_of_task g c =
     subst (λ (s : Status). TellsFault s c.carry_out_at_terminal-status.result.1 (g.F.Write.contents c.args.faults.now) (g.F.Write.contents c.end_with_told.new.faults)) (sym c.end_with_told.ensures.status)
