@@ -1,7 +1,7 @@
 -- Sessions in a row, one more.
-use Rattle.std.proofs.Common.{◌≡◌, ◌∙◌, List, ℕ, [], ◌∷◌, ◌++◌, Option, None, Some, refl, ap, sym, append-nil, append_assoc}
-use Rattle.std.proofs.KnownBytes.{Consumes-nil, Consumes-trans}
-use Rattle.std.specs.Io.KnownBytes.{Consumes}
+use Rattle.std.proofs.Common.{◌≡◌, ◌∙◌, List, ℕ, [], ◌∷◌, ◌++◌, Option, None, Some, Result, Ok, Err, take, refl, ap, sym, append-nil, append_assoc}
+use Rattle.std.proofs.KnownBytes.{Consumes-kept, Consumes-nil, Consumes-trans}
+use Rattle.std.specs.Io.KnownBytes.{Consumes, ReadConsumes}
 use Rattle.disk_trait.specs.Disk.{State}
 use Rattle.plist_state.specs.State.{WorldState}
 use Rattle.prevalence_store.specs.declared.outcome.Ended.{Ended}
@@ -20,6 +20,14 @@ ends_refused End given refusal some none = absurd (cc)
 ends_refused (Unreadable number place) given refusal some is = tt
 ends_refused (Unaccepted number place) given refusal some is = tt
 ends_refused (Store number) given refusal some none = absurd (cc)
+
+-- a read drops what it gives
+pub read_drops : {E : Type 0} (there has : Option (List ℕ)) (result : Result ℕ E) (bytes : List ℕ) → ReadConsumes there has result bytes → Drops there has
+read_drops there has (Ok count) bytes reads = (take count bytes, reads.0)
+read_drops there has (Err error) bytes keeps = ([], Consumes-kept there there has [] (Consumes-nil there) keeps)
+
+pub drops_more : (there mid has : Option (List ℕ)) → Drops there mid → Drops mid has → Drops there has
+drops_more there mid has one other = (one.0 ++ other.0, Consumes-trans there mid has one.0 other.0 one.1 other.1)
 
 module _ (functions : Functions) (wanted : Wanted) {D R : Type 0} (state : D → State) (old : StoreView D R) (world : WorldState) (had held : Option (List ℕ)) where
   abbrev Row : (new : StoreView D R) (has written : Option (List ℕ)) → Ended → Type 0
