@@ -205,7 +205,7 @@ module _ (program : Text) (x : ℕ) (xs : Text) (e : (x == 45) ≡ false) where
 
     rescue_every_name : option_map (λ (p : Text × List Row). p.0) rescue_every ≡ Some (codes "run")
     unfolding clap_on_literals
-    rescue_every_name = simp e (rw (d, d) (refl {a = Some (codes "run")}))
+    rescue_every_name = refl
 
     rescue_every_folder : option_map (λ (p : Text × List Row). first_of (codes "DIR") p.1) rescue_every ≡ Some (Some (x ∷ xs))
     unfolding clap_on_literals
