@@ -1,16 +1,17 @@
 -- The index of an indicator in a row of properties, and a write there.
-use Rattle.std.proofs.Common.{◌≡◌, ℕ, zero, suc, ◌+◌, ◌<◌, Bool, true, false, cond, None, Some, unwrap_or, List, [], ◌∷◌, ◌++◌, map, length, get_or, set, ◌≤◌, refl, sym, ap, subst, ◌∙◌, arith}
+use Rattle.std.proofs.Common.{◌≡◌, ℕ, zero, suc, ◌+◌, ◌<◌, Bool, true, false, cond, None, Some, unwrap_or, Result, Ok, Err, List, [], ◌∷◌, ◌++◌, map, length, get_or, set, ◌≤◌, refl, sym, ap, subst, ◌∙◌, arith}
 use Rattle.std.specs.List.{position, position_from, insert, remove}
-use Rattle.std.specs.Prelude.{min}
+use Rattle.std.specs.Prelude.{min, OnErr}
 use Rattle.std.proofs.lemmas.Iterator.Adapters.{position_from-zero}
-use Rattle.lisp_object.specs.Object.{Object}
+use Rattle.lisp_object.specs.Object.{Object, pair}
 use Rattle.lisp_object.specs.Datum.{object_of}
 use Rattle.lisp_object.specs.declared.datum.Datum.{Datum}
 use Rattle.plist_state.specs.declared.property.NumberedProperty.{NumberedProperty}
 use Rattle.plist_state.specs.Shown.{numbered_property}
 use Rattle.plist_state.specs.Properties.{value_by, with_value_by, without_value_by}
+use Rattle.plist_state.specs.Pushed.{pushed, with_pushed_by}
 use Rattle.plist_state.specs.Lists.{NumberedPlist, same_number}
-use Rattle.plist_state.specs.Undoing.{with_value_at, with_inserted}
+use Rattle.plist_state.specs.Undoing.{with_value_at, with_rest_at, without_first, with_inserted}
 
 abbrev pub has : ℕ → NumberedProperty → Bool
 has i p = same_number i p.indicator
@@ -99,6 +100,46 @@ pub with_value_at-twice : (ps : NumberedPlist) (k : ℕ) (x y : Object) → with
 with_value_at-twice [] k x y = refl
 with_value_at-twice (p ∷ ps) zero x y = refl
 with_value_at-twice (p ∷ ps) (suc k) x y = ap (λ qs. p ∷ qs) (with_value_at-twice ps k x y)
+
+-- the list at the index of an indicator, with an item more in front
+pub stands_at : (items : List NumberedProperty) (i k : ℕ) (p : NumberedProperty) → position (has i) items ≡ Some k → p ≡ get_or items k p
+    → value_by same_number (shown items) i ≡ Some (object_of p.value)
+stands_at items i k p at is = (first_at items i k at).stands p ∙ ap (λ (q : NumberedProperty). Some (object_of q.value)) (sym is)
+
+pub pushed_at : (items : List NumberedProperty) (i k : ℕ) (p : NumberedProperty) (v x : Datum) → position (has i) items ≡ Some k → p ≡ get_or items k p → object_of v ≡ pair (object_of x) (object_of p.value)
+    → shown (set items k (record { indicator = p.indicator; value = v })) ≡ with_pushed_by same_number (shown items) i (object_of x)
+pushed_at items i k p v x at is made =
+    shown-set items k p v is ∙ ap (with_value_at (shown items) k) made
+    ∙ sym ((first_at items i k at).written (pair (object_of x) (object_of p.value)))
+    ∙ ap (λ o. with_value_by same_number (shown items) i (pushed (object_of x) o)) (sym (stands_at items i k p at is))
+
+-- the list as it was, where there was no memory
+pub unpushed : {A E : Type 0} (r : Result A E) (items : List NumberedProperty) (k : ℕ) (p : NumberedProperty) (v : Datum) → p ≡ get_or items k p → object_of v ≡ object_of p.value
+    → OnErr r (shown (set items k (record { indicator = p.indicator; value = v })) ≡ shown items)
+unpushed (Ok x) items k p v is same = tt
+unpushed (Err e) items k p v is same =
+    shown-set items k p v is ∙ ap (with_value_at (shown items) k) same ∙ with_value_at-same items k p is
+
+-- and without it again
+pub pushed_back : (items : List NumberedProperty) (k : ℕ) (p : NumberedProperty) (v x : Datum) → p ≡ get_or items k p → object_of v ≡ pair (object_of x) (object_of p.value)
+    → with_rest_at (shown (set items k (record { indicator = p.indicator; value = v }))) k ≡ shown items
+pushed_back [] k p v x is made = refl
+pushed_back (q ∷ qs) zero p v x is made =
+    ap (λ o. (p.indicator, without_first o) ∷ shown qs) made ∙ ap (λ (t : NumberedProperty). numbered_property t ∷ shown qs) is
+pushed_back (q ∷ qs) (suc k) p v x is made = ap (λ ps. numbered_property q ∷ ps) (pushed_back qs k p v x is made)
+
+-- the list at an index, without its first item
+pub shown-rest : (items : List NumberedProperty) (k : ℕ) (p : NumberedProperty) (v : Datum) → p ≡ get_or items k p → object_of v ≡ without_first (object_of p.value)
+    → shown (set items k (record { indicator = p.indicator; value = v })) ≡ with_rest_at (shown items) k
+shown-rest [] k p v is made = refl
+shown-rest (q ∷ qs) zero p v is made =
+    ap (λ o. (p.indicator, o) ∷ shown qs) made ∙ ap (λ (t : NumberedProperty). (t.indicator, without_first (object_of t.value)) ∷ shown qs) is
+shown-rest (q ∷ qs) (suc k) p v is made = ap (λ ps. numbered_property q ∷ ps) (shown-rest qs k p v is made)
+
+pub with_rest_at-past : (ps : NumberedPlist) (k : ℕ) → length ps ≤ k → with_rest_at ps k ≡ ps
+with_rest_at-past [] k h = refl
+with_rest_at-past (p ∷ ps) zero h = absurd (omega arith)
+with_rest_at-past (p ∷ ps) (suc k) h = ap (λ qs. p ∷ qs) (with_rest_at-past ps k (omega arith))
 
 -- an index past the end
 pub with_value_at-past : (ps : NumberedPlist) (k : ℕ) (x : Object) → length ps ≤ k → with_value_at ps k x ≡ ps

@@ -14,3 +14,4 @@ pub mod Notes
 pub mod Marking
 pub mod Left
 pub mod Viewed
+pub mod Pushed

@@ -1,10 +1,12 @@
 -- What holds of the rows of properties.
-use Rattle.std.specs.Prelude.{◌≡◌, ℕ, ◌≤◌, true, All, IfSome}
+use Rattle.std.specs.Prelude.{◌≡◌, ℕ, ◌≤◌, true, All, IfSome, codes}
+use Rattle.lisp_object.specs.declared.datum.Datum
+use Rattle.lisp_object.specs.declared.datum.Datum.{Datum}
 use Rattle.std.specs.Global.{Vec}
 use Rattle.lisp_object.specs.Datum.{is_proper}
 use Rattle.plist_state.specs.declared.property.NumberedProperty.{NumberedProperty}
 use Rattle.plist_state.specs.declared.note.PropertyChange.{PropertyChange}
-use Rattle.plist_state.specs.declared.note.PropertyChange.TheVariants.{Set, Added, Removed}
+use Rattle.plist_state.specs.declared.note.PropertyChange.TheVariants.{Set, Added, Removed, Pushed}
 use Rattle.plist_state.specs.Shown.{Rows, row_at, room_at}
 
 abbrev pub IsProperRow : Vec NumberedProperty → Type 0
@@ -13,10 +15,15 @@ IsProperRow row = All (λ p. is_proper p.value ≡ true) row.items
 abbrev pub IsProperRows : Rows → Type 0
 IsProperRows rows = (i : ℕ) → IfSome (row_at rows i) IsProperRow
 
+-- the datum that is NIL
+abbrev pub IsEmptyList : Datum → Type 0
+IsEmptyList d = d ≡ Datum.Symbol (codes "COMMON-LISP") (codes "NIL")
+
 abbrev pub IsProperChange : PropertyChange → Type 0
 IsProperChange (Set index value) = is_proper value ≡ true
 IsProperChange Added = Unit {0}
 IsProperChange (Removed index property) = is_proper property.value ≡ true
+IsProperChange (Pushed index empty) = IsEmptyList empty
 
 -- the rows of one hold what those of the other held, in as much memory
 pub record IsWider (rows later : Rows) : Type 0 where

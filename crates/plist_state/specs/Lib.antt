@@ -13,3 +13,4 @@ pub mod Kept
 pub mod Journal
 pub mod Marked
 pub mod Viewed
+pub mod Pushed

@@ -2,13 +2,13 @@
 use Rattle.std.specs.Prelude.{◌≡◌, ℕ, zero, suc, ◌-◌, List, [], ◌∷◌, length, take}
 use Rattle.std.specs.Option.{option_map_or}
 use Rattle.std.specs.FinMap as finite
-use Rattle.lisp_object.specs.Object.{Object}
+use Rattle.lisp_object.specs.Object.{Object, pair}
 use Rattle.lisp_object.specs.Datum.{object_of}
 use Rattle.readtable_core.specs.Tables.{Table}
 use Rattle.readtable_core.specs.Changes.{with_entry}
 use Rattle.package_table.specs.Table.{Name}
 use Rattle.plist_state.specs.declared.note.PropertyChange.{PropertyChange}
-use Rattle.plist_state.specs.declared.note.PropertyChange.TheVariants.{Set, Added, Removed}
+use Rattle.plist_state.specs.declared.note.PropertyChange.TheVariants.{Set, Added, Removed, Pushed}
 use Rattle.plist_state.specs.declared.note.TableChange.{TableChange}
 use Rattle.plist_state.specs.declared.note.TableChange.TheVariants.{Over, Letters, Character}
 use Rattle.plist_state.specs.declared.note.Note.{Note}
@@ -23,6 +23,17 @@ with_value_at [] k x = []
 with_value_at (p ∷ ps) zero x = (p.0, x) ∷ ps
 with_value_at (p ∷ ps) (suc k) x = p ∷ with_value_at ps k x
 
+-- a list without its first element; another object as it is
+abbrev pub without_first : Object → Object
+without_first (pair x xs) = xs
+without_first x = x
+
+-- without the first element of the value at an index
+abbrev pub with_rest_at : NumberedPlist → ℕ → NumberedPlist
+with_rest_at [] k = []
+with_rest_at (p ∷ ps) zero = (p.0, without_first p.1) ∷ ps
+with_rest_at (p ∷ ps) (suc k) = p ∷ with_rest_at ps k
+
 -- with the property before the one at an index, or last where the list does not reach so far
 abbrev pub with_inserted : NumberedPlist → ℕ → ℕ × Object → NumberedPlist
 with_inserted [] k p = p ∷ []
@@ -34,6 +45,7 @@ abbrev pub list_before : PropertyChange → NumberedPlist → NumberedPlist
 list_before (Set index value) ps = with_value_at ps index (object_of value)
 list_before Added ps = take (length ps - 1) ps
 list_before (Removed index property) ps = with_inserted ps index (numbered_property property)
+list_before (Pushed index empty) ps = with_rest_at ps index
 
 -- the change leads back from the later list to the one before
 abbrev pub GoesBack : NumberedPlist → NumberedPlist → PropertyChange → Type 0

@@ -42,6 +42,7 @@
 mod base;
 mod copies;
 mod error;
+mod first_items;
 mod journal;
 mod marks;
 mod note;

@@ -13,6 +13,12 @@ pub(crate) enum PropertyChange {
     },
     /// A property was added at the end.
     Added,
+    /// An item was put before the list at an index. Without it the list is there again, and NIL, which is kept here, where
+    /// that was the only item.
+    Pushed {
+        index: usize,
+        empty: Datum,
+    },
     /// This property was taken out, which stood at an index.
     Removed {
         index: usize,

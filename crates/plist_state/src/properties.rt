@@ -2,6 +2,7 @@
 ghost use Rattle.std.specs.Prelude.{◌≡◌, true, is_some, IfOk, OnOk, OnErr};
 ghost use Rattle.lisp_object.specs.Datum.{object_of, is_proper};
 ghost use Rattle.plist_state.specs.Changes.{property, with_property, without_property};
+ghost use Rattle.plist_state.specs.Pushed.{holds_pair, pushed, with_pushed};
 ghost use Rattle.plist_state.specs.Shown.{symbol_of};
 ghost use Rattle.plist_state.specs.Sound.{IsSymbol, IsValue};
 
@@ -38,6 +39,39 @@ impl World {
             owner,
             indicator,
             value,
+        )
+    }
+
+    /// Puts a value before the one beside an indicator of a symbol, which is a list with an item (standard 14.2, `push`). The
+    /// list is not copied. Both symbols are there, the value is proper, and the list that is made may be stored. After out of
+    /// memory nothing has changed.
+    pub fn push(
+        &mut self,
+        symbol: &Symbol,
+        indicator: &Symbol,
+        first: Datum,
+    ) -> Result<(), AllocError>
+        requires symbol { IsSymbol self.old.0.packages (symbol_of symbol.now) }
+        requires indicator { IsSymbol self.old.0.packages (symbol_of indicator.now) }
+        requires list { holds_pair
+            (property self.old.0 (symbol_of symbol.now) (symbol_of indicator.now)) ≡ true }
+        requires proper { is_proper first ≡ true }
+        requires value { let old = property self.old.0 (symbol_of symbol.now) (symbol_of indicator.now) in
+            IsValue self.old.0.packages (pushed (object_of first) old) }
+        ensures ok { OnOk result (self.new
+            ≡ (with_pushed self.old.0 (symbol_of symbol.now) (symbol_of indicator.now) (object_of first), self.old.1)) }
+        ensures err { OnErr result (self.new ≡ self.old) }
+    {
+        self.packages.numbering();
+        let owner = number(&self.packages, symbol);
+        let indicator = number(&self.packages, indicator);
+        stored::push(
+            self.alloc,
+            &mut self.stored,
+            &mut self.marks,
+            owner,
+            indicator,
+            first,
         )
     }
 

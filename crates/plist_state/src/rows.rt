@@ -5,11 +5,13 @@ ghost use Rattle.std.specs.Option.{option_map};
 ghost use Rattle.std.specs.FinMap as finite;
 ghost use Rattle.lisp_object.specs.Datum.{object_of, is_proper};
 ghost use Rattle.plist_state.specs.Properties.{value_by, with_value_by, without_value_by};
+ghost use Rattle.plist_state.specs.Pushed.{holds_pair, with_pushed_by, with_pushed_in};
 ghost use Rattle.plist_state.specs.Lists.{same_number, row_of, value_in, with_row, with_value_in, without_value_in};
 ghost use Rattle.plist_state.specs.Shown.{numbered_property, plist_of, lists_of, row_at, room_at};
 ghost use Rattle.plist_state.specs.Undoing.{list_before, GoesBack};
-ghost use Rattle.plist_state.specs.Kept.{IsProperRow, IsProperRows, IsProperChange, IsWider};
+ghost use Rattle.plist_state.specs.Kept.{IsProperRow, IsProperRows, IsProperChange, IsEmptyList, IsWider};
 
+use crate::first_items::{put_first, take_first};
 use crate::note::PropertyChange;
 use crate::property::NumberedProperty;
 use lisp_object::Datum;
@@ -96,6 +98,32 @@ fn write(
     }
 }
 
+// Puts an item before the list that is beside an indicator in a row. `empty` is NIL.
+fn write_first(
+    row: &mut Vec<NumberedProperty>,
+    indicator: u32,
+    first: Datum,
+    empty: Datum,
+) -> Result<PropertyChange, AllocError>
+    requires first { is_proper first ≡ true }
+    requires empty { IsEmptyList empty }
+    requires values { IsProperRow row.old }
+    requires list { holds_pair (value_by same_number (plist_of row.old) indicator) ≡ true }
+    ensures ok { IfOk result (λ _. plist_of row.new
+        ≡ with_pushed_by same_number (plist_of row.old) indicator (object_of first)) }
+    ensures back { IfOk result (GoesBack (plist_of row.old) (plist_of row.new)) }
+    ensures values { IsProperRow row.new }
+    ensures former { IfOk result IsProperChange }
+    ensures room { vec_capacity row.old ≤ vec_capacity row.new }
+    ensures err { OnErr result (plist_of row.new ≡ plist_of row.old) }
+{
+    let Some(index) = index_of(row.as_slice(), indicator) else {
+        unreachable!()
+    };
+    put_first(&mut row[index].value, first)?;
+    Ok(PropertyChange::Pushed { index, empty })
+}
+
 // Takes a property out of a row.
 fn cut(row: &mut Vec<NumberedProperty>, indicator: u32) -> Option<PropertyChange>
     ensures after { plist_of row.new
@@ -119,6 +147,7 @@ fn cut(row: &mut Vec<NumberedProperty>, indicator: u32) -> Option<PropertyChange
 // Takes a change of a row back. There is memory for what it was.
 fn revert(row: &mut Vec<NumberedProperty>, change: PropertyChange)
     requires former { IsProperChange change }
+    requires values { IsProperRow row.old }
     requires room { length (list_before change (plist_of row.old)) ≤ vec_capacity row.old }
     ensures after { plist_of row.new ≡ list_before change (plist_of row.old) }
     ensures values { IsProperRow row.old → IsProperRow row.new }
@@ -132,6 +161,11 @@ fn revert(row: &mut Vec<NumberedProperty>, change: PropertyChange)
         }
         PropertyChange::Added => {
             let _added = row.pop();
+        }
+        PropertyChange::Pushed { index, empty } => {
+            if index < row.len() {
+                take_first(&mut row[index].value, empty);
+            }
         }
         PropertyChange::Removed { index, property } => {
             let index = index.min(row.len());
@@ -212,6 +246,35 @@ pub(crate) fn put(
     write_at(rows, number, indicator, value)
 }
 
+/// Puts an item before the list that is beside an indicator of the symbol of a number. `empty` is NIL.
+pub(crate) fn push(
+    rows: &mut BTreeMap<u32, Vec<NumberedProperty>>,
+    number: u32,
+    indicator: u32,
+    first: Datum,
+    empty: Datum,
+) -> Result<PropertyChange, AllocError>
+    requires first { is_proper first ≡ true }
+    requires empty { IsEmptyList empty }
+    requires values { IsProperRows rows.old.entries }
+    requires list { holds_pair (value_in (lists_of rows.old) number indicator) ≡ true }
+    ensures ok { IfOk result (λ _. lists_of rows.new
+        ≡ with_pushed_in (lists_of rows.old) number indicator (object_of first)) }
+    ensures back { IfOk result
+        (GoesBack (row_of (lists_of rows.old) number) (row_of (lists_of rows.new) number)) }
+    ensures former { IfOk result IsProperChange }
+    ensures wider { IsWider rows.old.entries rows.new.entries }
+    ensures err { OnErr result (lists_of rows.new ≡ lists_of rows.old) }
+{
+    let Some(row) = rows.get_mut(&number) else {
+        unreachable!()
+    };
+    match write_first(row, indicator, first, empty) {
+        Ok(change) => Ok(change),
+        Err(_) => Err(AllocError),
+    }
+}
+
 /// Takes the property of an indicator out of the list of the symbol of a number, if it is there.
 pub(crate) fn remove(
     rows: &mut BTreeMap<u32, Vec<NumberedProperty>>,
@@ -241,6 +304,7 @@ pub(crate) fn take_back(
     change: PropertyChange,
 )
     requires former { IsProperChange change }
+    requires values { IsProperRows rows.old.entries }
     requires room { length (list_before change (row_of (lists_of rows.old) number))
         ≤ room_at rows.old.entries number }
     ensures after { lists_of rows.new

@@ -2,6 +2,7 @@
 ghost use Rattle.std.specs.Prelude.{◌≡◌, ◌≢◌, ◌≤◌, true, Ok, Err, is_some, IfOk, IfErr, OnOk, OnErr};
 ghost use Rattle.std.specs.FinMap as finite;
 ghost use Rattle.lisp_object.specs.Datum.{object_of, is_proper};
+ghost use Rattle.plist_state.specs.Pushed.{holds_pair, with_pushed_in};
 ghost use Rattle.plist_state.specs.State.{first_readtables};
 ghost use Rattle.plist_state.specs.Lists.{value_in, with_value_in, without_value_in};
 ghost use Rattle.plist_state.specs.Shown.{first_numbered, rest_of, readtables_of};
@@ -83,6 +84,36 @@ pub(crate) fn put(
 {
     reserve_note(marks)?;
     let Ok(change) = rows::put(alloc, &mut stored.properties, number, indicator, value) else {
+        return Err(AllocError);
+    };
+    push_note(marks, Note::Property { number, change });
+    Ok(())
+}
+
+/// Puts a value before the list that is a property of the symbol of a number, and notes it. Nothing of the list is copied.
+pub(crate) fn push(
+    alloc: Global,
+    stored: &mut Stored,
+    marks: &mut Vec<Vec<Note>>,
+    number: u32,
+    indicator: u32,
+    first: Datum,
+) -> Result<(), AllocError>
+    requires first { is_proper first ≡ true }
+    requires values { IsProperRows stored.old.properties.entries }
+    requires list { holds_pair (value_in (rest_of stored.old).properties number indicator) ≡ true }
+    ensures ok { let r = rest_of stored.old in
+        OnOk result (rest_of stored.new ≡ record r {
+          properties = with_pushed_in r.properties number indicator (object_of first);
+        }) }
+    ensures err { OnErr result (rest_of stored.new ≡ rest_of stored.old) }
+    ensures wider { IsWider stored.old.properties.entries stored.new.properties.entries }
+    ensures marked { Continues (marks_of marks.old.items) (rest_of stored.old)
+        (marks_of marks.new.items) (rest_of stored.new) }
+{
+    reserve_note(marks)?;
+    let empty = Datum::nil(alloc)?;
+    let Ok(change) = rows::push(&mut stored.properties, number, indicator, first, empty) else {
         return Err(AllocError);
     };
     push_note(marks, Note::Property { number, change });

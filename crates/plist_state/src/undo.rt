@@ -12,6 +12,7 @@ use crate::{rows, tables};
 
 fn undo(stored: &mut Stored, note: Note)
     requires note { IsNoted note }
+    requires values { IsProperRows stored.old.properties.entries }
     requires room { Fits stored.old.properties.entries (undone note (rest_of stored.old)) }
     ensures after { rest_of stored.new ≡ undone note (rest_of stored.old) }
     ensures wider { IsWider stored.old.properties.entries stored.new.properties.entries }
@@ -31,7 +32,8 @@ fn undo(stored: &mut Stored, note: Note)
 }
 
 fn undo_all(stored: &mut Stored, notes: Vec<Note>)
-    requires { LeadsBack notes.items (rest_of stored.old) stored.old.properties.entries }
+    requires leads { LeadsBack notes.items (rest_of stored.old) stored.old.properties.entries }
+    requires values { IsProperRows stored.old.properties.entries }
     ensures after { rest_of stored.new ≡ all_undone notes.items (rest_of stored.old) }
     ensures wider { IsWider stored.old.properties.entries stored.new.properties.entries }
 {
@@ -46,6 +48,7 @@ pub(crate) fn undo_to(stored: &mut Stored, marks: &mut Vec<Vec<Note>>, mark: usi
     requires mark { mark < length marks.old.items }
     requires journal { IsJournal (marks_of marks.old.items) (rest_of stored.old)
         stored.old.properties.entries }
+    requires values { IsProperRows stored.old.properties.entries }
     ensures past { rests_at (marks_of marks.new.items) (rest_of stored.new)
         ≡ take mark (rests_at (marks_of marks.old.items) (rest_of stored.old)) }
     ensures now { slice_get (rests_at (marks_of marks.old.items) (rest_of stored.old)) mark

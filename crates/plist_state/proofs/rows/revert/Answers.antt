@@ -7,7 +7,7 @@ use Rattle.lisp_object.specs.Datum.{object_of, is_proper}
 use Rattle.plist_state.specs.declared.property.NumberedProperty.{NumberedProperty}
 use Rattle.plist_state.specs.Shown.{numbered_property, plist_of}
 use Rattle.plist_state.specs.Undoing.{list_before}
-use Rattle.plist_state.proofs.Indices.{shown-set, with_value_at-past, shown-insert, length-inserted}
+use Rattle.plist_state.proofs.Indices.{shown-set, with_value_at-past, shown-rest, with_rest_at-past, shown-insert, length-inserted}
 use Rattle.plist_state.specs.Kept.{IsProperChange}
 use Rattle.plist_state.proofs.rows.revert.Goals as goal
 
@@ -46,3 +46,13 @@ returns-in_default-clause-values c = λ old.
     All-same P c.insert.new.self.items _ c.in_default.ensures.items
     (All-append P _ _ (All-take P c.min-index.result row.items old)
     (All-cons P c.in-Removed.property _ (subst IsProperChange c.in-Removed.is c.requires.former) (All-drop P c.min-index.result row.items old)))
+
+pub returns-then-index-len-2-clause-after : goal.returns-then-index-len-2-clause-after
+returns-then-index-len-2-clause-after c =
+    shown-rest c.args.row.now.items c.in-Pushed.index c.index_mut-then-index-len-2.result.now c.take_first.new.list c.index_mut-then-index-len-2.ensures.value c.take_first.ensures.value
+    ∙ sym (ap (λ change. list_before change (plist_of c.args.row.now)) c.in-Pushed.is)
+
+pub returns-else-index-len-2-clause-after : goal.returns-else-index-len-2-clause-after
+returns-else-index-len-2-clause-after c =
+    let past : length (plist_of c.args.row.now) ≤ c.in-Pushed.index = omega (arith, length-map c.args.row.now.items numbered_property) in
+    sym (ap (λ change. list_before change (plist_of c.args.row.now)) c.in-Pushed.is ∙ with_rest_at-past (plist_of c.args.row.now) c.in-Pushed.index past)

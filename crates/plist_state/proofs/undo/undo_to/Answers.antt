@@ -9,8 +9,8 @@ use Rattle.plist_state.proofs.ListRows.{wider_both}
 use Rattle.plist_state.proofs.Notes.{popped, leads, gone_past, gone_to, journal_wider}
 use Rattle.plist_state.proofs.undo.undo_to.Goals as goal
 
-pub undo_all-requires : goal.undo_all-requires
-undo_all-requires c =
+pub undo_all-requires-clause-leads : goal.undo_all-requires-clause-leads
+undo_all-requires-clause-leads c =
     let t : NumberedRest = rest_of c.loop-newest.stored in
     (leads c.pop.new.self.items c.in-Some.newest c.loop-newest.marks.items c.in-Some.ensures.items t (all_undone c.in-Some.newest.items t) refl c.loop-newest.stored.properties.entries c.loop-newest.invariant.3).0
 
