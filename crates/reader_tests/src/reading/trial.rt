@@ -7,9 +7,9 @@ ghost use Rattle.lisp_object.specs.Datum.{is_proper, object_of};
 ghost use Rattle.lisp_object.specs.Object.{integer, nil, pair, symbol};
 ghost use Rattle.user_macros.specs.Calls.{answer_of, call_of, improper, value};
 ghost use Rattle.user_macros.specs.Sound.{IsSoundCall};
-ghost use Rattle.reader_tests.specs.Trial.{trial_functions, trial_names, later_rows, last_rows, way_among, count, named, wrapped};
+ghost use Rattle.reader_tests.specs.Trial.{trial_functions, trial_names, later_rows, last_rows, way_among, count, named, wrapped, zeros};
 
-use lisp_object::{Bytes, Datum, Items};
+use lisp_object::{Boxed, Bytes, Datum, Items};
 use readtable_core::FnName;
 use std::alloc::{AllocError, Global};
 use user_macros::{Answer, Call, Gather, Gathered, Meaning};
@@ -24,7 +24,7 @@ pub fn name_of(bytes: &[u8]) -> FnName
 
 #[derive(Drop)]
 pub struct Trial {
-    names: [FnName; 18],
+    names: [FnName; 19],
     ghost are: { names ≡ trial_names },
 }
 
@@ -50,6 +50,7 @@ impl Trial {
                 name_of(b"IMPROPER"),
                 name_of(b"WRAP"),
                 name_of(b"NAME"),
+                name_of(b"LARGE"),
             ],
         }
     }
@@ -136,6 +137,9 @@ fn last(name: FnName) -> Option<Gather>
     if b"NAME".as_slice() == name.as_bytes() {
         return Some(Gather::Text(b'}'));
     }
+    if b"LARGE".as_slice() == name.as_bytes() {
+        return Some(Gather::Nothing);
+    }
     None
 }
 
@@ -211,4 +215,34 @@ pub fn empty_list(alloc: Global) -> Answer
         items: Items::new(alloc),
         tail: None,
     })
+}
+
+/// A list whose tail is a list, which is not proper.
+#[tactic(auto, using(lisp_object::proofs::Properness::proper_laws))]
+pub fn list_before_a_list(alloc: Global) -> Result<Answer, AllocError>
+    ensures { IfOk result (λ a. answer_of a ≡ improper) }
+{
+    let mut items = Items::new(alloc);
+    items.push(Datum::Integer(1))?;
+    let mut more = Items::new(alloc);
+    more.push(Datum::Integer(2))?;
+    let tail = Datum::List {
+        items: more,
+        tail: None,
+    };
+    Ok(Answer::One(Datum::List {
+        items,
+        tail: Some(Boxed::new(alloc, tail)?),
+    }))
+}
+
+/// A vector of this many zeros.
+pub fn zeros(alloc: Global, count: usize) -> Result<Answer, AllocError>
+    ensures { IfOk result (λ a. answer_of a ≡ zeros count) }
+{
+    let mut items = Items::new(alloc);
+    for _ in 0..count {
+        items.push(Datum::Integer(0))?;
+    }
+    Ok(Answer::One(Datum::Vector(items)))
 }
