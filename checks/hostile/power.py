@@ -2,9 +2,9 @@
 import os
 import random
 
-from store import check_world, courses, library, want
+from store import answers, check_world, courses, library, want
 
-NAMES = ("property", "brackets", "snapshots", "more snapshots", "a closed half", "operators")
+NAMES = ("property", "brackets", "snapshots", "more snapshots", "a closed half", "operators", "snapshot", "upgrade")
 
 
 class File:
@@ -103,7 +103,7 @@ def images_of(room, one, loaded, times, dice):
         elif call == "a" and file == 1:
             # a standard stream has a number up to 2, and what is meant for it may not get into a file
             want(locked == {b"half-a", b"half-b"} and min(opened) > 2, one.session.name, "answered with", opened, locked)
-            answered += held.count(b"\n")
+            answered += answers(one, held)
         elif name in files:
             target = files[name]
             {"w": lambda: target.write(place, held), "c": lambda: target.cut(place), "s": target.sync}[call]()

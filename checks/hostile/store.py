@@ -55,6 +55,15 @@ NEWONE
 # Files of old bytes behind a closed gate, which are cut before a half is started.
 CLOSED = [bytes(10), bytes(200)]
 
+# A store of version 1 with a property, and no half B in use.
+VERSION_1 = [
+    b"\xa5\0\x01\0\0\0\0\0\0\0\x01\0\0\0\x87"
+    b'(("COMMON-LISP-USER" ("COMMON-LISP") NIL NIL NIL) ("KEYWORD" NIL NIL NIL NIL))\nNIL\n'
+    b'("COMMON-LISP-USER" "USER" (("USER" "UPCASE" NIL)))\n'
+    b"\xa5\0\0\0\0\x14(SETF (GET 'A 'B) 7)\0",
+    b"",
+]
+
 SESSIONS = [
     Session("property", ["run"], b"(SETF (GET 'A 'B) 7)\n(GET 'A 'B)\n", None),
     Session("tokens", ["run"], b"'(\\1 |1| 1 1. -0 +4/6 1+)\n", None),
@@ -76,6 +85,11 @@ SESSIONS = [
     Session("after operators", ["run", "--snapshot-every", "1"], b"(setf (get 'b 'x) (symbol-plist 'a))\n(get 'b 'x)\n", "operators"),
     Session("dump", ["dump"], b"", "operators"),
     Session("verify", ["verify"], b"", "operators"),
+    Session("snapshot", ["snapshot"], b"", "operators"),
+    Session("a further snapshot", ["snapshot", "--existing"], b"", "snapshot"),
+    Session("upgrade", ["upgrade"], b"", VERSION_1),
+    Session("export", ["export"], b"", "operators"),
+    Session("export of data", ["export", "--data"], b"", "operators"),
 ]
 
 
@@ -171,7 +185,7 @@ def courses(room, names=()):
     """The sessions of these names, or all, each over the files that its base leaves, or that are its base."""
     after = {None: None}
     for session in SESSIONS:
-        before = session.base if session.base is CLOSED else after[session.base]
+        before = session.base if isinstance(session.base, list) else after[session.base]
         one = course(room, session, before)
         after[session.name] = one.after
         if not names or session.name in names:
@@ -183,8 +197,12 @@ def check(room, one, got):
     it is whole, and takes a form."""
     want(got.status >= 0, one.session.name, "the program died:", got)
     want(one.ample.out.startswith(got.out), one.session.name, "the answers are no prefix:", got)
-    answered = got.out.count(b"\n") if one.session.words[0] == "run" else 0
-    check_world(room, one, answered)
+    check_world(room, one, answers(one, got.out))
+
+
+def answers(one, out):
+    """How many forms these bytes answer: those of a session, and none of another command."""
+    return out.count(b"\n") if one.session.words[0] == "run" else 0
 
 
 def check_world(room, one, answered):
