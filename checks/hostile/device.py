@@ -1,7 +1,7 @@
 """Each call to the system failing, short, torn, interrupted, or the last one of the process."""
 import collections
 
-from store import DEVICE, INPUT, OUTPUT, check, courses, library, want
+from store import DEVICE, INPUT, OUTPUT, check, courses, library, logged, want
 
 # an error once, want of room, an interrupt, an error from then on, half of the bytes, half of them and an error; the end of the process
 # before the call, after it, and in it
@@ -16,16 +16,23 @@ AGAIN = "wrs"
 
 def run(room, every, names=()):
     """One call of so many is tried. Gives how many runs there were, and what came of them."""
-    loaded = library("device", room.folder)
+    loaded = library("device", room)
     kinds = collections.Counter()
     for one in courses(room, names):
+        hits = set()
         for mode in MODES:
             number = 1
-            while disturbed(room, one, loaded, number, mode, kinds):
+            while disturbed(room, one, loaded, number, mode, kinds, hits):
                 number += every
+        want(every > 1 or hits >= needed(one.session), one.session.name, "reached only calls", *sorted(hits))
         for number in (1, 2):
             interrupted(room, one, loaded, number, kinds)
     return sum(kinds.values()), dict(kinds)
+
+
+def needed(session):
+    """The calls without which a session cannot be: opening, locking, reading and syncing the files, reading forms, writing answers."""
+    return set("ofrsWR" if session.words[0] == "run" else "ofrsW")
 
 
 def run_with(room, one, loaded, number, mode):
@@ -34,14 +41,15 @@ def run_with(room, one, loaded, number, mode):
     log = room.path("calls")
     environment = {"LD_PRELOAD": loaded, "DEVICE_AT": str(number), "DEVICE_MODE": mode, "DEVICE_LOG": log}
     got = room.run(one.session.words, one.session.text, environment)
-    with open(log, encoding="ascii") as file:
-        _, hit = file.read().split()
-    return got, hit
+    words = logged(log)
+    want(words is not None, one.session.name, "call", number, mode, "the program did not come to its end:", got)
+    return got, words[1]
 
 
-def disturbed(room, one, loaded, number, mode, kinds):
+def disturbed(room, one, loaded, number, mode, kinds, hits):
     """Whether the call of this number was reached."""
     got, hit = run_with(room, one, loaded, number, mode)
+    hits.add(hit)
     where = f"{one.session.name}, call {number} ({hit}) {mode}:"
     if hit == "-":
         want(got == one.ample, where, "no call was disturbed, and yet", got)

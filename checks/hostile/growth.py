@@ -1,20 +1,24 @@
 """Each growth of memory refused in turn: that one alone, and it and all after it."""
 import collections
-import os
 
-from store import NO_MEMORY, check, courses, library, want
+from store import NO_MEMORY, check, courses, library, logged, want
+
+
+REFUSED = NO_MEMORY.decode().strip()
 
 
 def run(room, every, names=()):
     """One growth of so many is tried. Gives how many runs there were, and what came of them."""
-    loaded = library("growth", room.folder)
+    loaded = library("growth", room)
     log = room.path("growths")
     kinds = collections.Counter()
     for one in courses(room, names):
+        before = kinds[REFUSED]
         for goes_on in (False, True):
             number = 1
             while disturbed(room, one, loaded, log, number, goes_on, kinds):
                 number += every
+        want(kinds[REFUSED] > before, one.session.name, "no growth was answered with 90")
     return sum(kinds.values()), dict(kinds)
 
 
@@ -25,11 +29,10 @@ def disturbed(room, one, loaded, log, number, goes_on, kinds):
     if goes_on:
         environment["GROWTH_ON"] = "1"
     got = room.run(one.session.words, one.session.text, environment)
-    with open(log, encoding="ascii") as file:
-        _, failed = map(int, file.read().split())
-    os.unlink(log)
     where = f"{one.session.name}, growth {number}{' and on' if goes_on else ''}:"
-    if failed == 0:
+    words = logged(log)
+    want(words is not None, where, "the program did not come to its end:", got)
+    if words[1] == "0":
         want(got == one.ample, where, "none was refused, and yet", got)
         return False
     left = room.files()

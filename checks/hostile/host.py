@@ -41,6 +41,7 @@ def closed_streams(room):
         child = subprocess.Popen([room.program, "run", room.store], stdin=subprocess.PIPE if feeds else None, stdout=subprocess.PIPE,
                                  stderr=subprocess.PIPE, preexec_fn=lambda: [os.close(number) for number in closed])
         child.communicate(b"(GET 'A 'N)\n(FROB)\n" if feeds else None, timeout=60)
+        want(child.returncode >= 0, "with", closed, "closed it ended by signal", -child.returncode)
         # a form that is accepted and writes is logged; all else stays, but the gate that it opens
         for old, new in zip(before, room.files()):
             want(new[: max(len(old) - 1, 0)] == old[:-1], "with", closed, "closed a file was overwritten")
@@ -122,15 +123,19 @@ def killed(room, times):
             every = dice.choice(["1", "2", "7", "100", "1000000"])
             child = subprocess.Popen([room.program, "run", room.store, "--snapshot-every", every], stdin=forms, stdout=subprocess.PIPE,
                                      stderr=subprocess.DEVNULL)
-            time.sleep(dice.uniform(0.0, 0.15))
+            # each second kill comes after some answers, however slow the machine is
+            seen = [child.stdout.readline() for _ in range(dice.randrange(1, 100))] if turn % 2 else []
+            time.sleep(dice.uniform(0.0, 0.01 if seen else 0.15))
             child.kill()
-            answers, _ = child.communicate(timeout=60)
-            lines = answers.split(b"\n")[:-1]
+            with child.stdout:
+                lines = (b"".join(seen) + child.stdout.read()).split(b"\n")[:-1]
+            child.wait(60)
             want(lines == [b"%d" % (stored + number + 1) for number in range(len(lines))], "kill", turn, answers[-40:])
             answered, found = stored + len(lines), count_in(room)
             want(answered <= found <= answered + 1, "kill", turn, answered, "answered,", found, "found")
             between += 0 < len(lines) < 2000
             stored = found
+    want(between > 0, "no kill came between two answers")
     return between
 
 

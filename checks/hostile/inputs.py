@@ -4,7 +4,7 @@ import os
 import resource
 import subprocess
 
-from store import NO_MEMORY, want
+from store import NO_MEMORY, PLACE, want
 
 MEMORY = 2 << 30
 SECONDS = 60
@@ -97,7 +97,8 @@ def run(room, names_of=()):
         if names_of and name not in names_of:
             continue
         status, faults, memory, seconds = tried(room, text)
-        want(status in (0, 1) and not faults or status == 3 and faults == NO_MEMORY, name, "ended with", status, faults)
+        is_told = {0: not faults, 1: PLACE.fullmatch(faults), 3: faults == NO_MEMORY}
+        want(is_told.get(status), name, "ended with", status, faults)
         opened = room.run(["verify"])
         want(opened.status == 0, name, "left a store that does not open:", opened)
         kinds["out of memory" if status == 3 else "refused by the reader" if status == 1 else "answered"] += 1

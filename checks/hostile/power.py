@@ -13,7 +13,6 @@ class File:
     def __init__(self, held):
         self.synced = self.now = held
         self.pending = []
-        self.syncs = 0
 
     def write(self, place, held):
         self.pending.append((place, place + len(held), False))
@@ -25,7 +24,6 @@ class File:
 
     def sync(self):
         self.synced, self.pending = self.now, []
-        self.syncs += 1
 
     def left(self, kind, dice):
         """What a crash of this kind leaves: all, nothing, or any bytes where something was written, and any length in between."""
@@ -79,7 +77,7 @@ def traced(room, one, loaded):
 
 def run(room, times, names=()):
     """So many random images of both kinds at each call. Gives how many images there were, and of what sessions."""
-    loaded = library("device", room.folder)
+    loaded = library("device", room)
     dice = random.Random(5)
     images, told = 0, {}
     for one in courses(room, names or NAMES):
@@ -92,7 +90,7 @@ def images_of(room, one, loaded, times, dice):
     """How many images of a session there were."""
     halves = [File(held or b"") for held in one.before or (b"", b"")]
     files = {b"half-a": halves[0], b"half-b": halves[1], os.path.basename(room.store).encode(): File(b"")}
-    opened, locked, answered = {}, set(), 0
+    opened, locked, lasting, answered = {}, set(), set(), 0
     images = crashed(room, one, halves, answered, times, dice, "the start")
     for number, (call, file, place, held) in enumerate(traced(room, one, loaded)):
         name = opened.get(file)
@@ -102,14 +100,18 @@ def images_of(room, one, loaded, times, dice):
             locked.add(name)
         elif call == "a" and file == 1:
             # a standard stream has a number up to 2, and what is meant for it may not get into a file
-            want(locked == {b"half-a", b"half-b"} and min(opened) > 2, one.session.name, "answered with", opened, locked)
+            both = {b"half-a", b"half-b"}
+            want(locked == both and min(opened) > 2, one.session.name, "answered with", opened, locked)
+            want(lasting >= both, one.session.name, "answered before the folder was synced with both files in it")
             answered += answers(one, held)
+            images += crashed(room, one, halves, answered, times, dice, f"answer at call {number}")
         elif name in files:
             target = files[name]
             {"w": lambda: target.write(place, held), "c": lambda: target.cut(place), "s": target.sync}[call]()
+            if target not in halves:
+                lasting = set(opened.values())
             images += crashed(room, one, halves, answered, times, dice, f"call {number}")
     want([half.now for half in halves] == one.after, one.session.name, "the trace is not that of the files")
-    want(files[os.path.basename(room.store).encode()].syncs > 0, one.session.name, "the folder was not synced")
     return images
 
 

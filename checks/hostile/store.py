@@ -9,7 +9,8 @@ import tempfile
 HERE = os.path.dirname(os.path.abspath(__file__))
 
 Answer = collections.namedtuple("Answer", "status out err")
-Session = collections.namedtuple("Session", "name words text base")
+# `wanted` is what an undisturbed session writes to standard output; its status is then 0.
+Session = collections.namedtuple("Session", "name words text base wanted", defaults=[None])
 # What a session does undisturbed: the files before it, its answer, the files after it, and after each number of its lines how many
 # answers there are, and the text of the world. `looked` has the files that were looked at, each with how many answers there were: what
 # was left by one run is looked at once, though many runs leave it.
@@ -40,6 +41,8 @@ NEWONE
 (INCF (GET 'A 'N))
 (SYMBOL-PLIST 'A)
 (REMPROP 'A 'B)
+(PROGN (SETF *READ-BASE* 10.) (IF (GET 'A 'B) 2 (LIST *PACKAGE* *READTABLE* *READ-BASE*)))
+(LIST (READTABLE-CASE *READTABLE*) (GET-MACRO-CHARACTER #\\') (GET-DISPATCH-MACRO-CHARACTER #\\# #\\\\))
 (COPY-READTABLE NIL :OTHER)
 (IN-READTABLE :OTHER)
 (SET-MACRO-CHARACTER #\\! :NOTE)
@@ -102,20 +105,42 @@ def want(holds, *what):
         raise Deviation(" ".join(str(part) for part in what))
 
 
-def library(name, folder):
-    """The library of this name, built without headers by the tool's own compiler, to be loaded before a program."""
+def library(name, room):
+    """The library of this name, built without headers by the tool's own compiler, to be loaded before a program. It is put where it can be
+    loaded from: a folder in memory may hold no code."""
     kit = os.path.join(os.path.dirname(os.path.dirname(os.path.realpath(shutil.which("rt")))), "toolchain", "bin")
-    source, code, built = (os.path.join(place, name + end) for place, end in ((HERE, ".c"), (folder, ".o"), (folder, ".so")))
-    subprocess.run([os.path.join(kit, "clang"), "-O2", "-fPIC", "-ffreestanding", "-nostdinc", "-c", source, "-o", code], check=True)
-    subprocess.run([os.path.join(kit, "ld.lld"), "-shared", code, "-o", built], check=True)
-    return built
+    for folder in (room.folder, room.code):
+        source, code, built = (os.path.join(place, name + end) for place, end in ((HERE, ".c"), (folder, ".o"), (folder, ".so")))
+        subprocess.run([os.path.join(kit, "clang"), "-O2", "-fPIC", "-ffreestanding", "-nostdinc", "-c", source, "-o", code], check=True)
+        subprocess.run([os.path.join(kit, "ld.lld"), "-shared", code, "-o", built], check=True)
+        log = room.path("loaded")
+        subprocess.run(["/bin/true"], env={"LD_PRELOAD": built, f"{name.upper()}_LOG": log}, capture_output=True, check=True)
+        if os.path.exists(log):
+            os.unlink(log)
+            return built
+    raise Deviation(f"{name}.so cannot be loaded before a program")
+
+
+def logged(log):
+    """The words of what a library wrote at the end of a program, or `None` if the program did not come to its end."""
+    try:
+        with open(log, encoding="ascii") as file:
+            words = file.read().split()
+    except FileNotFoundError:
+        return None
+    os.unlink(log)
+    return words
+
+
+# The line on the place of a refusal that ended a session.
+PLACE = re.compile(rb"(?:line \d+, column \d+|after \d+ bytes)(: refused with .* in form \d+), which began .*\n")
 
 
 def without_cause(faults):
     """What was told of a fault without the line with its cause, and of a refusal without its lines, which want of memory may hide."""
     if faults.startswith(DEVICE) and faults.count(b"\n") == 2:
         return DEVICE
-    place = re.fullmatch(rb"(?:line \d+, column \d+|after \d+ bytes)(: refused with .* in form \d+), which began .*\n", faults)
+    place = PLACE.fullmatch(faults)
     return place[1] if place else faults
 
 
@@ -124,7 +149,9 @@ class Room:
 
     def __init__(self, program, place=None):
         self.program = program
-        self.folder = tempfile.mkdtemp(prefix="campaign-", dir=place or ("/dev/shm" if os.path.isdir("/dev/shm") else None))
+        in_memory = "/dev/shm" if os.access("/dev/shm", os.W_OK | os.X_OK) else None
+        self.folder = tempfile.mkdtemp(prefix="campaign-", dir=place or in_memory)
+        self.code = tempfile.mkdtemp(prefix="campaign-")
         self.store = os.path.join(self.folder, "store")
 
     def path(self, name):
@@ -132,6 +159,7 @@ class Room:
 
     def clear(self):
         shutil.rmtree(self.folder)
+        shutil.rmtree(self.code)
 
     def sweep(self):
         """Removes the folders that tests left, which were stopped."""
@@ -170,6 +198,7 @@ class Room:
 def course(room, session, before):
     room.put(before)
     ample = room.run(session.words, session.text)
+    want(session.wanted is None or ample == Answer(0, session.wanted, b""), session.name, "undisturbed:", ample)
     after = room.files()
     lines = session.text.splitlines(keepends=True)
     words = session.words if session.words[0] == "run" else ["run"]

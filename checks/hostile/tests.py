@@ -3,7 +3,7 @@ import collections
 import os
 import subprocess
 
-from store import library, want
+from store import library, logged, want
 
 CRATES = ("log_tests", "program_tests", "reader_tests", "world_tests")
 
@@ -30,14 +30,23 @@ def binaries(crates):
 def run(room, paths, most):
     """At most so many growths of each test, each second one with all that come after it; and more of those that make a call again. Gives
     how many runs there were, and what came."""
-    loaded = library("growth", room.folder)
+    loaded = library("growth", room)
     kinds = collections.Counter()
     for path in paths:
-        listed = subprocess.run([path, "--list"], capture_output=True, text=True, check=True).stdout
-        for test in [line.split(": ")[0] for line in listed.splitlines() if line.endswith(": test")]:
+        for test in tests_of(path):
             for number, goes_on in places(test, growths(room, path, test, loaded), most):
                 kinds[outcome(room, path, test, loaded, number, goes_on)] += 1
     return sum(kinds.values()), dict(kinds)
+
+
+def tests_of(path):
+    """The names of the tests of a binary, of which it may not lack those that it is known for."""
+    listed = subprocess.run([path, "--list"], capture_output=True, text=True, check=True).stdout
+    found = [line.split(": ")[0] for line in listed.splitlines() if line.endswith(": test")]
+    want(found, os.path.basename(path), "has no test")
+    is_known = "program_tests" not in os.path.basename(path) or any(test.startswith(AGAIN) for test in found)
+    want(is_known, os.path.basename(path), "has no test of", AGAIN)
+    return found
 
 
 def places(test, total, most):
@@ -59,10 +68,9 @@ def growths(room, path, test, loaded):
     log = room.path("growths")
     done = tried(room, path, test, {"LD_PRELOAD": loaded, "GROWTH_LOG": log})
     want(done.returncode == 0, os.path.basename(path), test, "undisturbed:", done.returncode, done.stderr)
-    with open(log, encoding="ascii") as file:
-        total, _ = map(int, file.read().split())
-    os.unlink(log)
-    return total
+    words = logged(log)
+    want(words is not None, os.path.basename(path), test, "did not come to its end")
+    return int(words[0])
 
 
 def outcome(room, path, test, loaded, number, goes_on):
