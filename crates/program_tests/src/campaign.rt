@@ -257,6 +257,8 @@ fn difference(alloc: Global, row: &Row<'_>) -> Result<Option<(Stop, Crash)>, Tro
 
 const EIGHT: Step<'static> = Step::Form(Mode::Current, b"(SETF (GET 'A 'B) 8)");
 
+const SEVENTEEN: Step<'static> = Step::Form(Mode::Current, b"(SETF (GET 'A 'B) 17)");
+
 const GET: Step<'static> = Step::Form(Mode::Current, b"(GET 'A 'B)");
 
 const BRACKETS: [&[u8]; 3] = [
@@ -295,12 +297,12 @@ fn difference_after<'a>(
 fn a_form_that_stops_is_there_or_not(rt: HostRuntime) -> Result<(), Fail> {
     let alloc = rt.alloc();
     let set = form(b"(SETF (GET 'A 'B) 8)");
-    let run = Ask::Run(&[EIGHT, Step::Snapshot, EIGHT]);
+    let run = Ask::Run(&[EIGHT, Step::Snapshot, SEVENTEEN]);
     let rows: [(Start, &[Ask], &[Step]); 4] = [
         (Start::Fresh, &[], &[]),
         (Start::Seven, &[set], &[EIGHT]),
-        (Start::Fresh, &[run], &[EIGHT, EIGHT]),
-        (Start::FirstVersion, &[run], &[EIGHT, EIGHT]),
+        (Start::Fresh, &[run], &[EIGHT, SEVENTEEN]),
+        (Start::FirstVersion, &[run], &[EIGHT, SEVENTEEN]),
     ];
     for (start, calls, forms) in rows {
         let found = difference_after(alloc, start, calls, forms)?;
