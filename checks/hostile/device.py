@@ -10,6 +10,9 @@ MODES = ("e5", "e28", "e4", "E5", "s", "t", "x", "y", "h")
 # a fault of the device: of a write of a half, a sync, a cut, a read, a lock; then of standard input and of standard output
 TOLD = {"w": DEVICE, "s": DEVICE, "c": DEVICE, "r": DEVICE, "f": DEVICE, "R": INPUT, "W": OUTPUT}
 
+# calls that open a file, make the folder or ask how long a file is: a fault of the device too, or nothing is seen of it
+ASKED = "oml"
+
 # calls that are made again after an interrupt
 AGAIN = "wrs"
 
@@ -67,7 +70,7 @@ def disturbed(room, one, loaded, number, mode, kinds, hits):
         told = (TOLD[hit], b"") if mode == "E5" and hit == "W" else (TOLD[hit],)
         want(got.status == 3 and got.err in told, where, "the fault was not told:", got)
     else:
-        want(is_as_ever or got.status == 3, where, got)
+        want(is_as_ever or got.status == 3 and (hit not in ASKED or got.err == DEVICE), where, got)
     kinds["as ever" if is_as_ever else "ended" if got.status == 99 else got.err.decode().strip() or "nothing can be told"] += 1
     check(room, one, got)
     return True

@@ -7,7 +7,7 @@ import signal
 import subprocess
 import time
 
-from store import DEVICE, Answer, want, without_cause
+from store import DEVICE, OUTPUT, Answer, want, without_cause
 
 NEW_STORE = 154
 HALF_LIMIT = 1_073_741_824
@@ -47,6 +47,19 @@ def closed_streams(room):
             want(new[: max(len(old) - 1, 0)] == old[:-1], "with", closed, "closed a file was overwritten")
         want(count_in(room) == 3, "with", closed, "closed the world is lost")
     return 7
+
+
+def reader_gone(room):
+    """Nobody reads the answers any more. This is told as 68, and each form that was answered is there."""
+    room.put(None)
+    read, write = os.pipe()
+    os.close(read)
+    child = subprocess.Popen([room.program, "run", room.store], stdin=subprocess.PIPE, stdout=write, stderr=subprocess.PIPE)
+    os.close(write)
+    _, faults = child.communicate(form(1) + form(2), timeout=60)
+    want((child.returncode, faults) == (3, OUTPUT), "nobody reads:", child.returncode, faults)
+    want(count_in(room) in (0, 1), "nobody reads: the world")
+    return 1
 
 
 def two_processes(room):
@@ -141,7 +154,7 @@ def killed(room, times):
 
 def run(room, kills, is_long):
     """So many kills, and what needs 3 GB of memory where that is asked for. Gives how many runs there were, and of what."""
-    kinds = {"closed streams": closed_streams(room), "second processes": two_processes(room), "files that may not grow": no_room(room)}
+    kinds = {"closed streams": closed_streams(room), "readers that are gone": reader_gone(room), "second processes": two_processes(room), "files that may not grow": no_room(room)}
     if is_long:
         kinds["full halves"] = full(room)
     kinds["kills between two answers"] = killed(room, kills)
