@@ -3,11 +3,10 @@ use Rattle.std.proofs.Common.{◌≡◌, ◌≢◌, ◌⊎◌, ◌∙◌, Bool, 
 use Rattle.clap.specs.Words.{Text}
 use Rattle.disk_trait.specs.declared.host.HostError.{HostError}
 use Rattle.disk_trait.specs.declared.host.HostError.TheVariants.{NoName}
-use Rattle.disk_trait.specs.declared.host.IfMissing.{IfMissing}
 use Rattle.disk_trait.specs.Disk.{State}
 use Rattle.prevalence_store.specs.declared.outcome.Wanted.{Wanted}
 use Rattle.user_macros.specs.Functions.{Functions}
-use Rattle.store_commands.specs.Commands.{DoesAfter, IsUntouched, OpensFolder, SitsAfter, if_missing_of}
+use Rattle.store_commands.specs.Commands.{DoesAfter, IsUntouched, OpensFolder, SitsAfter}
 use Rattle.store_commands.specs.declared.words.Task.{Task}
 use Rattle.store_commands.specs.declared.words.Task.TheVariants.{Export, Run, Snapshot, Tell, Upgrade}
 use Rattle.store_commands.specs.Status.{status_of_host}
@@ -15,10 +14,10 @@ use Rattle.store_commands.specs.declared.status.Status.{Status}
 use Rattle.store_commands.specs.declared.told.Told.{Told}
 use Rattle.store_commands.specs.declared.told.Told.TheVariants.{Cause}
 
-module _ {D I O : Type 0} (input left : I) (held written : O) (opens : Text → IfMissing → Result D HostError → Type 0) (follows : D → Type 0) (folder : Text) (existing : Bool) where
+module _ {D I O : Type 0} (input left : I) (held written : O) (opens : Text → Bool → Result D HostError → Type 0) (follows : D → Type 0) (folder : Text) (existing : Bool) where
   -- the opening was asked for once, if the folder has a name
   abbrev Opening : Result D HostError → Type 0
-  Opening result = ((folder ≡ []) × (result ≡ Err NoName)) ⊎ ((folder ≢ []) × opens folder (if_missing_of existing) result)
+  Opening result = ((folder ≡ []) × (result ≡ Err NoName)) ⊎ ((folder ≢ []) × opens folder existing result)
 
   abbrev Opened : Status → Told → Type 0
   Opened status told = OpensFolder input left held written opens follows folder existing status told
@@ -28,12 +27,12 @@ module _ {D I O : Type 0} (input left : I) (held written : O) (opens : Text → 
   opening_failed result error status told is (inl (none, bad)) ends tells same =
       let nameless : error ≡ NoName = cc in inl (inr (inr (none, ends ∙ ap status_of_host nameless)), same)
   opening_failed result error status told is (inr (named, opened)) ends tells same =
-      inr (inl (error, subst (opens folder (if_missing_of existing)) is opened, ends, tells, same))
+      inr (inl (error, subst (opens folder existing) is opened, ends, tells, same))
 
   pub opening_gave : (result : Result D HostError) (disk : D) (status : Status) (told : Told) → result ≡ Ok disk → Opening result → follows disk → Opened status told
   opening_gave result disk status told is (inl (none, bad)) after = absurd (cc)
   opening_gave result disk status told is (inr (named, opened)) after =
-      inr (inr (disk, subst (opens folder (if_missing_of existing)) is opened, after))
+      inr (inr (disk, subst (opens folder existing) is opened, after))
 
   -- a folder that was opened has a name
   pub named_by : (result : Result D HostError) (disk : D) → result ≡ Ok disk → Opening result → folder ≡ [] → ⊥
@@ -42,7 +41,7 @@ module _ {D I O : Type 0} (input left : I) (held written : O) (opens : Text → 
 
 -- the same of what is equal
 module _ (functions : Functions) {D R : Type 0} (state : D → State) (macros : R) (whole : Bool) {I O : Type 0} (remaining : I → Option (List ℕ)) (contents : O → Option (List ℕ))
-    (input left : I) (held written : O) (opens : Text → IfMissing → Result D HostError → Type 0) (told : Told) (e f : Text) (m n : Bool) (t u : Task) (s r : Status)
+    (input left : I) (held written : O) (opens : Text → Bool → Result D HostError → Type 0) (told : Told) (e f : Text) (m n : Bool) (t u : Task) (s r : Status)
     (same_folder : e ≡ f) (same_existing : m ≡ n) (same_task : t ≡ u) (same_status : s ≡ r) where
   pub moved_opening : OpensFolder input left held written opens (DoesAfter functions state macros whole remaining contents input left held written u r told) f n r told
       → OpensFolder input left held written opens (DoesAfter functions state macros whole remaining contents input left held written t s told) e m s told
@@ -54,7 +53,7 @@ module _ (functions : Functions) {D R : Type 0} (state : D → State) (macros : 
 
 -- at a terminal, of each task
 module _ (functions : Functions) {D R : Type 0} (state : D → State) (macros : R) (whole : Bool) {I O : Type 0} (remaining : I → Option (List ℕ)) (contents : O → Option (List ℕ))
-    (input left : I) (held written : O) (opens : Text → IfMissing → Result D HostError → Type 0) (told : Told) (folder : Text) (existing : Bool) (status : Status) where
+    (input left : I) (held written : O) (opens : Text → Bool → Result D HostError → Type 0) (told : Told) (folder : Text) (existing : Bool) (status : Status) where
   abbrev Sat : Task → Type 0
   Sat task = OpensFolder input left held written opens (SitsAfter functions state macros whole remaining contents input left held written task status told) folder existing status told
 

@@ -4,6 +4,7 @@ pub mod CommandLineLaws
 pub mod FoundWords
 pub mod FolderLaws
 pub mod Fronts
+pub mod OpenHalves
 pub mod Reports
 pub mod SessionLaws
 pub mod Snapshots

@@ -3,8 +3,6 @@ use Rattle.std.specs.Prelude.{◌≡◌, ◌==◌, ◌||◌, ◌⊎◌, ℕ, Boo
 use Rattle.disk_trait.specs.Disk.{State}
 use Rattle.disk_trait.specs.declared.half.Half.{Half}
 use Rattle.disk_trait.specs.declared.host.HostError.{HostError}
-use Rattle.disk_trait.specs.declared.host.IfMissing.{IfMissing}
-use Rattle.disk_trait.specs.declared.host.IfMissing.TheVariants.{Make, Refuse}
 use Rattle.lisp_object.specs.declared.refusal.TheConstants.{DEVICE, DAMAGED, MISSING_MACRO, VERSION, INPUT, NO_MEMORY}
 use Rattle.clap.specs.Words.{Text}
 use Rattle.plist_state.specs.State.{WorldState}
@@ -133,23 +131,18 @@ module _ (functions : Functions) {D R : Type 0} (state : D → State) (macros : 
 
 -- ---- the opening of the folder
 
--- what is to become of a store that is missing
-abbrev pub if_missing_of : (existing : Bool) → IfMissing
-if_missing_of true = Refuse
-if_missing_of false = Make
-
 -- before the folder is looked at: there is no memory for the words, no seed is had, or no name
 abbrev pub IsBeforeFolder : Text → Status → Type 0
 IsBeforeFolder folder status = (status ≡ Fault NO_MEMORY) ⊎ ((status ≡ Fault INPUT) ⊎ ((folder ≡ []) × (status ≡ Fault DEVICE)))
 
 module _ {D I O : Type 0} (input left : I) (held written : O) where
-  -- The folder is opened once, and a store that is missing is made, or, with `--existing`, refused. If the files are not opened,
-  -- nothing is read or written, and the cause is told.
-  abbrev pub OpensFolder : (opens : Text → IfMissing → Result D HostError → Type 0) (follows : D → Type 0) → Text → Bool → Status → Told → Type 0
+  -- The folder is opened once, with or without `--existing`. If no store is opened there, nothing is read or written, and the cause is
+  -- told.
+  abbrev pub OpensFolder : (opens : Text → Bool → Result D HostError → Type 0) (follows : D → Type 0) → Text → Bool → Status → Told → Type 0
   OpensFolder opens follows folder existing status told =
       (IsBeforeFolder folder status × IsUntouched input left held written)
-      ⊎ (((error : HostError) × opens folder (if_missing_of existing) (Err error) × (status ≡ status_of_host error) × (told ≡ Cause error) × IsUntouched input left held written)
-      ⊎ ((disk : D) × opens folder (if_missing_of existing) (Ok disk) × follows disk))
+      ⊎ (((error : HostError) × opens folder existing (Err error) × (status ≡ status_of_host error) × (told ≡ Cause error) × IsUntouched input left held written)
+      ⊎ ((disk : D) × opens folder existing (Ok disk) × follows disk))
 
 module _ (functions : Functions) {D R : Type 0} (state : D → State) (macros : R) (whole : Bool)
     {I O : Type 0} (remaining : I → Option (List ℕ)) (contents : O → Option (List ℕ)) (input left : I) (held written : O) where

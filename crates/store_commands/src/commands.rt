@@ -1,16 +1,17 @@
 // What the words of the command line ask for.
-ghost use Rattle.std.specs.Prelude.{◌≡◌, ◌≢◌, ◌⊎◌, ◌<◌, ◌-◌, ◌^◌, Bool, [], map, Err, IfOk};
+ghost use Rattle.std.specs.Prelude.{◌≡◌, ◌⊎◌, ◌<◌, ◌-◌, ◌^◌, Bool, [], map, Err, IfOk};
 ghost use Rattle.clap.specs.Words.{Text, kind_of};
 ghost use Rattle.user_macros.specs.Functions.{are_registered};
 ghost use Rattle.store_commands.specs.declared.words.Task.{Task};
 ghost use Rattle.store_commands.specs.CommandLine.{AsksFor, IsTaken, faults_of};
-ghost use Rattle.store_commands.specs.Commands.{DoesAfter, DoesOn, OpensFolder, Performs, PerformsAtTerminal, PerformsInTurn, PerformsNone, SitsAfter, if_missing_of};
+ghost use Rattle.store_commands.specs.Commands.{DoesAfter, DoesOn, OpensFolder, Performs, PerformsAtTerminal, PerformsInTurn, PerformsNone, SitsAfter};
+ghost use Rattle.store_commands.specs.Folders.{OpensStore};
 ghost use Rattle.store_commands.specs.Status.{EndsAfter, HasFaultNumber, IsAfterWords, IsOfWords, IsQuiet, TakesWords};
 ghost use Rattle.store_commands.specs.Told.{TellsFault, left_out_of};
 ghost use Rattle.store_commands.specs.declared.told.Told.{Told};
 
 use crate::export::export_on;
-use crate::folders::Folders;
+use crate::folders::{Folders, open_folder};
 use crate::places::Places;
 use crate::report::report_on;
 use crate::session::serve_on;
@@ -22,7 +23,7 @@ use crate::told::{Told, end_with, end_with_told};
 use crate::upgrade::upgrade_on;
 use crate::words::{Asked, Task, asked_in};
 use clap::Error;
-use disk_trait::{Disk, HostDisk, HostError, IfMissing};
+use disk_trait::{Disk, HostDisk, HostError};
 use lisp_object::refusal::{INPUT, NO_MEMORY, OUTPUT};
 use plist_state::Seed;
 use prevalence_store::{Unopened, Wanted};
@@ -39,7 +40,8 @@ use user_macros::MacroFunctions;
 /// after each N forms that were logged. `snapshot DIR` takes
 /// a snapshot and writes the line on the half in use to `output`, `upgrade DIR` the version after it has taken one of files of
 /// version 1, `export DIR` the forms that make the world, `dump DIR` its text, and `verify DIR` the line on
-/// the half in use; they read nothing. A folder without a store gets one, or is a fault with `--existing`.
+/// the half in use; they read nothing. A folder without a store gets one, or is a fault with `--existing`, and so is one of whose files
+/// neither is in use.
 ///
 /// Names are hashed by a seed that is drawn from `rt`; if it has no random bytes, the status is that of a fault of the input.
 /// Faults are found in this order: the words, the seed, DIR, the opening of the store, the command. A text on words that are refused, or
@@ -72,7 +74,7 @@ where
         (are_registered M.Meaning.functions (M.functions macros)) I.remaining O.contents
         input.old input.new output.old output.new folder task result told
         × TellsFault result told (F.contents faults.old) (F.contents faults.new)
-        × OpensFolder input.old input.new output.old output.new (R.opens rt.now)
+        × OpensFolder input.old input.new output.old output.new (OpensStore ⟦<HostDisk as Disk>⟧.state (R.opens rt.now))
         (DoesAfter M.Meaning.functions ⟦<HostDisk as Disk>⟧.state macros
         (are_registered M.Meaning.functions (M.functions macros)) I.remaining O.contents
         input.old input.new output.old output.new task result told)
@@ -121,7 +123,7 @@ where
         (are_registered M.Meaning.functions (M.functions macros)) I.remaining O.contents
         input.old input.new output.old output.new folder task result told
         × TellsFault result told (F.contents faults.old) (F.contents faults.new)
-        × OpensFolder input.old input.new output.old output.new (R.opens rt.now)
+        × OpensFolder input.old input.new output.old output.new (OpensStore ⟦<HostDisk as Disk>⟧.state (R.opens rt.now))
         (SitsAfter M.Meaning.functions ⟦<HostDisk as Disk>⟧.state macros
         (are_registered M.Meaning.functions (M.functions macros)) I.remaining O.contents
         input.old input.new output.old output.new task result told)
@@ -158,7 +160,7 @@ where
     O: Write,
     requires answers { M.answers macros }
     ensures taken { TakesWords result.0 }
-    ensures opened { OpensFolder input.old input.new output.old output.new (R.opens rt.now)
+    ensures opened { OpensFolder input.old input.new output.old output.new (OpensStore ⟦<HostDisk as Disk>⟧.state (R.opens rt.now))
         (SitsAfter M.Meaning.functions ⟦<HostDisk as Disk>⟧.state macros
         (are_registered M.Meaning.functions (M.functions macros)) I.remaining O.contents
         input.old input.new output.old output.new asked.entry.task result.0 result.1)
@@ -191,7 +193,7 @@ where
     ensures performs { PerformsInTurn M.Meaning.functions ⟦<HostDisk as Disk>⟧.state macros
         (are_registered M.Meaning.functions (M.functions macros)) I.remaining O.contents
         input.old input.new output.old output.new asked.entry.folder.now wanted result.0 result.1 }
-    ensures opened { OpensFolder input.old input.new output.old output.new (R.opens rt.now)
+    ensures opened { OpensFolder input.old input.new output.old output.new (OpensStore ⟦<HostDisk as Disk>⟧.state (R.opens rt.now))
         (SitsAfter M.Meaning.functions ⟦<HostDisk as Disk>⟧.state macros
         (are_registered M.Meaning.functions (M.functions macros)) I.remaining O.contents
         input.old input.new output.old output.new (Task.Run wanted) result.0 result.1)
@@ -201,7 +203,7 @@ where
     let Ok(seed) = Seed::draw(rt) else {
         return (Status::Fault(INPUT), Told::Nothing);
     };
-    let disk = match open_folder(rt, asked) {
+    let disk = match open_folder(rt, asked.folder, asked.existing) {
         Ok(disk) => disk,
         Err(error) => return (Status::of_host(&error), Told::Cause(error)),
     };
@@ -264,7 +266,7 @@ where
     ensures performs { Performs M.Meaning.functions ⟦<HostDisk as Disk>⟧.state macros
         (are_registered M.Meaning.functions (M.functions macros)) I.remaining O.contents
         input.old input.new output.old output.new asked.entry.folder.now asked.entry.task result.0 result.1 }
-    ensures opened { OpensFolder input.old input.new output.old output.new (R.opens rt.now)
+    ensures opened { OpensFolder input.old input.new output.old output.new (OpensStore ⟦<HostDisk as Disk>⟧.state (R.opens rt.now))
         (DoesAfter M.Meaning.functions ⟦<HostDisk as Disk>⟧.state macros
         (are_registered M.Meaning.functions (M.functions macros)) I.remaining O.contents
         input.old input.new output.old output.new asked.entry.task result.0 result.1)
@@ -274,7 +276,7 @@ where
     let Ok(seed) = Seed::draw(rt) else {
         return (Status::Fault(INPUT), Told::Nothing);
     };
-    let disk = match open_folder(rt, asked) {
+    let disk = match open_folder(rt, asked.folder, asked.existing) {
         Ok(disk) => disk,
         Err(error) => return (Status::of_host(&error), Told::Cause(error)),
     };
@@ -307,30 +309,6 @@ fn cause_of(disk: &HostDisk) -> Told
     match disk.cause() {
         Some(error) => Told::Cause(HostError::System(error)),
         None => Told::Nothing,
-    }
-}
-
-// Opens the files of a folder, which has a name.
-fn open_folder<R: Folders>(rt: &R, asked: Asked<'_>) -> Result<HostDisk, HostError>
-    ensures room { IfOk result (λ disk. (⟦<HostDisk as Disk>⟧.state disk).failures ≡ 0) }
-    ensures opens { ((asked.entry.folder.now ≡ []) × (result ≡ Err HostError.NoName))
-        ⊎ ((asked.entry.folder.now ≢ []) × R.opens rt.now asked.entry.folder.now (if_missing_of asked.entry.existing) result) }
-{
-    // no folder has an empty name, and files under it would be those of the present folder
-    if asked.folder.is_empty() {
-        return Err(HostError::NoName);
-    }
-    rt.open_files(asked.folder, if_missing(asked.existing))
-}
-
-// What is to become of a store that is missing.
-fn if_missing(existing: bool) -> IfMissing
-    ensures { result ≡ if_missing_of existing }
-{
-    if existing {
-        IfMissing::Refuse
-    } else {
-        IfMissing::Make
     }
 }
 

@@ -146,6 +146,20 @@ impl<I: Read, P: Write> Read for Terminal<'_, I, P> {
 }
 
 impl<I: Read, P: Write> Terminal<'_, I, P> {
+    // Drops a byte, and tells whether there was one.
+    fn drop_byte(&mut self) -> bool
+        ensures { Drops (I.remaining self.old.input) (I.remaining self.new.input) }
+    {
+        let mut byte = [0u8];
+        match self.input.read(&mut byte) {
+            Ok(1) => {
+                self.give(byte[0]);
+                true
+            }
+            _ => false,
+        }
+    }
+
     // Drops the rest of the line, and tells whether it had an end.
     fn drop_line(&mut self) -> bool
         ensures { Drops (I.remaining self.old.input) (I.remaining self.new.input) }
@@ -154,10 +168,8 @@ impl<I: Read, P: Write> Terminal<'_, I, P> {
             if self.last == b'\n' {
                 break;
             }
-            let mut byte = [0u8];
-            match self.input.read(&mut byte) {
-                Ok(1) => self.give(byte[0]),
-                _ => return false,
+            if !self.drop_byte() {
+                return false;
             }
         }
         true

@@ -1,5 +1,6 @@
 use Rattle.std.proofs.Common.{◌∙◌, ap, inl, map, refl, subst, sym}
 use Rattle.clap.specs.Words.{Kinds, kind_of}
+use Rattle.store_commands.specs.Folders.{OpensStore}
 use Rattle.store_commands.specs.CommandLine.{asked_in, faults_of}
 use Rattle.store_commands.specs.Status.{EndsAfter, HasFaultNumber, IsAfterWords, IsCarriedOut, TakesWords}
 use Rattle.store_commands.proofs.CommandLineLaws.{line_is_taken}
@@ -39,14 +40,13 @@ returns-in-Ok-clause-taken g c = λ folder existing task taken.
     let asked = asked_in (map g.S.AsStr.text c.args.words.now) in
     let same = same_folder asked c.in-Ok.asked.folder.now folder c.in-Ok.asked.existing existing c.in-Ok.asked.task task c.in-Ok.ensures.asked taken.1 in
     let existing_too = same_existing asked c.in-Ok.asked.folder.now folder c.in-Ok.asked.existing existing c.in-Ok.asked.task task c.in-Ok.ensures.asked taken.1 in
-    let likewise = same_task asked c.in-Ok.asked.folder.now folder c.in-Ok.asked.existing existing c.in-Ok.asked.task task c.in-Ok.ensures.asked taken.1 in
-    (
+    let likewise = same_task asked c.in-Ok.asked.folder.now folder c.in-Ok.asked.existing existing c.in-Ok.asked.task task c.in-Ok.ensures.asked taken.1 in (
       c.carry_out-status.result.1,
       moved_performs _ _ _ _ g.I.Read.remaining g.O.Write.contents _ _ _ _ _ _ c.carry_out-status.result.1 folder c.in-Ok.asked.folder.now task c.in-Ok.asked.task
-      c.end_with_told.result c.carry_out-status.result.0 (sym same) (sym likewise) c.end_with_told.ensures.status refl refl c.carry_out-status.ensures.performs,
+          c.end_with_told.result c.carry_out-status.result.0 (sym same) (sym likewise) c.end_with_told.ensures.status refl refl c.carry_out-status.ensures.performs,
       told_of_task g c,
-      moved_opening _ _ _ _ g.I.Read.remaining g.O.Write.contents _ _ _ _ (g.R.Folders.opens c.args.rt.now) c.carry_out-status.result.1 folder c.in-Ok.asked.folder.now existing c.in-Ok.asked.existing
-      task c.in-Ok.asked.task c.end_with_told.result c.carry_out-status.result.0 (sym same) (sym existing_too) (sym likewise) c.end_with_told.ensures.status c.carry_out-status.ensures.opened,
+      moved_opening _ _ _ _ g.I.Read.remaining g.O.Write.contents _ _ _ _ (OpensStore _ (g.R.Folders.opens c.args.rt.now)) c.carry_out-status.result.1 folder c.in-Ok.asked.folder.now existing c.in-Ok.asked.existing
+          task c.in-Ok.asked.task c.end_with_told.result c.carry_out-status.result.0 (sym same) (sym existing_too) (sym likewise) c.end_with_told.ensures.status c.carry_out-status.ensures.opened,
     )
 
 pub returns-in-Ok-clause-untaken : goal.returns-in-Ok-clause-untaken

@@ -15,3 +15,6 @@ sessions-preserved g c = (
       (c.sessions.invariant.1 world known) c.next_session.ensures.drops
       (λ left there. c.serve_wanted-ended-in-sessions.ensures.serves left there),
 )
+
+pub returns-then-not-next_session-clause-serves : goal.returns-then-not-next_session-clause-serves
+returns-then-not-next_session-clause-serves g c = λ world known. last_turn _ _ _ _ world _ _ _ _ _ _ c.sessions.ended (c.sessions.invariant.1 world known) c.next_session.ensures.drops
