@@ -1,12 +1,14 @@
 -- From what the opening of a folder gave to what is promised of it.
 use Rattle.std.proofs.Common.{◌≡◌, ◌≢◌, ◌⊎◌, ◌∙◌, Bool, List, Option, ℕ, [], Result, Ok, Err, refl, sym, ap, subst, inl, inr}
 use Rattle.clap.specs.Words.{Text}
+use Rattle.disk_trait.specs.declared.disk.DeviceFault.{DeviceFault}
 use Rattle.disk_trait.specs.declared.host.HostError.{HostError}
 use Rattle.disk_trait.specs.declared.host.HostError.TheVariants.{NoName}
 use Rattle.disk_trait.specs.Disk.{State}
 use Rattle.prevalence_store.specs.declared.outcome.Wanted.{Wanted}
 use Rattle.user_macros.specs.Functions.{Functions}
 use Rattle.store_commands.specs.Commands.{DoesAfter, IsUntouched, OpensFolder, SitsAfter}
+use Rattle.store_commands.specs.Folders.{HoldsStore, LooksWhether}
 use Rattle.store_commands.specs.declared.words.Task.{Task}
 use Rattle.store_commands.specs.declared.words.Task.TheVariants.{Export, Run, Snapshot, Tell, Upgrade}
 use Rattle.store_commands.specs.Status.{status_of_host}
@@ -38,6 +40,10 @@ module _ {D I O : Type 0} (input left : I) (held written : O) (opens : Text → 
   pub named_by : (result : Result D HostError) (disk : D) → result ≡ Ok disk → Opening result → folder ≡ [] → ⊥
   named_by result disk is (inl (none, bad)) nameless = absurd (cc)
   named_by result disk is (inr (named, opened)) nameless = named nameless
+
+-- a look with this answer
+pub looked_so : (old new : State) (result other : Result Bool DeviceFault) → result ≡ other → LooksWhether HoldsStore old new result → LooksWhether HoldsStore old new other
+looked_so old new result other is looks = subst (LooksWhether HoldsStore old new) is looks
 
 -- the same of what is equal
 module _ (functions : Functions) {D R : Type 0} (state : D → State) (macros : R) (whole : Bool) {I O : Type 0} (remaining : I → Option (List ℕ)) (contents : O → Option (List ℕ))

@@ -4,7 +4,6 @@ pub mod CommandLineLaws
 pub mod FoundWords
 pub mod FolderLaws
 pub mod Fronts
-pub mod OpenHalves
 pub mod Reports
 pub mod SessionLaws
 pub mod Snapshots

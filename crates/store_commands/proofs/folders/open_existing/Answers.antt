@@ -1,5 +1,5 @@
 use Rattle.std.proofs.Common.{◌∙◌, Bool, Ok, ap, inl, inr, refl}
-use Rattle.store_commands.proofs.OpenHalves.{looked_so}
+use Rattle.store_commands.proofs.FolderLaws.{looked_so}
 use Rattle.store_commands.proofs.folders.open_existing.Goals as goal
 
 pub returns-in-Ok-true-clause-opens : goal.returns-in-Ok-true-clause-opens
