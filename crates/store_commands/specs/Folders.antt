@@ -17,7 +17,7 @@ use Rattle.store_commands.specs.declared.status.Status.TheVariants.{Fault}
 abbrev pub HoldsStore : Image → Type 0
 HoldsStore image = IsOpen image.a ⊎ IsOpen image.b
 
--- It is looked at the files whether this holds of them, and nothing is written. The answer is true of an honest disk.
+-- The files are looked at for whether this holds of them, and nothing is written. Of an honest disk the answer is true.
 pub record LooksWhether (P : Image → Type 0) (old new : State) (result : Result Bool DeviceFault) : Type 0 where
   pub counts : Counts old new result
   pub rests : IsHonest old → Rests old new
