@@ -298,6 +298,60 @@ fn an_existing_store_is_there_already(rt: HostRuntime) -> Result<(), Fail> {
     Ok(())
 }
 
+/// Two files of which neither is in use: empty ones, an open gate alone, and others that begin with a closed one.
+const CLOSED: [(&[u8], &[u8]); 4] = [
+    (b"", b""),
+    (b"\xA5", b"\xA5"),
+    (b"\x00\x00\x02", b""),
+    (b"\x25\x00\x02", b"text\n"),
+];
+
+/// Whether such files are refused as no store, and left as they are.
+fn are_refused(
+    rt: &HostRuntime,
+    folder: &str,
+    words: &'static str,
+    (in_a, in_b): (&[u8], &[u8]),
+) -> Result<bool, Fail> {
+    let wanted: &[u8] = b"3\nstandard error: ! 60 DEVICE\nthere is no store in this folder\n";
+    let a = format!(in rt.alloc(); "{folder}/half-a")?;
+    let b = format!(in rt.alloc(); "{folder}/half-b")?;
+    fs::write(rt, a.as_str(), in_a)?;
+    fs::write(rt, b.as_str(), in_b)?;
+    let text = told(rt, folder, Lack::Nothing, words, b"7 ")?;
+    let is_left = fs::read(rt, a.as_str())?.as_slice() == in_a
+        && fs::read(rt, b.as_str())?.as_slice() == in_b;
+    Ok(is_left && is_wanted(text.as_slice(), wanted)?)
+}
+
+/// The text of a session that asks for a store, after half A of a store in half B was emptied.
+fn told_of_half_b(rt: &HostRuntime, folder: &str) -> Result<Vec<u8>, Fail> {
+    let half = format!(in rt.alloc(); "{folder}/half-a")?;
+    let _taken = told(rt, folder, Lack::Nothing, "snapshot DIR", b"")?;
+    fs::write(rt, half.as_str(), b"")?;
+    told(rt, folder, Lack::Nothing, "verify DIR --existing", b"")
+}
+
+#[test]
+fn an_existing_store_has_a_half_in_use(rt: HostRuntime) -> Result<(), Fail> {
+    let folder = folder_for(&rt, "closed")?;
+    let folder = folder.as_str();
+    fs::create_dir_all(&rt, folder)?;
+    for words in [
+        "run DIR --existing",
+        "snapshot DIR --existing",
+        "verify DIR --existing",
+    ] {
+        for files in CLOSED {
+            assert!(rt; are_refused(&rt, folder, words, files)?, "{words}");
+        }
+    }
+    let text = told_of_half_b(&rt, folder)?;
+    assert!(rt; is_wanted(text.as_slice(), b"0\nhalf B generation 2 records 0\n")?);
+    fs::remove_dir_all(&rt, folder)?;
+    Ok(())
+}
+
 #[test]
 fn a_hyphen_is_a_folder(rt: HostRuntime) -> Result<(), Fail> {
     let found = run(&rt, Lack::Nothing, &["store_program", "run", "-"], b"7 ")?;

@@ -1,24 +1,91 @@
 -- From what is done at a terminal to what is promised of it.
-use Rattle.std.proofs.Common.{◌≡◌, ℕ, Bool, List, Option, refl, sym, ap, subst, inl}
+use Rattle.std.proofs.Common.{◌≡◌, ◌∙◌, ℕ, Bool, List, [], ◌++◌, Option, Some, refl, sym, ap, subst, append-nil, inl, inr, arith}
 use Rattle.disk_trait.specs.Disk.{State}
 use Rattle.clap.specs.Words.{Text}
+use Rattle.lisp_object.specs.declared.refusal.TheConstants.{DEVICE, INPUT, NO_MEMORY}
 use Rattle.user_macros.specs.Functions.{Functions}
+use Rattle.prevalence_store.specs.declared.outcome.Ended.{Ended}
 use Rattle.prevalence_store.specs.declared.outcome.Wanted.{Wanted}
-use Rattle.store_commands.specs.Commands.{IsEarlyFault, IsUntouched, Performs, PerformsAtTerminal, Sits}
+use Rattle.store_commands.specs.Commands.{IsEarlyFault, IsUntouched, Performs, PerformsAtTerminal, PerformsInTurn, Sits, TellsUnopened}
+use Rattle.store_commands.specs.Sessions.{AreSessions}
+use Rattle.store_commands.specs.Status.{HasFaultNumber, IsFaultNumber, status_of_ended}
+use Rattle.store_commands.specs.Told.{IsToldOf}
 use Rattle.store_commands.specs.declared.status.Status.{Status}
+use Rattle.store_commands.specs.declared.status.Status.TheVariants.{Fault}
 use Rattle.store_commands.specs.declared.told.Told.{Told}
 use Rattle.store_commands.specs.declared.words.Task.{Task}
 use Rattle.store_commands.specs.declared.words.Task.TheVariants.{Export, Run, Snapshot, Tell, Upgrade}
+use Rattle.store_commands.proofs.SessionLaws.{broken_at, fault_of_session, no_opening_at, nothing_written, number_of_opening}
+use Rattle.store_commands.proofs.Statuses.{end_at, taken_at_end}
 use Rattle.store_commands.proofs.Tasks.{performs_nothing}
+use Rattle.store_commands.proofs.Turns.{earlier_go}
 
 module _ (functions : Functions) {D R : Type 0} (state : D → State) (macros : R) (whole : Bool)
     {I O : Type 0} (remaining : I → Option (List ℕ)) (contents : O → Option (List ℕ)) (input left : I) (held written : O) (told : Told) (folder : Text) where
+  -- ---- sessions in a row
+
+  abbrev InARow : Wanted → Status → Type 0
+  InARow wanted status = PerformsInTurn functions state macros whole remaining contents input left held written folder wanted status told
+
+  abbrev Sitting : Wanted → Status → Type 0
+  Sitting wanted status = Sits functions state macros whole remaining contents input left held written wanted status told
+
+  -- a fault before anything was read or written
+  row_untouched : (wanted : Wanted) (given : ℕ) → IsUntouched input left held written → IsFaultNumber given → (folder ≡ [] → IsEarlyFault (Fault given))
+      → Sitting wanted (Fault given) → InARow wanted (Fault given)
+  row_untouched wanted given same number nameless sits = record {
+    sits = sits;
+    taken = tt;
+    nameless = λ none. (nameless none, same);
+    unopened = λ other is of. same;
+    fault = λ other is. let there : given ≡ other = cc in subst IsFaultNumber there number;
+    breaks_off = λ text had other known holds is.
+        (text, [], nothing_written functions wanted.mode text (had ++ []) (contents written) (ap contents same.1 ∙ holds ∙ ap (λ l. Some l) (sym (append-nil had))));
+  }
+
+  -- there is no memory, no seed, or the folder is not opened
+  pub row_nothing : (wanted : Wanted) (status : Status) → IsEarlyFault status → IsUntouched input left held written → InARow wanted status
+  row_nothing wanted status (inl is) same =
+      subst (InARow wanted) (sym is) (row_untouched wanted NO_MEMORY same (inr (inr refl)) (λ none. inl refl) (inl (inl refl, same)))
+  row_nothing wanted status (inr (inl is)) same =
+      subst (InARow wanted) (sym is) (row_untouched wanted INPUT same (inr (inl (omega arith, omega arith))) (λ none. inr (inl refl)) (inl (inr (inl refl), same)))
+  row_nothing wanted status (inr (inr is)) same =
+      subst (InARow wanted) (sym is) (row_untouched wanted DEVICE same (inl refl) (λ none. inr (inr refl)) (inl (inr (inr refl), same)))
+
+  -- the store is not opened
+  pub row_unopened : (disk back : D) (wanted : Wanted) (status : Status) → (folder ≡ [] → ⊥) → TellsUnopened functions state disk back whole status
+      → IsUntouched input left held written → InARow wanted status
+  row_unopened disk back wanted status named (number, is, unopened) same =
+      subst (InARow wanted) (sym is) (row_untouched wanted number same (number_of_opening number unopened.fault unopened.number_is)
+      (λ none. absurd (named none)) (inr (disk, back, inr ((number, refl, unopened), same))))
+
+  pub row_of_sessions : (disk back : D) (wanted : Wanted) (status : Status) (ended : Ended) → (folder ≡ [] → ⊥) → status ≡ status_of_ended ended → IsToldOf ended told
+      → AreSessions functions wanted state disk macros (remaining input) (remaining left) (contents held) (contents written) ended back → InARow wanted status
+  row_of_sessions disk back wanted status ended named is tells sessions =
+      let (others, mid, between, begun, there, before, earlier, last, dropped) = sessions.serves in
+      record {
+        sits = inr (disk, back, inl (ended, is, tells, sessions));
+        taken = taken_at_end status status ended refl is;
+        nameless = λ none. absurd (named none);
+        unopened = λ number fault of. absurd (no_opening_at functions wanted state mid sessions.closed between begun there before (contents written) ended number
+            (end_at status status ended number refl is fault) last of);
+        fault = subst HasFaultNumber (sym is) (fault_of_session functions wanted state mid sessions.closed between begun there before (contents written) ended last);
+        breaks_off = λ text had number known holds fault.
+            let far = earlier_go functions wanted state others sessions.opened mid sessions.is_opened.world between (remaining input) begun (contents held) before earlier text had known holds in (
+              far.0,
+              far.1,
+              broken_at functions wanted state mid sessions.closed between begun there before (contents written) ended number
+                  (end_at status status ended number refl is fault) last far.0 (had ++ far.1) far.2 far.3,
+            );
+      }
+
+  -- ---- each task
+
   abbrev Performed : Task → Status → Type 0
   Performed task status = PerformsAtTerminal functions state macros whole remaining contents input left held written folder task status told
 
-  pub sits_there : (task : Task) (status : Status) (wanted : Wanted) → task ≡ Run wanted
-      → Sits functions state macros whole (contents held) (contents written) wanted status told → Performed task status
-  sits_there task status wanted is sits = subst (λ (t : Task). Performed t status) (sym is) sits
+  pub row_there : (task : Task) (status : Status) (wanted : Wanted) → task ≡ Run wanted → InARow wanted status → Performed task status
+  row_there task status wanted is row = subst (λ (t : Task). Performed t status) (sym is) row
 
   -- each task but `run`
   pub performs_there : (task : Task) (status : Status) → ((wanted : Wanted) → task ≡ Run wanted → ⊥)
@@ -31,7 +98,7 @@ module _ (functions : Functions) {D R : Type 0} (state : D → State) (macros : 
 
   -- there is no memory, no seed, or the folder is not opened
   pub nothing_there : (task : Task) (status : Status) → IsEarlyFault status → IsUntouched input left held written → Performed task status
-  nothing_there (Run wanted) status early same = inl (early, ap contents same.1)
+  nothing_there (Run wanted) status early same = row_nothing wanted status early same
   nothing_there Snapshot status early same = performs_nothing functions state macros whole remaining contents input left held written told folder Snapshot status early same
   nothing_there Upgrade status early same = performs_nothing functions state macros whole remaining contents input left held written told folder Upgrade status early same
   nothing_there (Export content) status early same =

@@ -92,6 +92,9 @@ asked_found m name f folder flag existing task named listed folder_is existing_i
 abbrev task_in : Asked → Task
 task_in (folder, existing, task) = task
 
+abbrev existing_in : Asked → Bool
+existing_in (folder, existing, task) = existing
+
 -- the words ask for one thing, of one folder
 module _ (asked : Option Asked) (a b : Text) (m n : Bool) (t u : Task) where
   pub same_folder : asked ≡ Some (a, m, t) → asked ≡ Some (b, n, u) → a ≡ b
@@ -101,3 +104,7 @@ module _ (asked : Option Asked) (a b : Text) (m n : Bool) (t u : Task) where
   pub same_task : asked ≡ Some (a, m, t) → asked ≡ Some (b, n, u) → t ≡ u
   same_task one other = let both : ◌≡◌ {A = Option Asked} (Some (a, m, t)) (Some (b, n, u)) = sym one ∙ other in
       ap (λ (o : Option Asked). elim o [ None ↦ t | Some p ↦ task_in p ]) both
+
+  pub same_existing : asked ≡ Some (a, m, t) → asked ≡ Some (b, n, u) → m ≡ n
+  same_existing one other = let both : ◌≡◌ {A = Option Asked} (Some (a, m, t)) (Some (b, n, u)) = sym one ∙ other in
+      ap (λ (o : Option Asked). elim o [ None ↦ m | Some p ↦ existing_in p ]) both

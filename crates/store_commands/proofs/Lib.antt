@@ -2,6 +2,7 @@ mod Answered
 pub mod AtTerminal
 pub mod CommandLineLaws
 pub mod FoundWords
+pub mod FolderLaws
 pub mod Fronts
 pub mod Reports
 pub mod SessionLaws

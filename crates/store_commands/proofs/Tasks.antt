@@ -10,12 +10,12 @@ use Rattle.user_macros.specs.Functions.{Functions}
 use Rattle.prevalence_store.specs.declared.outcome.Ended.{Ended}
 use Rattle.prevalence_store.specs.declared.outcome.Ended.TheVariants.{End, Store, Unaccepted, Unreadable}
 use Rattle.prevalence_store.specs.declared.outcome.Wanted.{Wanted}
-use Rattle.store_commands.specs.Commands.{CarriesOut, Does, DoesOn, IsEarlyFault, IsUntouched, Performs, SitsOn, TaskBreaksOff, TaskReads, TaskWrites, TellsUnopened}
+use Rattle.store_commands.specs.Commands.{CarriesOut, Does, DoesOn, IsEarlyFault, IsUntouched, Performs, TaskBreaksOff, TaskReads, TaskWrites, TellsUnopened}
 use Rattle.store_commands.specs.Report.{IsExport, IsReport, IsSnapshot, IsUpgrade, half_line, version_line}
 use Rattle.prevalence_store.specs.calls.Open.{IsUnopened}
 use Rattle.store_commands.specs.Session.{AnswersInput, IsSession, ReadsToEnd, half_limit}
 use Rattle.store_commands.specs.Status.{HasFaultNumber, IsFaultNumber, status_of_ended}
-use Rattle.store_commands.specs.Told.{IsToldOf}
+use Rattle.store_commands.specs.Told.{IsToldOf, left_out_of}
 use Rattle.store_commands.specs.declared.told.Told.{Told}
 use Rattle.store_commands.specs.declared.told.Told.TheVariants.{Nothing}
 use Rattle.store_commands.specs.declared.status.Status.{Status}
@@ -163,15 +163,15 @@ module _ (functions : Functions) {D R : Type 0} (state : D → State) (macros : 
       → Performed folder (Export content) status
   performs_export disk back folder content status named (done, same) = record {
     does = inr (disk, back, inl (done, same));
-    taken = forms_taken _ _ done.forms status done.tells;
+    taken = forms_taken _ _ done.forms _ status done.tells;
     nameless = λ none. absurd (named none);
     unread = λ none. same;
-    unopened = λ number is of. absurd (forms_of_no_opening _ _ done.forms status number is done.tells of);
-    fault = forms_fault _ _ done.forms status done.tells;
+    unopened = λ number is of. absurd (forms_of_no_opening _ _ done.forms _ status number is done.tells of);
+    fault = forms_fault _ _ done.forms _ status done.tells;
     reads = λ text had. ap remaining same ∙ had;
-    writes = λ text had reads holds. forms_written (contents held) (contents written) done.forms had holds status done.tells;
+    writes = λ text had reads holds. forms_written (contents held) (contents written) done.forms _ had holds status done.tells;
     breaks_off = λ text had number reads holds is.
-        forms_break (contents held) (contents written) done.forms had holds functions content status number text is done.tells;
+        forms_break (contents held) (contents written) done.forms _ had holds functions content status number text is done.tells;
   }
 
   performs_report : (disk back : D) (folder : Text) (report : Report) (status : Status) → (folder ≡ [] → ⊥)
@@ -231,7 +231,7 @@ module _ (functions : Functions) {D R : Type 0} (state : D → State) (macros : 
       (inl (done, same))
 
   pub does_export : (disk back : D) (task : Task) (status : Status) (content : Content) → task ≡ Export content
-      → IsExport functions state disk macros (contents held) (contents written) status back → left ≡ input
+      → IsExport functions state disk macros (contents held) (contents written) status back (left_out_of told) → left ≡ input
       → DoesOn functions state macros whole remaining contents input left held written disk back task status told
   does_export disk back task status content is done same =
       subst (λ (t : Task). DoesOn functions state macros whole remaining contents input left held written disk back t status told) (sym is)
@@ -251,29 +251,30 @@ pub moved_performs : (functions : Functions) {D R I O : Type 0} (state : D → S
 moved_performs functions state macros whole remaining contents input v w held x y told e f t u s r same_folder same_task same_status same_left same_written given =
     rw (same_folder, same_task, same_status, same_left, same_written) given
 
--- what is told of a session is told after it too
-kept_so : (ended : Ended) (told later : Told) → (told ≡ Nothing) ⊎ (later ≡ told) → IsToldOf ended told → IsToldOf ended later
+-- what is told of a session, or of what was left out, is told after it too
+abbrev IsToldAfter : (told later : Told) → Type 0
+IsToldAfter told later = ((told ≡ Nothing) × (left_out_of later ≡ [])) ⊎ (later ≡ told)
+
+pub kept_so : (ended : Ended) (told later : Told) → IsToldAfter told later → IsToldOf ended told → IsToldOf ended later
 kept_so ended told later (inr same) tells = subst (IsToldOf ended) (sym same) tells
 kept_so End told later (inl none) tells = tt
 kept_so (Unreadable number place) told later (inl none) (refusal, is, same_number, same_place) = absurd (cc)
 kept_so (Unaccepted number place) told later (inl none) (refusal, is, same_number, same_place) = absurd (cc)
 kept_so (Store number) told later (inl none) tells = tt
 
+kept_out : (told later : Told) → IsToldAfter told later → left_out_of told ≡ left_out_of later
+kept_out told later (inl none) = ap left_out_of none.0 ∙ sym none.1
+kept_out told later (inr same) = ap left_out_of (sym same)
+
 pub told_so : (functions : Functions) {D R I O : Type 0} (state : D → State) (macros : R) (whole : Bool) (remaining : I → Option (List ℕ)) (contents : O → Option (List ℕ))
-    (input left : I) (held written : O) (told later : Told) (disk back : D) (task : Task) (status : Status) → (told ≡ Nothing) ⊎ (later ≡ told)
+    (input left : I) (held written : O) (told later : Told) (disk back : D) (task : Task) (status : Status) → IsToldAfter told later
     → DoesOn functions state macros whole remaining contents input left held written disk back task status told
     → DoesOn functions state macros whole remaining contents input left held written disk back task status later
 told_so functions state macros whole remaining contents input left held written told later disk back (Run wanted) status kept (inl (ended, is, tells, session)) =
     inl (ended, is, kept_so ended told later kept tells, session)
 told_so functions state macros whole remaining contents input left held written told later disk back Snapshot status kept (inl done) = inl done
 told_so functions state macros whole remaining contents input left held written told later disk back Upgrade status kept (inl done) = inl done
-told_so functions state macros whole remaining contents input left held written told later disk back (Export content) status kept (inl done) = inl done
+told_so functions state macros whole remaining contents input left held written told later disk back (Export content) status kept (inl (export, same)) =
+    inl (subst (IsExport functions state disk macros (contents held) (contents written) status back) (kept_out told later kept) export, same)
 told_so functions state macros whole remaining contents input left held written told later disk back (Tell report) status kept (inl done) = inl done
 told_so functions state macros whole remaining contents input left held written told later disk back task status kept (inr not) = inr not
-
-pub sits_so : (functions : Functions) {D R : Type 0} (state : D → State) (macros : R) (whole : Bool) (held written : Option (List ℕ)) (told later : Told) (disk back : D)
-    (wanted : Wanted) (status : Status) → (told ≡ Nothing) ⊎ (later ≡ told) → SitsOn functions state macros whole held written disk back wanted status told
-    → SitsOn functions state macros whole held written disk back wanted status later
-sits_so functions state macros whole held written told later disk back wanted status kept (inl (ended, is, tells, sessions)) =
-    inl (ended, is, kept_so ended told later kept tells, sessions)
-sits_so functions state macros whole held written told later disk back wanted status kept (inr not) = inr not

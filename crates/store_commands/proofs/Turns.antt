@@ -1,5 +1,7 @@
 -- Sessions in a row, one more.
-use Rattle.std.proofs.Common.{◌≡◌, List, ℕ, [], ◌∷◌, Option, None, Some, refl, subst}
+use Rattle.std.proofs.Common.{◌≡◌, ◌∙◌, List, ℕ, [], ◌∷◌, ◌++◌, Option, None, Some, Result, Ok, Err, take, refl, ap, sym, append-nil, append_assoc}
+use Rattle.std.proofs.KnownBytes.{Consumes-kept, Consumes-nil, Consumes-trans}
+use Rattle.std.specs.Io.KnownBytes.{Consumes, ReadConsumes}
 use Rattle.disk_trait.specs.Disk.{State}
 use Rattle.plist_state.specs.State.{WorldState}
 use Rattle.prevalence_store.specs.declared.outcome.Ended.{Ended}
@@ -8,7 +10,8 @@ use Rattle.prevalence_store.specs.declared.outcome.Wanted.{Wanted}
 use Rattle.prevalence_store.specs.calls.Store.{StoreView}
 use Rattle.user_macros.specs.Functions.{Functions}
 use Rattle.store_commands.specs.Refusals.{IsRefusalOf}
-use Rattle.store_commands.specs.Sessions.{EndsRefused, InTurn, OneSession}
+use Rattle.prevalence_store.specs.calls.Serve.{ServesWanted}
+use Rattle.store_commands.specs.Sessions.{Drops, Earlier, EndsRefused, InTurn}
 use Rattle.store_commands.specs.declared.refusal.Refusal.{Refusal}
 
 -- where there is a refusal the session ended with it
@@ -18,34 +21,84 @@ ends_refused (Unreadable number place) given refusal some is = tt
 ends_refused (Unaccepted number place) given refusal some is = tt
 ends_refused (Store number) given refusal some none = absurd (cc)
 
-module _ (functions : Functions) (wanted : Wanted) {D R : Type 0} (state : D → State) (old : StoreView D R) (world : WorldState) (held : Option (List ℕ)) where
-  pub first_turn : (new : StoreView D R) (written : Option (List ℕ)) (ended : Ended) → OneSession functions wanted state old new world held written ended
-      → InTurn functions wanted state old new world held written ended
-  first_turn new written ended session = ([], old, world, held, (refl, refl, refl), session)
+-- a read drops what it gives
+pub read_drops : {E : Type 0} (there has : Option (List ℕ)) (result : Result ℕ E) (bytes : List ℕ) → ReadConsumes there has result bytes → Drops there has
+read_drops there has (Ok count) bytes reads = (take count bytes, reads.0)
+read_drops there has (Err error) bytes keeps = ([], Consumes-kept there there has [] (Consumes-nil there) keeps)
+
+pub drops_more : (there mid has : Option (List ℕ)) → Drops there mid → Drops mid has → Drops there has
+drops_more there mid has one other = (one.0 ++ other.0, Consumes-trans there mid has one.0 other.0 one.1 other.1)
+
+module _ (functions : Functions) (wanted : Wanted) {D R : Type 0} (state : D → State) (old : StoreView D R) (world : WorldState) (had held : Option (List ℕ)) where
+  abbrev Row : (new : StoreView D R) (has written : Option (List ℕ)) → Ended → Type 0
+  Row new has written ended = InTurn functions wanted state old new world had has held written ended
+
+  pub first_turn : (new : StoreView D R) (has written : Option (List ℕ)) (ended : Ended) → ServesWanted functions state wanted old new world had has held written ended
+      → Row new has written ended
+  first_turn new has written ended session = ([], old, world, had, has, held, (refl, refl, refl, refl), session, ([], Consumes-nil has))
 
   -- the world that a session left which a refusal ended
   abbrev Left : StoreView D R → Type 0
   Left mid = (left : WorldState) × (mid.world ≡ Some left)
 
-  left_by : (first mid : StoreView D R) (begun : WorldState) (before between : Option (List ℕ)) (ended : Ended) → EndsRefused ended
-      → OneSession functions wanted state first mid begun before between ended → Left mid
-  left_by first mid begun before between End none session = absurd none
-  left_by first mid begun before between (Unreadable number place) is (had, has, served) =
-      (served.0.serves.far.world, served.0.serves.ends.after.left)
-  left_by first mid begun before between (Unaccepted number place) is (had, has, served) = (served.2.far.world, served.2.advances.after.left)
-  left_by first mid begun before between (Store number) none session = absurd none
+  left_by : (first mid : StoreView D R) (first_world : WorldState) (begun there before between : Option (List ℕ)) (ended : Ended) → EndsRefused ended
+      → ServesWanted functions state wanted first mid first_world begun there before between ended → Left mid
+  left_by first mid first_world begun there before between End none session = absurd none
+  left_by first mid first_world begun there before between (Unreadable number place) is served = (served.0.serves.far.world, served.0.serves.ends.after.left)
+  left_by first mid first_world begun there before between (Unaccepted number place) is served = (served.2.far.world, served.2.advances.after.left)
+  left_by first mid first_world begun there before between (Store number) none session = absurd none
 
-  -- the next session begins in it
-  pub turn_after : (mid new : StoreView D R) (between written : Option (List ℕ)) (ended next : Ended) → EndsRefused ended
-      → InTurn functions wanted state old mid world held between ended
-      → ((left : WorldState) → mid.world ≡ Some left → OneSession functions wanted state mid new left between written next)
-      → InTurn functions wanted state old new world held written next
-  turn_after mid new between written ended next refused (others, start, first, before, earlier, session) one_more =
-      let left = left_by start mid first before between ended refused session in (
+  -- the next session begins in it, and with what the input has after some bytes more
+  pub turn_after : (mid new : StoreView D R) (rest next_rest has between written : Option (List ℕ)) (ended next : Ended) → EndsRefused ended
+      → Row mid rest between ended → Drops rest next_rest
+      → ((left : WorldState) → mid.world ≡ Some left → ServesWanted functions state wanted mid new left next_rest has between written next)
+      → Row new has written next
+  turn_after mid new rest next_rest has between written ended next refused (others, start, first, begun, there, before, earlier, session, dropped) more one_more =
+      let left = left_by start mid first begun there before between ended refused session in (
         ended ∷ others,
         mid,
         left.0,
+        next_rest,
+        has,
         between,
-        (start, first, before, earlier, refused, session, left.1),
+        (start, first, begun, there, before, earlier, refused, session, left.1, (dropped.0 ++ more.0, Consumes-trans there rest next_rest dropped.0 more.0 dropped.1 more.1)),
         one_more left.0 left.1,
+        ([], Consumes-nil has),
       )
+
+  -- no session follows, and some bytes more were lost
+  pub last_turn : (new : StoreView D R) (rest has written : Option (List ℕ)) (ended : Ended) → Row new rest written ended → Drops rest has → Row new has written ended
+  last_turn new rest has written ended (others, start, first, begun, there, before, earlier, session, dropped) more =
+      (others, start, first, begun, there, before, earlier, session, (dropped.0 ++ more.0, Consumes-trans there rest has dropped.0 more.0 dropped.1 more.1))
+
+-- ---- what is known as the last one of them begins
+
+module _ (functions : Functions) (wanted : Wanted) {D R : Type 0} (state : D → State) where
+  -- what it leaves of a known input, and what it adds to a known output
+  abbrev Goes : (had has held written : Option (List ℕ)) → Type 0
+  Goes had has held written = (text bytes : List ℕ) → had ≡ Some text → held ≡ Some bytes
+      → (rest : List ℕ) × (said : List ℕ) × (has ≡ Some rest) × (written ≡ Some (bytes ++ said))
+
+  session_goes : (old new : StoreView D R) (world : WorldState) (had has held written : Option (List ℕ)) (ended : Ended) → EndsRefused ended
+      → ServesWanted functions state wanted old new world had has held written ended → Goes had has held written
+  session_goes old new world had has held written End none served = absurd none
+  session_goes old new world had has held written (Unreadable number place) is served = λ text bytes known holds.
+      let read = served.0.reads text known in (read.0, _, read.2.1, served.0.serves.output bytes holds)
+  session_goes old new world had has held written (Unaccepted number place) is served = λ text bytes known holds.
+      let read = served.3 text known in (read.0, _, read.2, served.2.advances.lines bytes holds)
+  session_goes old new world had has held written (Store number) none served = absurd none
+
+  dropped_to : (there has : Option (List ℕ)) (rest line : List ℕ) → there ≡ Some rest → Consumes there has line → (left : List ℕ) × (has ≡ Some left)
+  dropped_to None has rest line is some = absurd (cc)
+  dropped_to (Some xs) None rest line is none = absurd none
+  dropped_to (Some xs) (Some ys) rest line is some = (ys, refl)
+
+  pub earlier_go : (others : List Ended) (old new : StoreView D R) (world left : WorldState) (had has held written : Option (List ℕ))
+      → Earlier functions wanted state others old new world left had has held written → Goes had has held written
+  earlier_go [] old new world left had has held written (same, still, rest, said) = λ text bytes known holds.
+      (text, [], rest ∙ known, said ∙ holds ∙ ap (λ l. Some l) (sym (append-nil bytes)))
+  earlier_go (ended ∷ others) old new world left had has held written (mid, between, begun, there, before, earlier, refused, session, leaves, dropped) = λ text bytes known holds.
+      let far = earlier_go others old mid world between had begun held before earlier text bytes known holds in
+      let more = session_goes mid new between begun there before written ended refused session far.0 (bytes ++ far.1) far.2 far.3 in
+      let last = dropped_to there has more.0 dropped.0 more.2 dropped.1 in
+      (last.0, far.1 ++ more.1, last.1, more.3 ∙ ap (λ l. Some l) (append_assoc bytes far.1 more.1))

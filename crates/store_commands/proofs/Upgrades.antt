@@ -78,8 +78,8 @@ module _ (functions : Functions) {D R : Type 0} (state : D → State) (old new :
 
 -- ---- forms that were written
 
-module _ (held written : Option (List ℕ)) (forms : List ℕ) where
-  pub forms_taken : (status : Status) → TellsForms status held written forms → TakesWords status
+module _ (held written : Option (List ℕ)) (forms left_out : List ℕ) where
+  pub forms_taken : (status : Status) → TellsForms status held written forms left_out → TakesWords status
   forms_taken LeftOut told = tt
   forms_taken Done told = tt
   forms_taken (Fault number) told = tt
@@ -87,7 +87,7 @@ module _ (held written : Option (List ℕ)) (forms : List ℕ) where
   forms_taken FormRefused told = absurd told
   forms_taken WordsRefused told = absurd told
 
-  pub forms_fault : (status : Status) → TellsForms status held written forms → HasFaultNumber status
+  pub forms_fault : (status : Status) → TellsForms status held written forms left_out → HasFaultNumber status
   forms_fault LeftOut told = λ number is. absurd (cc)
   forms_fault Done told = λ number is. absurd (cc)
   forms_fault (Fault number) told = text_fault held written forms (Fault number) told
@@ -95,20 +95,20 @@ module _ (held written : Option (List ℕ)) (forms : List ℕ) where
   forms_fault FormRefused told = absurd told
   forms_fault WordsRefused told = absurd told
 
-  pub forms_of_no_opening : (status : Status) (number : ℕ) → status ≡ Fault number → TellsForms status held written forms → is_of_opening number ≡ true → ⊥
+  pub forms_of_no_opening : (status : Status) (number : ℕ) → status ≡ Fault number → TellsForms status held written forms left_out → is_of_opening number ≡ true → ⊥
   forms_of_no_opening status number is told =
-      text_of_no_opening held written forms (Fault number) number refl (subst (λ (s : Status). TellsForms s held written forms) is told)
+      text_of_no_opening held written forms (Fault number) number refl (subst (λ (s : Status). TellsForms s held written forms left_out) is told)
 
   module _ (had : List ℕ) (holds : held ≡ Some had) where
-    pub forms_written : (status : Status) → TellsForms status held written forms → WritesForms status had written
-    forms_written LeftOut told = (forms, told had holds)
-    forms_written Done told = (forms, told had holds)
+    pub forms_written : (status : Status) → TellsForms status held written forms left_out → WritesForms status had written
+    forms_written LeftOut told = (forms, told.0 had holds)
+    forms_written Done told = (forms, told.0 had holds)
     forms_written (Fault number) told = tt
     forms_written Helped told = absurd told
     forms_written FormRefused told = absurd told
     forms_written WordsRefused told = absurd told
 
     pub forms_break : (functions : Functions) (content : Content) (status : Status) (number : ℕ) (input : List ℕ) → status ≡ Fault number
-        → TellsForms status held written forms → TaskBreaksOff functions (Export content) input had written
+        → TellsForms status held written forms left_out → TaskBreaksOff functions (Export content) input had written
     forms_break functions content status number input is told =
-        (forms, text_front held written forms (Fault number) number had holds refl (subst (λ (s : Status). TellsForms s held written forms) is told))
+        (forms, text_front held written forms (Fault number) number had holds refl (subst (λ (s : Status). TellsForms s held written forms left_out) is told))

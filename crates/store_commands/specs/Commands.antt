@@ -1,7 +1,8 @@
 -- What the program does for the words that it was started with.
-use Rattle.std.specs.Prelude.{◌≡◌, ◌==◌, ◌||◌, ◌⊎◌, ℕ, Bool, true, false, List, [], Option, Some}
+use Rattle.std.specs.Prelude.{◌≡◌, ◌==◌, ◌||◌, ◌⊎◌, ℕ, Bool, true, false, List, [], ◌++◌, Option, Some, Result, Ok, Err}
 use Rattle.disk_trait.specs.Disk.{State}
 use Rattle.disk_trait.specs.declared.half.Half.{Half}
+use Rattle.disk_trait.specs.declared.host.HostError.{HostError}
 use Rattle.lisp_object.specs.declared.refusal.TheConstants.{DEVICE, DAMAGED, MISSING_MACRO, VERSION, INPUT, NO_MEMORY}
 use Rattle.clap.specs.Words.{Text}
 use Rattle.plist_state.specs.State.{WorldState}
@@ -13,12 +14,13 @@ use Rattle.prevalence_store.specs.declared.outcome.Wanted.{Wanted}
 use Rattle.store_commands.specs.Report.{DumpsWorld, IsExport, IsReport, IsSnapshot, IsUpgrade, TellsHalf, TellsVersion, WritesForms, half_line, version_line}
 use Rattle.store_commands.specs.Session.{AnswersInput, IsBrokenOff, IsSession, ReadsToEnd, half_limit}
 use Rattle.store_commands.specs.Sessions.{AreSessions}
-use Rattle.store_commands.specs.Status.{HasFaultNumber, IsCarriedOut, TakesWords, status_of_ended}
+use Rattle.store_commands.specs.Status.{HasFaultNumber, IsCarriedOut, TakesWords, status_of_ended, status_of_host}
 use Rattle.store_commands.specs.Texts.{IsFront}
-use Rattle.store_commands.specs.Told.{IsToldOf}
+use Rattle.store_commands.specs.Told.{IsToldOf, left_out_of}
 use Rattle.store_commands.specs.declared.status.Status.{Status}
 use Rattle.store_commands.specs.declared.status.Status.TheVariants.{Fault, WordsRefused}
 use Rattle.store_commands.specs.declared.told.Told.{Told}
+use Rattle.store_commands.specs.declared.told.Told.TheVariants.{Cause}
 use Rattle.store_commands.specs.declared.words.Report.TheVariants.{Dump, Verify}
 use Rattle.store_commands.specs.declared.words.Task.{Task}
 use Rattle.store_commands.specs.declared.words.Task.TheVariants.{Export, Run, Snapshot, Tell, Upgrade}
@@ -93,7 +95,7 @@ module _ (functions : Functions) {D R : Type 0} (state : D → State) (macros : 
   CarriesOut disk back Upgrade status told =
       IsUpgrade functions state disk macros (contents held) (contents written) status back × (left ≡ input)
   CarriesOut disk back (Export content) status told =
-      IsExport functions state disk macros (contents held) (contents written) status back × (left ≡ input)
+      IsExport functions state disk macros (contents held) (contents written) status back (left_out_of told) × (left ≡ input)
   CarriesOut disk back (Tell report) status told =
       IsReport functions state report disk macros (contents held) (contents written) status back × (left ≡ input)
 
@@ -127,26 +129,67 @@ module _ (functions : Functions) {D R : Type 0} (state : D → State) (macros : 
     pub breaks_off : (text had : List ℕ) (number : ℕ) → remaining input ≡ Some text → contents held ≡ Some had → status ≡ Fault number
         → TaskBreaksOff functions task text had (contents written)
 
--- ---- at a terminal
+-- ---- the opening of the folder
 
-module _ (functions : Functions) {D R : Type 0} (state : D → State) (macros : R) (whole : Bool) (held written : Option (List ℕ)) where
-  -- Sessions in a row went so over the store that a disk holds, and the status is that of the last one; or the store is not opened,
-  -- and nothing is written. The first disk becomes the second.
-  abbrev pub SitsOn : D → D → Wanted → Status → Told → Type 0
-  SitsOn disk back wanted status told =
-      ((ended : Ended) × (status ≡ status_of_ended ended) × IsToldOf ended told × AreSessions functions wanted state disk macros held written ended back)
-      ⊎ (TellsUnopened functions state disk back whole status × (written ≡ held))
+-- before the folder is looked at: there is no memory for the words, no seed is had, or no name
+abbrev pub IsBeforeFolder : Text → Status → Type 0
+IsBeforeFolder folder status = (status ≡ Fault NO_MEMORY) ⊎ ((status ≡ Fault INPUT) ⊎ ((folder ≡ []) × (status ≡ Fault DEVICE)))
 
-  -- There is no memory, no seed, or the folder is not opened, and nothing is written; or they went so over some disk of this type.
-  abbrev pub Sits : Wanted → Status → Told → Type 0
-  Sits wanted status told =
-      (IsEarlyFault status × (written ≡ held)) ⊎ ((disk : D) × (back : D) × SitsOn disk back wanted status told)
+module _ {D I O : Type 0} (input left : I) (held written : O) where
+  -- The folder is opened once, with or without `--existing`. If no store is opened there, nothing is read or written, and the cause is
+  -- told.
+  abbrev pub OpensFolder : (opens : Text → Bool → Result D HostError → Type 0) (follows : D → Type 0) → Text → Bool → Status → Told → Type 0
+  OpensFolder opens follows folder existing status told =
+      (IsBeforeFolder folder status × IsUntouched input left held written)
+      ⊎ (((error : HostError) × opens folder existing (Err error) × (status ≡ status_of_host error) × (told ≡ Cause error) × IsUntouched input left held written)
+      ⊎ ((disk : D) × opens folder existing (Ok disk) × follows disk))
 
 module _ (functions : Functions) {D R : Type 0} (state : D → State) (macros : R) (whole : Bool)
     {I O : Type 0} (remaining : I → Option (List ℕ)) (contents : O → Option (List ℕ)) (input left : I) (held written : O) where
+  -- the task is done over the disk that the opening gave
+  abbrev pub DoesAfter : Task → Status → Told → D → Type 0
+  DoesAfter task status told disk = (back : D) × DoesOn functions state macros whole remaining contents input left held written disk back task status told
+
+-- ---- at a terminal
+
+module _ (functions : Functions) {D R : Type 0} (state : D → State) (macros : R) (whole : Bool)
+    {I O : Type 0} (remaining : I → Option (List ℕ)) (contents : O → Option (List ℕ)) (input left : I) (held written : O) where
+  -- Sessions in a row went so over the store that a disk holds, and the status is that of the last one; or the store is not opened,
+  -- and nothing is read or written. The first disk becomes the second.
+  abbrev pub SitsOn : D → D → Wanted → Status → Told → Type 0
+  SitsOn disk back wanted status told =
+      ((ended : Ended) × (status ≡ status_of_ended ended) × IsToldOf ended told
+      × AreSessions functions wanted state disk macros (remaining input) (remaining left) (contents held) (contents written) ended back)
+      ⊎ (TellsUnopened functions state disk back whole status × IsUntouched input left held written)
+
+  -- There is no memory, no seed, or the folder is not opened, and nothing is read or written; or they went so over some disk of this
+  -- type.
+  abbrev pub Sits : Wanted → Status → Told → Type 0
+  Sits wanted status told =
+      (IsEarlyFault status × IsUntouched input left held written) ⊎ ((disk : D) × (back : D) × SitsOn disk back wanted status told)
+
+  -- sessions in a row went so over the disk that the opening gave; each other task is as anywhere
+  abbrev pub SitsAfter : Task → Status → Told → D → Type 0
+  SitsAfter (Run wanted) status told disk = (back : D) × SitsOn disk back wanted status told
+  SitsAfter Snapshot status told disk = DoesAfter functions state macros whole remaining contents input left held written Snapshot status told disk
+  SitsAfter Upgrade status told disk = DoesAfter functions state macros whole remaining contents input left held written Upgrade status told disk
+  SitsAfter (Export content) status told disk = DoesAfter functions state macros whole remaining contents input left held written (Export content) status told disk
+  SitsAfter (Tell report) status told disk = DoesAfter functions state macros whole remaining contents input left held written (Tell report) status told disk
+
+  -- `run` was sessions in a row, for the store in a folder: this is the status, and this is to be told.
+  pub record PerformsInTurn (folder : Text) (wanted : Wanted) (status : Status) (told : Told) : Type 0 where
+    pub sits : Sits wanted status told
+    pub taken : TakesWords status
+    pub nameless : folder ≡ [] → IsEarlyFault status × IsUntouched input left held written
+    pub unopened : (number : ℕ) → status ≡ Fault number → is_of_opening number ≡ true → IsUntouched input left held written
+    pub fault : HasFaultNumber status
+    -- after a fault: what the last session wrote, over the store of some world, after those before it
+    pub breaks_off : (text had : List ℕ) (number : ℕ) → remaining input ≡ Some text → contents held ≡ Some had → status ≡ Fault number
+        → (rest : List ℕ) × (said : List ℕ) × IsBrokenOff functions wanted.mode rest (had ++ said) (contents written)
+
   -- `run` is sessions in a row there; each other task is as anywhere
   abbrev pub PerformsAtTerminal : Text → Task → Status → Told → Type 0
-  PerformsAtTerminal folder (Run wanted) status told = Sits functions state macros whole (contents held) (contents written) wanted status told
+  PerformsAtTerminal folder (Run wanted) status told = PerformsInTurn folder wanted status told
   PerformsAtTerminal folder Snapshot status told = Performs functions state macros whole remaining contents input left held written folder Snapshot status told
   PerformsAtTerminal folder Upgrade status told = Performs functions state macros whole remaining contents input left held written folder Upgrade status told
   PerformsAtTerminal folder (Export content) status told = Performs functions state macros whole remaining contents input left held written folder (Export content) status told

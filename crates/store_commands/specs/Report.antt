@@ -96,23 +96,24 @@ pub record IsUpgrade (functions : Functions) {D R : Type 0} (state : D → State
   pub tells : TellsUpgrade outcome closed status held written
   pub disk_is : back ≡ closed.disk
 
--- All forms were written, or all but what no form can make; or a part of them, as of every text.
-abbrev pub TellsForms : Status → Option (List ℕ) → Option (List ℕ) → List ℕ → Type 0
-TellsForms LeftOut held written forms = Writes held written forms
-TellsForms Done held written forms = TellsText Done held written forms
-TellsForms (Fault number) held written forms = TellsText (Fault number) held written forms
-TellsForms Helped held written forms = ⊥
-TellsForms FormRefused held written forms = ⊥
-TellsForms WordsRefused held written forms = ⊥
+-- All forms were written, and nothing was left out; or all but what no form can make, of which there are lines; or a part of them, as of
+-- every text.
+abbrev pub TellsForms : Status → Option (List ℕ) → Option (List ℕ) → (forms left_out : List ℕ) → Type 0
+TellsForms LeftOut held written forms left_out = Writes held written forms × (left_out ≢ [])
+TellsForms Done held written forms left_out = TellsText Done held written forms × (left_out ≡ [])
+TellsForms (Fault number) held written forms left_out = TellsText (Fault number) held written forms
+TellsForms Helped held written forms left_out = ⊥
+TellsForms FormRefused held written forms left_out = ⊥
+TellsForms WordsRefused held written forms left_out = ⊥
 
--- The store that a disk holds was opened with these macro functions, forms were written, and it was closed: this is its disk. That
--- they make its world is not said.
+-- The store that a disk holds was opened with these macro functions, forms were written, and it was closed: this is its disk, and these
+-- are the lines on what was left out. That the forms make its world is not said.
 pub record IsExport (functions : Functions) {D R : Type 0} (state : D → State) (disk : D) (macros : R)
-    (held written : Option (List ℕ)) (status : Status) (back : D) : Type 0 where
+    (held written : Option (List ℕ)) (status : Status) (back : D) (left_out : List ℕ) : Type 0 where
   pub opened : StoreView D R
   pub is_opened : IsOpened functions state disk macros half_limit opened
   pub forms : List ℕ
-  pub tells : TellsForms status held written forms
+  pub tells : TellsForms status held written forms left_out
   pub disk_is : back ≡ opened.disk
 
 -- ---- over the files of a folder, of which no clause can say what they hold

@@ -1,15 +1,17 @@
 // What the words of the command line ask for.
-ghost use Rattle.std.specs.Prelude.{◌≡◌, ◌≢◌, ◌⊎◌, ◌<◌, ◌-◌, ◌^◌, Bool, [], map, IfOk};
+ghost use Rattle.std.specs.Prelude.{◌≡◌, ◌⊎◌, ◌<◌, ◌-◌, ◌^◌, Bool, [], map, Err, IfOk};
 ghost use Rattle.clap.specs.Words.{Text, kind_of};
 ghost use Rattle.user_macros.specs.Functions.{are_registered};
 ghost use Rattle.store_commands.specs.declared.words.Task.{Task};
 ghost use Rattle.store_commands.specs.CommandLine.{AsksFor, IsTaken, faults_of};
-ghost use Rattle.store_commands.specs.Commands.{DoesOn, Performs, PerformsAtTerminal, PerformsNone, Sits};
+ghost use Rattle.store_commands.specs.Commands.{DoesAfter, DoesOn, OpensFolder, Performs, PerformsAtTerminal, PerformsInTurn, PerformsNone, SitsAfter};
+ghost use Rattle.store_commands.specs.Folders.{OpensStore};
 ghost use Rattle.store_commands.specs.Status.{EndsAfter, HasFaultNumber, IsAfterWords, IsOfWords, IsQuiet, TakesWords};
-ghost use Rattle.store_commands.specs.Told.{TellsFault};
+ghost use Rattle.store_commands.specs.Told.{TellsFault, left_out_of};
 ghost use Rattle.store_commands.specs.declared.told.Told.{Told};
 
 use crate::export::export_on;
+use crate::folders::{Folders, open_folder};
 use crate::places::Places;
 use crate::report::report_on;
 use crate::session::serve_on;
@@ -21,16 +23,14 @@ use crate::told::{Told, end_with, end_with_told};
 use crate::upgrade::upgrade_on;
 use crate::words::{Asked, Task, asked_in};
 use clap::Error;
-use disk_trait::{Disk, HostDisk, HostError, IfMissing};
+use disk_trait::{Disk, HostDisk, HostError};
 use lisp_object::refusal::{INPUT, NO_MEMORY, OUTPUT};
 use plist_state::Seed;
 use prevalence_store::{Unopened, Wanted};
 use std::alloc::Global;
 use std::convert::AsStr;
-use std::fs::File;
 use std::io::Write;
 use std::random::RandomSource;
-use std::rt::Files;
 use user_macros::MacroFunctions;
 
 /// Does what the words ask for, with these macro functions; the first word is the program's name.
@@ -40,7 +40,8 @@ use user_macros::MacroFunctions;
 /// after each N forms that were logged. `snapshot DIR` takes
 /// a snapshot and writes the line on the half in use to `output`, `upgrade DIR` the version after it has taken one of files of
 /// version 1, `export DIR` the forms that make the world, `dump DIR` its text, and `verify DIR` the line on
-/// the half in use; they read nothing. A folder without a store gets one, or is a fault with `--existing`.
+/// the half in use; they read nothing. A folder without a store gets one, or is a fault with `--existing`, and so is one of whose files
+/// neither is in use.
 ///
 /// Names are hashed by a seed that is drawn from `rt`; if it has no random bytes, the status is that of a fault of the input.
 /// Faults are found in this order: the words, the seed, DIR, the opening of the store, the command. A text on words that are refused, or
@@ -56,7 +57,7 @@ pub fn program<R, M, S, I, O, F>(
     faults: &mut F,
 ) -> Status
 where
-    R: Files<File = File> + RandomSource + AllocGlobal,
+    R: Folders + RandomSource + AllocGlobal,
     M: MacroFunctions + Drop,
     S: AsStr,
     I: Places,
@@ -72,7 +73,12 @@ where
         → (told : Told) × Performs M.Meaning.functions ⟦<HostDisk as Disk>⟧.state macros
         (are_registered M.Meaning.functions (M.functions macros)) I.remaining O.contents
         input.old input.new output.old output.new folder task result told
-        × TellsFault result told (F.contents faults.old) (F.contents faults.new) }
+        × TellsFault result told (F.contents faults.old) (F.contents faults.new)
+        × OpensFolder input.old input.new output.old output.new (OpensStore ⟦<HostDisk as Disk>⟧.state (R.opens rt.now))
+        (DoesAfter M.Meaning.functions ⟦<HostDisk as Disk>⟧.state macros
+        (are_registered M.Meaning.functions (M.functions macros)) I.remaining O.contents
+        input.old input.new output.old output.new task result told)
+        folder existing result told }
     ensures untaken { (faults_of (map S.text words.now) ≡ [] → ⊥)
         → PerformsNone input.old input.new output.old output.new result }
     ensures fault { HasFaultNumber result }
@@ -103,7 +109,7 @@ pub fn program_at_terminal<R, M, S, I, O, F>(
     faults: &mut F,
 ) -> Status
 where
-    R: Files<File = File> + RandomSource + AllocGlobal,
+    R: Folders + RandomSource + AllocGlobal,
     M: MacroFunctions + Drop,
     S: AsStr,
     I: Sessions,
@@ -116,7 +122,12 @@ where
         → (told : Told) × PerformsAtTerminal M.Meaning.functions ⟦<HostDisk as Disk>⟧.state macros
         (are_registered M.Meaning.functions (M.functions macros)) I.remaining O.contents
         input.old input.new output.old output.new folder task result told
-        × TellsFault result told (F.contents faults.old) (F.contents faults.new) }
+        × TellsFault result told (F.contents faults.old) (F.contents faults.new)
+        × OpensFolder input.old input.new output.old output.new (OpensStore ⟦<HostDisk as Disk>⟧.state (R.opens rt.now))
+        (SitsAfter M.Meaning.functions ⟦<HostDisk as Disk>⟧.state macros
+        (are_registered M.Meaning.functions (M.functions macros)) I.remaining O.contents
+        input.old input.new output.old output.new task result told)
+        folder existing result told }
     ensures untaken { (faults_of (map S.text words.now) ≡ [] → ⊥)
         → PerformsNone input.old input.new output.old output.new result }
     ensures told { (told : Told) × TellsFault result told (F.contents faults.old) (F.contents faults.new) }
@@ -143,12 +154,17 @@ fn carry_out_at_terminal<R, M, I, O>(
     output: &mut O,
 ) -> (Status, Told)
 where
-    R: Files<File = File> + RandomSource + AllocGlobal,
+    R: Folders + RandomSource + AllocGlobal,
     M: MacroFunctions + Drop,
     I: Sessions,
     O: Write,
     requires answers { M.answers macros }
     ensures taken { TakesWords result.0 }
+    ensures opened { OpensFolder input.old input.new output.old output.new (OpensStore ⟦<HostDisk as Disk>⟧.state (R.opens rt.now))
+        (SitsAfter M.Meaning.functions ⟦<HostDisk as Disk>⟧.state macros
+        (are_registered M.Meaning.functions (M.functions macros)) I.remaining O.contents
+        input.old input.new output.old output.new asked.entry.task result.0 result.1)
+        asked.entry.folder.now asked.entry.existing result.0 result.1 }
     ensures performs { PerformsAtTerminal M.Meaning.functions ⟦<HostDisk as Disk>⟧.state macros
         (are_registered M.Meaning.functions (M.functions macros)) I.remaining O.contents
         input.old input.new output.old output.new asked.entry.folder.now asked.entry.task result.0 result.1 }
@@ -169,21 +185,25 @@ fn sit<R, M, I, O>(
     output: &mut O,
 ) -> (Status, Told)
 where
-    R: Files<File = File> + RandomSource + AllocGlobal,
+    R: Folders + RandomSource + AllocGlobal,
     M: MacroFunctions + Drop,
     I: Sessions,
     O: Write,
     requires answers { M.answers macros }
-    ensures taken { TakesWords result.0 }
-    ensures sits { Sits M.Meaning.functions ⟦<HostDisk as Disk>⟧.state macros
-        (are_registered M.Meaning.functions (M.functions macros)) (O.contents output.old) (O.contents output.new)
-        wanted result.0 result.1 }
+    ensures performs { PerformsInTurn M.Meaning.functions ⟦<HostDisk as Disk>⟧.state macros
+        (are_registered M.Meaning.functions (M.functions macros)) I.remaining O.contents
+        input.old input.new output.old output.new asked.entry.folder.now wanted result.0 result.1 }
+    ensures opened { OpensFolder input.old input.new output.old output.new (OpensStore ⟦<HostDisk as Disk>⟧.state (R.opens rt.now))
+        (SitsAfter M.Meaning.functions ⟦<HostDisk as Disk>⟧.state macros
+        (are_registered M.Meaning.functions (M.functions macros)) I.remaining O.contents
+        input.old input.new output.old output.new (Task.Run wanted) result.0 result.1)
+        asked.entry.folder.now asked.entry.existing result.0 result.1 }
 {
     // the seed comes before the folder, so that nothing is made if there is none
     let Ok(seed) = Seed::draw(rt) else {
         return (Status::Fault(INPUT), Told::Nothing);
     };
-    let disk = match open_folder(rt, asked) {
+    let disk = match open_folder(rt, asked.folder, asked.existing) {
         Ok(disk) => disk,
         Err(error) => return (Status::of_host(&error), Told::Cause(error)),
     };
@@ -238,20 +258,25 @@ fn carry_out<R, M, I, O>(
     output: &mut O,
 ) -> (Status, Told)
 where
-    R: Files<File = File> + RandomSource + AllocGlobal,
+    R: Folders + RandomSource + AllocGlobal,
     M: MacroFunctions + Drop,
     I: Places,
     O: Write,
     requires answers { M.answers macros }
-    ensures { Performs M.Meaning.functions ⟦<HostDisk as Disk>⟧.state macros
+    ensures performs { Performs M.Meaning.functions ⟦<HostDisk as Disk>⟧.state macros
         (are_registered M.Meaning.functions (M.functions macros)) I.remaining O.contents
         input.old input.new output.old output.new asked.entry.folder.now asked.entry.task result.0 result.1 }
+    ensures opened { OpensFolder input.old input.new output.old output.new (OpensStore ⟦<HostDisk as Disk>⟧.state (R.opens rt.now))
+        (DoesAfter M.Meaning.functions ⟦<HostDisk as Disk>⟧.state macros
+        (are_registered M.Meaning.functions (M.functions macros)) I.remaining O.contents
+        input.old input.new output.old output.new asked.entry.task result.0 result.1)
+        asked.entry.folder.now asked.entry.existing result.0 result.1 }
 {
     // the seed comes before the folder, so that nothing is made if there is none
     let Ok(seed) = Seed::draw(rt) else {
         return (Status::Fault(INPUT), Told::Nothing);
     };
-    let disk = match open_folder(rt, asked) {
+    let disk = match open_folder(rt, asked.folder, asked.existing) {
         Ok(disk) => disk,
         Err(error) => return (Status::of_host(&error), Told::Cause(error)),
     };
@@ -269,7 +294,7 @@ where
 
 // What is to be told on standard error after a task; if that is nothing, the cause of a fault of the device.
 fn told_after(told: Told, disk: &HostDisk) -> Told
-    ensures { (told ≡ Told.Nothing) ⊎ (result ≡ told) }
+    ensures { ((told ≡ Told.Nothing) × (left_out_of result ≡ [])) ⊎ (result ≡ told) }
 {
     match told {
         Told::Nothing => cause_of(disk),
@@ -278,31 +303,13 @@ fn told_after(told: Told, disk: &HostDisk) -> Told
 }
 
 // The cause of a fault of the device, if there was one.
-fn cause_of(disk: &HostDisk) -> Told {
+fn cause_of(disk: &HostDisk) -> Told
+    ensures { left_out_of result ≡ [] }
+{
     match disk.cause() {
         Some(error) => Told::Cause(HostError::System(error)),
         None => Told::Nothing,
     }
-}
-
-// Opens the files of a folder, which has a name.
-fn open_folder<R: Files<File = File> + RandomSource + AllocGlobal>(
-    rt: &R,
-    asked: Asked<'_>,
-) -> Result<HostDisk, HostError>
-    ensures { IfOk result (λ disk. ((⟦<HostDisk as Disk>⟧.state disk).failures ≡ 0)
-        × (asked.entry.folder.now ≢ [])) }
-{
-    // no folder has an empty name, and files under it would be those of the present folder
-    if asked.folder.is_empty() {
-        return Err(HostError::NoName);
-    }
-    let if_missing = if asked.existing {
-        IfMissing::Refuse
-    } else {
-        IfMissing::Make
-    };
-    HostDisk::open_files(rt, asked.folder, if_missing)
 }
 
 // Carries a task out over the store that a disk holds, and gives the disk back as the store left it, and what is to be told of a

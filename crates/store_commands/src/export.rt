@@ -38,7 +38,7 @@ where
     requires room { (D.state disk).failures < 2 ^ 64 - 1 }
     requires answers { M.answers macros }
     ensures exports { IfOk result (λ p. IsExport M.Meaning.functions D.state
-        disk macros (O.contents output.old) (O.contents output.new) p.0 p.1) }
+        disk macros (O.contents output.old) (O.contents output.new) p.0 p.1 p.3.items) }
     ensures kept { IfOk result (λ p. p.2 ≡ macros) }
     ensures refused { IfErr result (λ e. IsUnopened M.Meaning.functions D.state disk
         (are_registered M.Meaning.functions (M.functions macros)) half_limit e.number e.disk
@@ -60,7 +60,7 @@ fn write_forms<D: Disk, M, O: Write>(
 ) -> (Status, Vec<u8>)
     requires known { IsSome store.now.world }
     ensures { (forms : List ℕ)
-        × TellsForms result.0 (O.contents output.old) (O.contents output.new) forms }
+        × TellsForms result.0 (O.contents output.old) (O.contents output.new) forms result.1.items }
 {
     // a store that was just opened has a world
     let Some(world) = store.world() else {
@@ -77,7 +77,8 @@ fn write_forms<D: Disk, M, O: Write>(
 
 // Writes forms.
 fn write_exported<O: Write>(exported: &Export, output: &mut O) -> Status
-    ensures { TellsForms result (O.contents output.old) (O.contents output.new) exported.now.forms.items }
+    ensures { TellsForms result (O.contents output.old) (O.contents output.new) exported.now.forms.items
+        exported.now.left_out.items }
 {
     match write_out(output, exported.forms.as_slice()) {
         Ok(()) if exported.left_out.is_empty() => Status::Done,

@@ -11,13 +11,14 @@
 //!   `dump DIR` and `verify DIR`, each with `--existing`; `help` has the texts of its help.
 //! - `fault` writes the line of a fault, and that with its cause; `refusal` that on the refusal that ended a session; `half_line` that
 //!   on the half in use.
-//! - `places` has the input that tells lines and columns.
+//! - `places` has the input that tells lines and columns, and `folders` what opens the files of a folder.
 //! - `meaning` says what the macro functions of the program mean, and `macro_functions` has those that compute an object.
 #![tactic(auto)]
 
 mod commands;
 mod export;
 mod fault;
+mod folders;
 mod half_line;
 mod help;
 pub mod macro_functions;
@@ -37,6 +38,7 @@ mod words;
 pub use commands::{program, program_at_terminal};
 pub use export::export_on;
 pub use fault::{Unwritten, write_fault, write_fault_with_cause};
+pub use folders::Folders;
 pub use half_line::write_half_line;
 pub use meaning::SixFunctions;
 pub use places::{Lines, Places, Spot};

@@ -3,6 +3,7 @@ ghost use Rattle.std.specs.Prelude.{◌≡◌, ◌<◌, ◌-◌, ◌^◌, Some, 
 ghost use Rattle.plist_state.specs.State.{WorldState};
 ghost use Rattle.prevalence_store.specs.calls.Open.{IsUnopened};
 ghost use Rattle.user_macros.specs.Functions.{are_registered};
+ghost use Rattle.store_commands.specs.Commands.{IsUntouched};
 ghost use Rattle.store_commands.specs.Session.{half_limit};
 ghost use Rattle.store_commands.specs.Sessions.{AreSessions, InTurn};
 
@@ -21,7 +22,7 @@ use user_macros::MacroFunctions;
 ///
 /// # Errors
 ///
-/// Those of opening the store. Nothing is written then, and the disk and the macro functions are given back.
+/// Those of opening the store. Nothing is read or written then, and the disk and the macro functions are given back.
 pub fn sessions_on<D, M, I, O>(
     alloc: Global,
     disk: D,
@@ -39,11 +40,12 @@ where
     requires room { (D.state disk).failures < 2 ^ 64 - 1 }
     requires answers { M.answers macros }
     ensures served { IfOk result (λ p. AreSessions M.Meaning.functions wanted
-        D.state disk macros (O.contents output.old) (O.contents output.new) p.0 p.1) }
+        D.state disk macros (I.remaining input.old) (I.remaining input.new)
+        (O.contents output.old) (O.contents output.new) p.0 p.1) }
     ensures kept { IfOk result (λ p. p.2 ≡ macros) }
     ensures refused { IfErr result (λ e. IsUnopened M.Meaning.functions D.state disk
         (are_registered M.Meaning.functions (M.functions macros)) half_limit e.number e.disk
-        × (output.new ≡ output.old)) }
+        × IsUntouched input.old input.new output.old output.new) }
     ensures given_back { IfErr result (λ e. e.macros ≡ macros) }
 {
     let mut store = Store::open_with_seed(alloc, disk, macros, HALF_LIMIT, seed)?;
@@ -68,6 +70,7 @@ where
     requires whole { are_registered M.Meaning.functions (M.functions store.old.macros) ≡ true }
     ensures serves { (world : WorldState) → store.old.world ≡ Some world
         → InTurn M.Meaning.functions wanted D.state store.old store.new world
+        (I.remaining input.old) (I.remaining input.new)
         (O.contents output.old) (O.contents output.new) result }
     ensures macros { store.new.macros ≡ store.old.macros }
 {

@@ -1,5 +1,6 @@
 // A terminal: prompts before its lines, and sessions in a row.
 ghost use Rattle.std.specs.Prelude.{◌≡◌};
+ghost use Rattle.store_commands.specs.Sessions.{Drops};
 
 use crate::fault::write_text;
 use crate::places::{Places, Spot};
@@ -22,7 +23,8 @@ const DROPPED: &[u8] = b"The rest of the line was dropped, and a new session beg
 pub trait Sessions: Places {
     /// After a session that a refusal ended: whether another one follows. If so, the rest of the line was dropped, and the refusal
     /// was told.
-    fn next_session(&mut self, refusal: &Refusal) -> bool;
+    fn next_session(&mut self, refusal: &Refusal) -> bool
+        ensures drops { Drops (Self.remaining self.old) (Self.remaining self.new) };
 }
 
 /// An input at a terminal. It is read byte by byte, so that it is known after which byte a form was answered, and a prompt is
@@ -144,16 +146,30 @@ impl<I: Read, P: Write> Read for Terminal<'_, I, P> {
 }
 
 impl<I: Read, P: Write> Terminal<'_, I, P> {
+    // Drops a byte, and tells whether there was one.
+    fn drop_byte(&mut self) -> bool
+        ensures { Drops (I.remaining self.old.input) (I.remaining self.new.input) }
+    {
+        let mut byte = [0u8];
+        match self.input.read(&mut byte) {
+            Ok(1) => {
+                self.give(byte[0]);
+                true
+            }
+            _ => false,
+        }
+    }
+
     // Drops the rest of the line, and tells whether it had an end.
-    fn drop_line(&mut self) -> bool {
+    fn drop_line(&mut self) -> bool
+        ensures { Drops (I.remaining self.old.input) (I.remaining self.new.input) }
+    {
         'line: for _ in 0..u64::MAX {
             if self.last == b'\n' {
                 break;
             }
-            let mut byte = [0u8];
-            match self.input.read(&mut byte) {
-                Ok(1) => self.give(byte[0]),
-                _ => return false,
+            if !self.drop_byte() {
+                return false;
             }
         }
         true

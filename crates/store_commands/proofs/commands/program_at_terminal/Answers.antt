@@ -1,9 +1,11 @@
 use Rattle.std.proofs.Common.{◌∙◌, ap, inl, map, refl, subst, sym}
 use Rattle.clap.specs.Words.{Kinds, kind_of}
+use Rattle.store_commands.specs.Folders.{OpensStore}
 use Rattle.store_commands.specs.CommandLine.{asked_in, faults_of}
 use Rattle.store_commands.specs.Status.{EndsAfter, IsAfterWords, IsCarriedOut, TakesWords}
 use Rattle.store_commands.proofs.AtTerminal.{moved_there, nothing_there}
-use Rattle.store_commands.proofs.FoundWords.{same_folder, same_task}
+use Rattle.store_commands.proofs.FoundWords.{same_existing, same_folder, same_task}
+use Rattle.store_commands.proofs.FolderLaws.{moved_sitting}
 use Rattle.store_commands.specs.Told.{TellsFault}
 use Rattle.store_commands.specs.declared.status.Status.{Status}
 use Rattle.store_commands.specs.declared.told.Told.TheVariants.{Nothing}
@@ -33,11 +35,14 @@ pub returns-in-Ok-clause-taken : goal.returns-in-Ok-clause-taken
 returns-in-Ok-clause-taken g c = λ folder existing task taken.
     let asked = asked_in (map g.S.AsStr.text c.args.words.now) in
     let same = same_folder asked c.in-Ok.asked.folder.now folder c.in-Ok.asked.existing existing c.in-Ok.asked.task task c.in-Ok.ensures.asked taken.1 in
+    let existing_too = same_existing asked c.in-Ok.asked.folder.now folder c.in-Ok.asked.existing existing c.in-Ok.asked.task task c.in-Ok.ensures.asked taken.1 in
     let likewise = same_task asked c.in-Ok.asked.folder.now folder c.in-Ok.asked.existing existing c.in-Ok.asked.task task c.in-Ok.ensures.asked taken.1 in (
       c.carry_out_at_terminal-status.result.1,
       moved_there _ _ _ _ g.I.Read.remaining g.O.Write.contents _ _ _ _ c.carry_out_at_terminal-status.result.1 folder c.in-Ok.asked.folder.now task c.in-Ok.asked.task
           c.end_with_told.result c.carry_out_at_terminal-status.result.0 (sym same) (sym likewise) c.end_with_told.ensures.status c.carry_out_at_terminal-status.ensures.performs,
       told_of_task g c,
+      moved_sitting _ _ _ _ g.I.Read.remaining g.O.Write.contents _ _ _ _ (OpensStore _ (g.R.Folders.opens c.args.rt.now)) c.carry_out_at_terminal-status.result.1 folder c.in-Ok.asked.folder.now existing c.in-Ok.asked.existing
+          task c.in-Ok.asked.task c.end_with_told.result c.carry_out_at_terminal-status.result.0 (sym same) (sym existing_too) (sym likewise) c.end_with_told.ensures.status c.carry_out_at_terminal-status.ensures.opened,
     )
 
 pub returns-in-Err-clause-ends : goal.returns-in-Err-clause-ends
@@ -53,6 +58,7 @@ returns-in-Err-clause-taken g c = λ folder existing task taken.
       nothing_there _ _ _ _ g.I.Read.remaining g.O.Write.contents _ _ _ _ Nothing folder task c.end_with.result (inl ended)
           (refl, c.answer_words-status.ensures.memory (sym c.end_with.ensures.status ∙ ended)),
       told_of_words g c,
+      inl (inl ended, (refl, c.answer_words-status.ensures.memory (sym c.end_with.ensures.status ∙ ended))),
     )
 
 pub returns-in-Ok-clause-untaken : goal.returns-in-Ok-clause-untaken
