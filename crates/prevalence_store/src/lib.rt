@@ -28,8 +28,8 @@
 //! - `Store::run` gives per step what these two answer in the state that the steps before it left (`TakesSteps`).
 //! - `Store::serve` is told by one relation (`Serves`): how many forms were taken and answered, in which mode, what of the
 //!   lines was written, what the log holds then (`IsAfter`), and a case for each ending with its cause.
-//! - `Store::serve_wanted` is `serve` with the place of a refusal, counted in the input (`IsPlace`), and with an end at the first
-//!   form that is refused if that is wanted (`ServesWanted`).
+//! - `Store::serve_wanted` is `serve` with the place of a refusal, counted in the input (`IsPlace`), and where what is refused
+//!   begins (`IsRefusedFrom`), and with an end at the first form that is refused if that is wanted (`ServesWanted`).
 //! - `refusal_name` gives the name of a refusal by its number, empty for a number that is none.
 //!
 //! # Modules

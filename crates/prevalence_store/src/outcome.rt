@@ -56,7 +56,8 @@ pub struct Wanted {
 pub struct Place {
     /// How many forms come before the one that was refused.
     pub forms: u64,
-    /// How many bytes of the input come before what the reader has of it: before its text, or a comment before it.
+    /// How many bytes of the input come before what was refused: before the first byte of the form, or of a comment that is open.
+    /// Between the form before and it is discarded text alone.
     pub start: u64,
     /// How many bytes of the input come before the place of the refusal.
     pub at: u64,

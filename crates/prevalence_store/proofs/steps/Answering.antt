@@ -156,6 +156,10 @@ module _ (functions : Functions) {D R : Type 0} (state : D → State) where
             ends = let two = is.ends in omega arith;
           }
 
+      -- and the start of one
+      start_both : (others : List ℕ) (from start : ℕ) → start + length others ≡ later.bytes + length p.rest + from → start + length others ≡ course.bytes + length text + from
+      start_both others from start is = omega (arith, is, first.comes.bytes_are)
+
       stops_both : (number : ℕ) (place : Place) → StopsStrict functions state mid new p.world mode p.rest b c later.pace later.forms later.bytes number place → strict ≡ true
           → StopsStrict functions state old new w mode text a c course.pace course.forms course.bytes number place
       stops_both number place second is = record {
@@ -196,8 +200,10 @@ module _ (functions : Functions) {D R : Type 0} (state : D → State) where
       ends_both_at : (ended : Ended) → EndsAt functions state strict later mid new p.world mode p.rest b c ended → EndsAt functions state strict course old new w mode text a c ended
       unfolding serve_both strict_both
       ends_both_at ways.End second = strict_both End second
-      ends_both_at (ways.Unreadable number place) (served, at) =
-          (strict_both (Reader number) served, (at.0, at.1, place_both served.0.forms served.0.far.rest at.0 place at.2))
+      ends_both_at (ways.Unreadable number place) (served, at) = (
+        strict_both (Reader number) served,
+        (at.0, at.1, place_both served.0.forms served.0.far.rest at.0 place at.2, (at.3.0, start_both served.0.far.rest at.3.0 place.start at.3.1, at.3.2)),
+      )
       ends_both_at (ways.Unaccepted number place) (is, second) = (is, stops_both number place second is)
       ends_both_at (ways.Store number) second = strict_both (Store number) second
 
@@ -218,7 +224,7 @@ module _ (functions : Functions) {D R : Type 0} (state : D → State) where
           stays = refused_both is.serves.forms is.serves.far number is.stays;
         },
         none_of is.serves.answered.refused accepted,
-        (at.0, at.1, place_both is.serves.forms is.serves.far.rest at.0 place at.2),
+        (at.0, at.1, place_both is.serves.forms is.serves.far.rest at.0 place at.2, (at.3.0, start_both is.serves.far.rest at.3.0 place.start at.3.1, at.3.2)),
       )
       serves_both (ways.Unaccepted number place) (is, second) = (is, stops_both number place second is)
       serves_both (ways.Store number) (is, accepted) = (

@@ -1,8 +1,9 @@
 -- How a session ends at what was read: at no memory, at a refusal of the reader, and in a form.
-use Rattle.std.proofs.Common.{◌≡◌, ℕ, ◌+◌, ◌≤◌, Bool, true, List, [], ◌++◌, length, Option, Some, Ok, Err, inl, inr, refl, sym, ap, subst, ◌∙◌, append_assoc, length-append, arith}
+use Rattle.std.proofs.Common.{◌≡◌, ℕ, ◌+◌, ◌≤◌, Bool, true, List, [], ◌++◌, length, Option, Some, Ok, Err, inl, inr, refl, sym, ap, subst, ◌∙◌, append_assoc, append-nil, length-append, arith}
 use Rattle.disk_trait.specs.Disk.{State, IsHonest, IsSound}
 use Rattle.lisp_object.specs.Object.{Object}
 use Rattle.lisp_object.specs.declared.refusal.TheConstants.{NO_MEMORY}
+use Rattle.form_reader.specs.Reader.{BeginsAt}
 use Rattle.lisp_reading.specs.Reading.{empty, refused}
 use Rattle.plist_state.specs.State.{WorldState}
 use Rattle.prevalence_store.specs.declared.mode.Mode.{Mode}
@@ -15,16 +16,16 @@ use Rattle.prevalence_store.specs.declared.outcome.Wanted.{Wanted}
 use Rattle.prevalence_store.specs.declared.session.answer.Answered.{Answered}
 use Rattle.prevalence_store.specs.declared.session.answer.Answered.TheVariants.{Accepted, Refused}
 use Rattle.prevalence_store.specs.declared.session.input.Pending.{Pending}
-use Rattle.prevalence_store.specs.meaning.Acceptance.{read_in}
+use Rattle.prevalence_store.specs.meaning.Acceptance.{read_in, setting_in}
 use Rattle.prevalence_store.specs.meaning.Answers.{Progress, begun}
 use Rattle.prevalence_store.specs.calls.Pace.{Paces, fill_of}
-use Rattle.prevalence_store.specs.calls.Serve.{IsUnaccepted, ServesInPace, StopsStrict}
+use Rattle.prevalence_store.specs.calls.Serve.{IsRefusedFrom, IsUnaccepted, ServesInPace, StopsStrict}
 use Rattle.prevalence_store.specs.calls.Store.{StoreView}
 use Rattle.prevalence_store.specs.steps.Answer.{AnswersFault, AnswersForm, AnswersRead, BeginsWith, PassesForm, StopsInForm, TellsForm}
 use Rattle.prevalence_store.specs.steps.Course.{Course, pass}
 use Rattle.prevalence_store.specs.steps.Input.{HasRefusal}
 use Rattle.prevalence_store.specs.steps.Serve.{Answers, EndsAt, HasEndedAt, ended_at}
-use Rattle.prevalence_store.proofs.steps.Places.{place_at_once}
+use Rattle.prevalence_store.proofs.steps.Places.{place_at_once, refused_from, refused_from_more}
 use Rattle.prevalence_store.proofs.steps.Endings.{done, fault_answered, no_memory, nothing}
 use Rattle.prevalence_store.proofs.steps.Pacing.{done_paced, fault_paced, no_memory_paced}
 use Rattle.user_macros.specs.Functions.{Functions}
@@ -45,15 +46,20 @@ module _ (functions : Functions) {D R : Type 0} (state : D → State) where
   -- the reader refused the text, whatever follows it
   pub fault_ended : (sound : (d : D) → IsHonest (state d) → IsSound (state d)) (strict : Bool) (course later : Course) (old new : StoreView D R) (w : WorldState) (mode : Mode) (text : List ℕ) (a b : Option (List ℕ)) (pending : Pending)
       (number : ℕ) → old.world ≡ Some w → (refuses : HasRefusal functions w mode text number) → new ≡ old → (start : ℕ) (place : Place) → place.forms ≡ course.forms → place.start ≡ course.bytes + start
-      → place.at ≡ course.bytes + refuses.at → start ≤ length text → (ending : Ending) → AnswersFault number a b ending
+      → place.at ≡ course.bytes + refuses.at → BeginsAt (setting_in functions w mode) text start → (ending : Ending) → AnswersFault number a b ending
       → Answers functions state strict course later old new w mode text a b pending (Some (ended_at place ending))
   unfolding fault_answered nothing
-  fault_ended sound strict course later old new w mode text a b pending number known refuses same start place forms_is start_is at_is within ending answers more = by_ending ending answers where
+  fault_ended sound strict course later old new w mode text a b pending number known refuses same start place forms_is start_is at_is begins ending answers more = by_ending ending answers where
     still : (others : List ℕ) → read_in functions w mode ((text ++ more) ++ others) ≡ refused number refuses.at
     still others = ap (read_in functions w mode) (append_assoc text more others) ∙ refuses.reads (more ++ others)
 
     longer_within : start ≤ length (text ++ more)
-    longer_within = let many = length-append text more in omega arith
+    longer_within = let many = length-append text more in let within = begins.within in omega arith
+
+    -- what was refused begins at the start
+    from_start : IsRefusedFrom functions w mode (text ++ more) number refuses.at start
+    from_start = refused_from_more functions w mode text more start number refuses.at begins
+        (ap (read_in functions w mode) (sym (append-nil text)) ∙ refuses.reads []) (refuses.reads more)
 
     by_ending : (e : Ending) → AnswersFault number a b e → HasEndedAt functions state strict course old new w mode (text ++ more) a b (ended_at place e)
     by_ending End is = absurd is
@@ -64,7 +70,12 @@ module _ (functions : Functions) {D R : Type 0} (state : D → State) where
         stays = λ others. (refl, (refuses.at, still others ∙ ap (λ n. refused n refuses.at) (sym is.0)));
       },
       λ is_strict. refl,
-      (refuses.at, refuses.reads more ∙ ap (λ n. refused n refuses.at) (sym is.0), place_at_once course (text ++ more) start refuses.at place forms_is start_is at_is longer_within),
+      (
+        refuses.at,
+        refuses.reads more ∙ ap (λ n. refused n refuses.at) (sym is.0),
+        place_at_once course (text ++ more) start refuses.at place forms_is start_is at_is longer_within,
+        (start, omega (arith, start_is), subst (λ n. IsRefusedFrom functions w mode (text ++ more) n refuses.at start) (sym is.0) from_start),
+      ),
     )
     by_ending (Store code) (inl full) = (
       record {
@@ -118,23 +129,28 @@ module _ (functions : Functions) {D R : Type 0} (state : D → State) where
   -- the reader refuses the text at the end of the input
   pub fault_at_end : (sound : (d : D) → IsHonest (state d) → IsSound (state d)) (strict : Bool) (course : Course) (old new : StoreView D R) (w : WorldState) (mode : Mode) (text : List ℕ) (a b : Option (List ℕ)) (number at : ℕ)
       → old.world ≡ Some w → (reads : read_in functions w mode text ≡ refused number at) → new ≡ old → (start : ℕ) (place : Place) → place.forms ≡ course.forms → place.start ≡ course.bytes + start → place.at ≡ course.bytes + at
-      → start ≤ length text → (ending : Ending) → AnswersFault number a b ending → EndsAt functions state strict course old new w mode text a b (ended_at place ending)
+      → BeginsAt (setting_in functions w mode) text start → (ending : Ending) → AnswersFault number a b ending → EndsAt functions state strict course old new w mode text a b (ended_at place ending)
   unfolding fault_answered nothing
-  fault_at_end sound strict course old new w mode text a b number at known reads same start place forms_is start_is at_is within End answers = absurd answers
-  fault_at_end sound strict course old new w mode text a b number at known reads same start place forms_is start_is at_is within (Reader code) answers = (
+  fault_at_end sound strict course old new w mode text a b number at known reads same start place forms_is start_is at_is begins End answers = absurd answers
+  fault_at_end sound strict course old new w mode text a b number at known reads same start place forms_is start_is at_is begins (Reader code) answers = (
     (
       fault_answered functions state sound old new w mode text a b known number at reads same (Reader code) answers,
       fault_paced functions state sound old new w mode text a b known number at reads same (Reader code) answers course.pace,
       λ is_strict. refl,
     ),
-    (at, reads ∙ ap (λ n. refused n at) (sym answers.0), place_at_once course text start at place forms_is start_is at_is within),
+    (
+      at,
+      reads ∙ ap (λ n. refused n at) (sym answers.0),
+      place_at_once course text start at place forms_is start_is at_is begins.within,
+      (start, omega (arith, start_is), subst (λ n. IsRefusedFrom functions w mode text n at start) (sym answers.0) (refused_from functions w mode text start number at begins reads)),
+    ),
   )
-  fault_at_end sound strict course old new w mode text a b number at known reads same start place forms_is start_is at_is within (Store code) (inl full) = (
+  fault_at_end sound strict course old new w mode text a b number at known reads same start place forms_is start_is at_is begins (Store code) (inl full) = (
     fault_answered functions state sound old new w mode text a b known number at reads same (Store code) (inl full),
     fault_paced functions state sound old new w mode text a b known number at reads same (Store code) (inl full) course.pace,
     λ is_strict. refl,
   )
-  fault_at_end sound strict course old new w mode text a b number at known reads same start place forms_is start_is at_is within (Store code) (inr memory) = (
+  fault_at_end sound strict course old new w mode text a b number at known reads same start place forms_is start_is at_is begins (Store code) (inr memory) = (
     fault_answered functions state sound old new w mode text a b known number at reads same (Store code) (inr memory),
     fault_paced functions state sound old new w mode text a b known number at reads same (Store code) (inr memory) course.pace,
     λ is_strict. refl,

@@ -16,9 +16,9 @@ use Rattle.form_reader.specs.declared.reader.FormReader.{FormReader}
 use Rattle.form_reader.specs.declared.reader.ReaderState.{ReaderState}
 use Rattle.form_reader.specs.declared.reader.ReaderState.TheVariants.{Open, Refused, OutOfMemory}
 use Rattle.form_reader.specs.declared.reader.Advance.{Advance}
-use Rattle.form_reader.specs.declared.reader.Advance.TheVariants.{Form as AdvanceForm, Refused as AdvanceRefused}
+use Rattle.form_reader.specs.declared.reader.Advance.TheVariants.{More as AdvanceMore, Form as AdvanceForm, Refused as AdvanceRefused}
 use Rattle.lisp_reading.specs.Plans.{Read}
-use Rattle.form_reader.specs.Reader.{begun, fed, limits_of, BeginsLater, IsAfter, IsAfterIn, MayGoOn, Steps}
+use Rattle.form_reader.specs.Reader.{begun, fed, limits_of, BeginsAt, BeginsLater, HasBegun, IsAfter, IsAfterIn, MayGoOn, Steps, StepsBegun}
 use Rattle.lisp_reading.specs.Reading.{form, empty, outcome, reads, reads_at, refused}
 use Rattle.lisp_reading.specs.Setting.{Setting, setting_of}
 use Rattle.lisp_reading.specs.Fitting.{IsFitting}
@@ -54,14 +54,16 @@ reads_none setting = reads_is setting 0 [] ∙ ap (outcome setting.table 0 (λ n
 
 -- nothing is pending, if the reader is new
 pub none_pending : (functions : Functions) (w : WorldState) (mode : Mode) (pending : Pending) → limits_of pending.reader ≡ form_limits → IsAfter (setting_in functions w mode) pending.reader []
-    → fed pending.reader ≡ 0 → begun pending.reader ≡ 0 → pending.text.items ≡ [] → pending.dropped ≡ 0 → IsPending functions w mode pending []
-none_pending functions w mode pending limits after count begins none zero = record {
+    → fed pending.reader ≡ 0 → begun pending.reader ≡ 0 → pending.text.items ≡ [] → pending.dropped ≡ 0
+    → HasBegun (setting_in functions w mode) pending.reader [] → IsPending functions w mode pending []
+none_pending functions w mode pending limits after count begins none zero has_begun = record {
   limits = limits;
   after = after;
   count = count;
   kept = none ∙ ap (λ n. drop n []) (sym zero);
   only = zero ∙ sym begins;
   more = subst (MayGoOn []) (sym (reads_none (setting_in functions w mode))) tt;
+  has_begun = has_begun;
 }
 
 -- ---- a form
@@ -161,9 +163,10 @@ module _ (functions : Functions) (w : WorldState) (mode : Mode) (old : Pending) 
     by_left n count false is_left places all = let more : count ≤ n - old.dropped = ltb-false (n - old.dropped) count is_left in let a = places.within in let c = places.from in omega arith
 
     pub has_form : (after : Pending) (own : List ℕ) (count : ℕ) → FedPlaces byte start stop next → after.reader ≡ new → after.text.items ≡ [] → after.dropped ≡ 0 → limits_of new ≡ form_limits
-        → old.dropped + count ≡ length bytes + 1 → own ≡ between start stop (bytes ++ byte ∷ [])
+        → StepsBegun (setting_in functions w mode) new (bytes ++ byte ∷ []) step → old.dropped + count ≡ length bytes + 1 → own ≡ between start stop (bytes ++ byte ∷ [])
         → (has : HasForm functions w mode after (bytes ++ byte ∷ []) (object_of datum) own (nat_lt (next - old.dropped) count)) × (has.start ≡ start) × (has.next ≡ next)
-    has_form after own count places reader none zero limits all is_own =
+    has_form after own count places reader none zero limits has_begun all is_own =
+        let again : (later : Setting) → HasBegun later new [] = subst (λ (s : Advance). StepsBegun (setting_in functions w mode) new (bytes ++ byte ∷ []) s) is has_begun in
         let many : length (bytes ++ byte ∷ []) ≡ length bytes + 1 = length-append bytes (byte ∷ []) in
         let fresh = form_told.4 in
         let fed_none : fed new ≡ 0 = let a = fresh.start in let b = fresh.at in omega arith in (
@@ -176,19 +179,46 @@ module _ (functions : Functions) (w : WorldState) (mode : Mode) (old : Pending) 
             next_is = by_left next count (nat_lt (next - old.dropped) count) refl places all ∙ sym many;
             none = λ later in_mode. none_pending functions later in_mode after (ap limits_of reader ∙ limits)
                 (subst (λ (r : FormReader). IsAfter (setting_in functions later in_mode) r []) (sym reader) (form_told.5 (setting_in functions later in_mode)))
-                (ap fed reader ∙ fed_none) (ap begun reader ∙ fresh.start) none zero;
+                (ap fed reader ∙ fed_none) (ap begun reader ∙ fresh.start) none zero
+                (subst (λ (r : FormReader). HasBegun (setting_in functions later in_mode) r []) (sym reader) (again (setting_in functions later in_mode)));
           },
           refl,
           refl,
         )
+
+  -- a byte more that decides nothing
+  pub more_pending : (byte : ℕ) (new : FormReader) (step : Advance) → step ≡ AdvanceMore → Steps (setting_in functions w mode) new (bytes ++ byte ∷ []) step
+      → StepsBegun (setting_in functions w mode) new (bytes ++ byte ∷ []) step → limits_of new ≡ limits_of old.reader → (after : Pending) → after.reader ≡ new
+      → after.text.items ≡ drop after.dropped (bytes ++ byte ∷ []) → after.dropped ≡ begun after.reader → IsPending functions w mode after (bytes ++ byte ∷ [])
+  more_pending byte new step is steps has_begun limits after same kept only =
+      let setting : Setting = setting_in functions w mode in
+      let told : Steps setting new (bytes ++ byte ∷ []) AdvanceMore = subst (λ (s : Advance). Steps setting new (bytes ++ byte ∷ []) s) is steps in
+      let there : HasBegun setting new (bytes ++ byte ∷ []) = subst (λ (s : Advance). StepsBegun setting new (bytes ++ byte ∷ []) s) is has_begun in
+      record {
+        limits = ap limits_of same ∙ limits ∙ pending.limits;
+        after = subst (λ (r : FormReader). IsAfter setting r (bytes ++ byte ∷ [])) (sym same) told.0;
+        count = ap fed same ∙ told.1;
+        kept = kept;
+        only = only;
+        more = told.2;
+        has_begun = subst (λ (r : FormReader). HasBegun setting r (bytes ++ byte ∷ [])) (sym same) there;
+      }
 
   -- a refusal that a byte more decides
   module _ (byte : ℕ) (new : FormReader) (step : Advance) (number at : ℕ) (is : step ≡ AdvanceRefused number at) (steps : Steps (setting_in functions w mode) new (bytes ++ byte ∷ []) step) where
     refusal_told : Steps (setting_in functions w mode) new (bytes ++ byte ∷ []) (AdvanceRefused number at)
     refusal_told = subst (λ (s : Advance). Steps (setting_in functions w mode) new (bytes ++ byte ∷ []) s) is steps
 
-    pub has_refusal : (refuses : HasRefusal functions w mode (bytes ++ byte ∷ []) number) × (refuses.at ≡ at)
-    has_refusal = (record { at = at; reads = refusal_told.0 }, refl)
+    pub has_refusal : BeginsLater old.reader new step → StepsBegun (setting_in functions w mode) new (bytes ++ byte ∷ []) step
+        → (refuses : HasRefusal functions w mode (bytes ++ byte ∷ []) number) × (refuses.at ≡ at) × BeginsAt (setting_in functions w mode) (bytes ++ byte ∷ []) old.dropped
+    has_refusal later has_begun =
+        let same : begun new ≡ begun old.reader = subst (λ (s : Advance). BeginsLater old.reader new s) is later in
+        let begins : BeginsAt (setting_in functions w mode) (bytes ++ byte ∷ []) (begun new) =
+        subst (λ (s : Advance). StepsBegun (setting_in functions w mode) new (bytes ++ byte ∷ []) s) is has_begun in (
+          record { at = at; reads = refusal_told.0 },
+          refl,
+          subst (BeginsAt (setting_in functions w mode) (bytes ++ byte ∷ [])) (same ∙ sym pending.only) begins,
+        )
 
     pub refused_within : (old.dropped ≤ fed old.reader + 1) × (at ≤ fed old.reader + 1)
     refused_within =

@@ -1,5 +1,5 @@
 -- How a session goes, and how it ends: one relation, with a case for each ending.
-use Rattle.std.specs.Prelude.{◌≡◌, ◌≢◌, ◌⊎◌, ℕ, zero, suc, ◌+◌, ◌≤◌, max, List, [], ◌∷◌, ◌++◌, length, Option, Some, Err, true}
+use Rattle.std.specs.Prelude.{◌≡◌, ◌≢◌, ◌⊎◌, ℕ, zero, suc, ◌+◌, ◌-◌, ◌≤◌, max, List, [], ◌∷◌, ◌++◌, length, take, drop, Option, Some, Err, true, false}
 use Rattle.std.specs.List.{sum_by}
 use Rattle.disk_trait.specs.Disk.{State, IsHonest}
 use Rattle.disk_trait.specs.Half.{opposite_of}
@@ -13,7 +13,7 @@ use Rattle.prevalence_store.specs.declared.outcome.Place.{Place}
 use Rattle.prevalence_store.specs.declared.outcome.Wanted.{Wanted}
 use Rattle.prevalence_store.specs.declared.outcome.Ending.{Ending}
 use Rattle.prevalence_store.specs.declared.outcome.Ending.TheVariants.{End, Reader, Store}
-use Rattle.prevalence_store.specs.meaning.Acceptance.{after, read_in}
+use Rattle.prevalence_store.specs.meaning.Acceptance.{after, read_in, table_in}
 use Rattle.prevalence_store.specs.calls.Execute.{DeviceFails, SurvivesAs}
 use Rattle.prevalence_store.specs.calls.Store.{LeavesAlone, StoreView, Describes}
 use Rattle.prevalence_store.specs.meaning.Answers.{Progress, after_forms, last_line, refusal_line}
@@ -21,7 +21,7 @@ use Rattle.prevalence_store.specs.calls.Pace.{EndsInPace, IsOverIn, Pace, Paces,
 use Rattle.form_eval.specs.Acceptance.{accept}
 use Rattle.lisp_object.specs.Object.{Object}
 use Rattle.form_reader.specs.Reader.{MayGoOn}
-use Rattle.lisp_reading.specs.Reading.{form, empty, refused}
+use Rattle.lisp_reading.specs.Reading.{form, empty, is_whitespace, refused}
 use Rattle.prevalence_store.specs.calls.Snapshot.{IsTooLarge}
 use Rattle.prevalence_store.specs.calls.Streams.{Writes}
 use Rattle.plist_state.specs.State.{WorldState}
@@ -273,6 +273,17 @@ pub record IsPlace (forms_before bytes_before forms : ℕ) (text left : List ℕ
   pub begins : bytes_before + length text ≤ place.start + length left
   pub ends : place.start ≤ bytes_before + length text
 
+-- What the reader refuses of these bytes, with this number at an offset, begins at another: what is before it is discarded text alone,
+-- from there on they are refused alone, at the same byte, and the first byte there is no whitespace.
+pub record IsRefusedFrom (functions : Functions) (world : WorldState) (mode : Mode) (left : List ℕ) (number at from : ℕ) : Type 0 where
+  pub discarded : read_in functions world mode (take from left) ≡ empty
+  pub order : from ≤ at
+  pub alone : read_in functions world mode (drop from left) ≡ refused number (at - from)
+  pub first : ℕ
+  pub others : List ℕ
+  pub parts : drop from left ≡ first ∷ others
+  pub no_whitespace : is_whitespace (table_in world mode) first ≡ false
+
 module _ (functions : Functions) {D R : Type 0} (state : D → State) (old new : StoreView D R) (world : WorldState) (mode : Mode) (text : List ℕ) (held written : Option (List ℕ)) (pace : Pace) where
   -- The session ended as a form was refused: it was answered, and those before it were accepted.
   pub record StopsStrict (forms_before bytes_before number : ℕ) (place : Place) : Type 0 where
@@ -291,10 +302,11 @@ module _ (functions : Functions) {D R : Type 0} (state : D → State) (old new :
     pub is_place : IsPlace forms_before bytes_before accepted text before.rest start place
     pub begins : place.start ≡ place.at
 
-  -- The reader refused what was left, at this place.
+  -- The reader refused what was left, at this place, and what it refused begins where the place says.
   abbrev pub RefusesAt : (forms_before bytes_before number : ℕ) → Serves functions state old new world mode text held written (Reader number) → Place → Type 0
   RefusesAt forms_before bytes_before number served place =
       (at : ℕ) × (read_in functions served.far.world mode served.far.rest ≡ refused number at) × IsPlace forms_before bytes_before served.forms text served.far.rest at place
+      × ((from : ℕ) × (place.start + length served.far.rest ≡ bytes_before + length text + from) × IsRefusedFrom functions served.far.world mode served.far.rest number at from)
 
 -- A session over what a reader gives, as it is wanted: as `ServesInput`, with the place of a refusal of the reader counted in the input;
 -- and if it is strict all forms whose lines were written whole were accepted, but the one at which it ended.

@@ -3,7 +3,7 @@ use Rattle.std.specs.Prelude.{◌≡◌, ℕ, ◌+◌, ◌<◌, ◌≤◌, Bool,
 use Rattle.lisp_object.specs.Object.{Object, IsSound}
 use Rattle.lisp_object.specs.Datum.{object_of, is_proper}
 use Rattle.plist_state.specs.State.{WorldState}
-use Rattle.form_reader.specs.Reader.{begun, fed, limits_of, IsAfter, MayGoOn}
+use Rattle.form_reader.specs.Reader.{begun, fed, limits_of, BeginsAt, HasBegun, IsAfter, MayGoOn}
 use Rattle.lisp_reading.specs.Reading.{form, empty, refused}
 use Rattle.prevalence_store.specs.declared.session.input.Pending.{Pending}
 use Rattle.prevalence_store.specs.declared.session.input.Fed.{Fed}
@@ -22,6 +22,7 @@ pub record IsPending (functions : Functions) (world : WorldState) (mode : Mode) 
   pub kept : pending.text.items ≡ drop pending.dropped bytes
   pub only : pending.dropped ≡ begun pending.reader
   pub more : MayGoOn bytes (read_in functions world mode bytes)
+  pub has_begun : HasBegun (setting_in functions world mode) pending.reader bytes
 
 -- The world of a store is known, and some bytes are pending in it.
 pub record AwaitsMore (functions : Functions) (left : Option WorldState) (mode : Mode) (pending : Pending) : Type 0 where
@@ -49,7 +50,8 @@ abbrev pub Feeds : Functions → WorldState → Mode → Pending → List ℕ �
 Feeds functions world mode pending bytes Nothing = IsPending functions world mode pending bytes
 Feeds functions world mode pending bytes (Form it left) =
     (has : HasForm functions world mode pending bytes (object_of it.datum) it.own.items left) × (has.start ≡ it.start) × (has.next ≡ it.next)
-Feeds functions world mode pending bytes (Refused number start at) = (is : HasRefusal functions world mode bytes number) × (is.at ≡ at)
+Feeds functions world mode pending bytes (Refused number start at) =
+    (is : HasRefusal functions world mode bytes number) × (is.at ≡ at) × BeginsAt (setting_in functions world mode) bytes start
 
 -- the bytes are a form to their end, and this is its own text
 pub record IsLastForm (functions : Functions) (world : WorldState) (mode : Mode) (bytes : List ℕ) (object : Object) (own : List ℕ) : Type 0 where
@@ -63,7 +65,8 @@ abbrev pub Finishes : Functions → WorldState → Mode → List ℕ → Fed →
 Finishes functions world mode bytes Nothing = read_in functions world mode bytes ≡ empty
 Finishes functions world mode bytes (Form it left) =
     (last : IsLastForm functions world mode bytes (object_of it.datum) it.own.items) × (last.start ≡ it.start) × (length bytes ≡ it.next)
-Finishes functions world mode bytes (Refused number start at) = read_in functions world mode bytes ≡ refused number at
+Finishes functions world mode bytes (Refused number start at) =
+    (read_in functions world mode bytes ≡ refused number at) × BeginsAt (setting_in functions world mode) bytes start
 
 -- a form has a proper datum, and a sound object
 abbrev pub IsSoundFed : Fed → Type 0

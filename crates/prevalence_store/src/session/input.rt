@@ -1,7 +1,7 @@
 // What a session has read and not answered yet.
 ghost use Rattle.std.specs.Prelude.{◌≡◌, ◌+◌, ◌<◌, ◌≤◌, ◌^◌, ℕ, List, [], ◌∷◌, ◌++◌, drop, take, length, true, IfOk, OnOk, vec_len};
 ghost use Rattle.plist_state.specs.State.{WorldState};
-ghost use Rattle.form_reader.specs.Reader.{fed, begun, limits_of, IsAfter, Steps, BeginsLater, IsOutcome, IsSoundStep};
+ghost use Rattle.form_reader.specs.Reader.{fed, begun, limits_of, HasBegun, IsAfter, Steps, StepsBegun, BeginsLater, IsOutcome, IsSoundStep};
 ghost use Rattle.prevalence_store.specs.meaning.Acceptance.{between, form_limits, read_in, setting_in, table_in};
 ghost use Rattle.user_macros.specs.Functions.{Functions, are_registered};
 ghost use Rattle.prevalence_store.specs.steps.Input.{IsPending, IsSoundFed, IsWithin, Feeds, Finishes, FeedsPart};
@@ -278,6 +278,11 @@ fn step_in<R: MacroFunctions>(
     ensures steps { (bytes : List ℕ)
         → IsAfter (setting_in R.Meaning.functions world.now.0 mode) reader.old bytes
         → IfOk result (Steps (setting_in R.Meaning.functions world.now.0 mode)
+        reader.new (bytes ++ byte ∷ [])) }
+    ensures has_begun { (bytes : List ℕ)
+        → IsAfter (setting_in R.Meaning.functions world.now.0 mode) reader.old bytes
+        → HasBegun (setting_in R.Meaning.functions world.now.0 mode) reader.old bytes
+        → IfOk result (StepsBegun (setting_in R.Meaning.functions world.now.0 mode)
         reader.new (bytes ++ byte ∷ [])) }
     ensures limits { limits_of reader.new ≡ limits_of reader.old }
     ensures count { fed reader.new ≤ fed reader.old + 1 }

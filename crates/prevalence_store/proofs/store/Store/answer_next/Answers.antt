@@ -40,14 +40,11 @@ returns-in-Refused-clause-answers g c = λ w known bytes p.
     let course = course_of c.args.course.now in
     let f = c.in-Refused in
     let refuses = subst (λ (fed : Fed). Feeds functions w c.args.wanted.mode c.feed.new.pending text fed) f.is (c.in-Ok.ensures.feeds w known bytes p) in
-    let within = subst (λ (given : Fed). IsWithin (fed c.args.pending.now.reader + c.in-Ok.part.count) given) f.is c.in-Ok.ensures.part.places in
-    let many = length-append bytes (take n piece) in
-    let taken = length-take-le n piece c.in-Ok.ensures.part.within in
     let place = c.place-place.ensures in
     subst (λ ended. Answers functions g.D.Disk.state c.args.wanted.strict course course c.args.self.now c.answer_fault.new.self w c.args.wanted.mode (bytes ++ piece) held written c.feed.new.pending (Some ended)) (sym c.at.ensures)
     (ended_within functions g.D.Disk.state c.args.wanted.strict course course c.args.self.now c.answer_fault.new.self w c.args.wanted.mode held written c.feed.new.pending bytes piece n (ended_at c.place-place.result c.answer_fault.result)
     (fault_ended functions g.D.Disk.state g.met.D.Disk.sound c.args.wanted.strict course course c.args.self.now c.answer_fault.new.self w c.args.wanted.mode text held written c.feed.new.pending f.number known
-    refuses.0 c.answer_fault.ensures.same f.start c.place-place.result place.0 place.1 (place.2 ∙ ap (λ k. course.bytes + k) (sym refuses.1)) (let count = p.count in omega (arith, within.0, many, taken, count)) c.answer_fault.result c.answer_fault.ensures.answers))
+    refuses.0 c.answer_fault.ensures.same f.start c.place-place.result place.0 place.1 (place.2 ∙ ap (λ k. course.bytes + k) (sym refuses.1)) refuses.2 c.answer_fault.result c.answer_fault.ensures.answers))
 
 pub place-place-requires-clause-start : goal.place-place-requires-clause-start
 place-place-requires-clause-start g c = let within = subst (λ (given : Fed). IsWithin (fed c.args.pending.now.reader + c.in-Ok.part.count) given) c.in-Refused.is c.in-Ok.ensures.part.places in omega (arith, within.0, c.requires.count, c.in-Ok.ensures.part.within)

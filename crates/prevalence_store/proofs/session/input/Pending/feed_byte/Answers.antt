@@ -1,5 +1,5 @@
 use Rattle.std.proofs.Common.{◌∷◌, [], ◌++◌, refl, ◌∙◌, arith}
-use Rattle.prevalence_store.proofs.steps.Pendings.{fed_places, has_form, has_refusal, kept_count, kept_more, dropped_within, refused_within}
+use Rattle.prevalence_store.proofs.steps.Pendings.{fed_places, has_form, has_refusal, kept_count, kept_more, dropped_within, more_pending, refused_within}
 use Rattle.prevalence_store.proofs.session.input.Pending.feed_byte.Goals as goal
 
 pub own_text-requires-clause-order : goal.own_text-requires-clause-order
@@ -30,14 +30,25 @@ returns-in_ok-own-in-Form-clause-feeds g c = λ bytes p.
     steps c.in_ok-step_in.ensures.begun in
     has_form functions w c.args.mode c.args.self.now bytes p c.args.byte c.step_in.new.reader c.in_ok-step_in.field-0 f.datum f.start f.end f.next f.is steps
     _ c.in_ok-own-in-Form.own.items c.len.result places refl c.clear.ensures.items refl (c.step_in.ensures.limits ∙ p.limits)
+    (c.in_ok-step_in.ensures.has_begun bytes p.after p.has_begun)
     (omega (arith, kept_count functions w c.args.mode c.args.self.now bytes p, c.len.ensures, c.in_ok-push.ensures.len, c.args.self.now.text.ok.0))
     (c.in_ok-own-in-Form.ensures (bytes ++ c.args.byte ∷ [])
     (c.as_slice.ensures.value ∙ c.in_ok-push.ensures.items ∙ kept_more c.args.self.now.text.items bytes c.args.byte c.args.self.now.dropped (dropped_within functions w c.args.mode c.args.self.now bytes p) p.kept))
 
+pub returns-in_ok-discard-in-More-clause-feeds : goal.returns-in_ok-discard-in-More-clause-feeds
+returns-in_ok-discard-in-More-clause-feeds g c = λ bytes p.
+    let functions = g.R.Meaning.Meaning.functions in
+    let w = c.args.world.now.0 in
+    more_pending functions w c.args.mode c.args.self.now bytes p c.args.byte c.step_in.new.reader c.in_ok-step_in.field-0 c.in-More.is (c.in_ok-step_in.ensures.steps bytes p.after)
+    (c.in_ok-step_in.ensures.has_begun bytes p.after p.has_begun) c.step_in.ensures.limits c.discard.new.self c.discard.ensures.reader
+    (c.in_ok-discard-in-More.ensures.kept (bytes ++ c.args.byte ∷ [])
+    (c.in_ok-push.ensures.items ∙ kept_more c.args.self.now.text.items bytes c.args.byte c.args.self.now.dropped (dropped_within functions w c.args.mode c.args.self.now bytes p) p.kept))
+    c.in_ok-discard-in-More.ensures.only
+
 pub returns-in-Refused-clause-feeds : goal.returns-in-Refused-clause-feeds
 returns-in-Refused-clause-feeds g c = λ bytes p.
     has_refusal g.R.Meaning.Meaning.functions c.args.world.now.0 c.args.mode c.args.self.now bytes p c.args.byte c.step_in.new.reader c.in_ok-step_in.field-0 c.in-Refused.code c.in-Refused.at c.in-Refused.is
-    (c.in_ok-step_in.ensures.steps bytes p.after)
+    (c.in_ok-step_in.ensures.steps bytes p.after) c.in_ok-step_in.ensures.begun (c.in_ok-step_in.ensures.has_begun bytes p.after p.has_begun)
 
 pub returns-in-Refused-clause-within : goal.returns-in-Refused-clause-within
 returns-in-Refused-clause-within g c =

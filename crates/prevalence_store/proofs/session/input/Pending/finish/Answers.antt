@@ -1,6 +1,8 @@
-use Rattle.std.proofs.Common.{arith, ◌∙◌}
+use Rattle.std.proofs.Common.{arith, subst, sym, ◌∙◌}
 use Rattle.lisp_object.specs.Datum.{object_of}
-use Rattle.prevalence_store.specs.meaning.Acceptance.{read_in}
+use Rattle.form_reader.specs.Reader.{BeginsAt, IsOutcome}
+use Rattle.form_reader.specs.declared.ending.ReadOutcome.{ReadOutcome}
+use Rattle.prevalence_store.specs.meaning.Acceptance.{read_in, setting_in}
 use Rattle.prevalence_store.proofs.calls.Executing.{form_places, form_read}
 use Rattle.prevalence_store.proofs.steps.Pendings.{kept_count, last_form, last_places}
 use Rattle.prevalence_store.proofs.session.input.Pending.finish.Goals as goal
@@ -50,3 +52,11 @@ returns-clause-within g c =
     let read = form_read _ (read_in functions w c.args.mode p.0) f.datum f.start f.end f.next (c.in_ok-finish_in.ensures p.0 p.1.after) f.is in
     let places = form_places functions w c.args.mode p.0 (object_of f.datum) f.start f.end f.next read.0 in
     (omega (arith, places.0, places.1), omega (arith, places.2, p.1.count))
+
+pub returns-in-Refused-clause-finishes : goal.returns-in-Refused-clause-finishes
+returns-in-Refused-clause-finishes g c = λ bytes p.
+    let functions = g.R.Meaning.Meaning.functions in
+    let w = c.args.world.now.0 in (
+      subst (λ (o : ReadOutcome). IsOutcome o (read_in functions w c.args.mode bytes)) c.in-Refused.is (c.in_ok-finish_in.ensures bytes p.after),
+      subst (BeginsAt (setting_in functions w c.args.mode) bytes) (sym p.only) p.has_begun.begins,
+    )
