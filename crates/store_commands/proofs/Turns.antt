@@ -73,12 +73,17 @@ module _ (functions : Functions) (wanted : Wanted) {D R : Type 0} (state : D →
 
 -- ---- what is known as the last one of them begins
 
-module _ (functions : Functions) (wanted : Wanted) {D R : Type 0} (state : D → State) where
-  -- what it leaves of a known input, and what it adds to a known output
-  abbrev Goes : (had has held written : Option (List ℕ)) → Type 0
-  Goes had has held written = (text bytes : List ℕ) → had ≡ Some text → held ≡ Some bytes
-      → (rest : List ℕ) × (said : List ℕ) × (has ≡ Some rest) × (written ≡ Some (bytes ++ said))
+-- what it leaves of a known input, and what it adds to a known output
+abbrev Goes : (had has held written : Option (List ℕ)) → Type 0
+Goes had has held written = (text bytes : List ℕ) → had ≡ Some text → held ≡ Some bytes
+    → (rest : List ℕ) × (said : List ℕ) × (has ≡ Some rest) × (written ≡ Some (bytes ++ said))
 
+dropped_to : (there has : Option (List ℕ)) (rest line : List ℕ) → there ≡ Some rest → Consumes there has line → (left : List ℕ) × (has ≡ Some left)
+dropped_to None has rest line is some = absurd (cc)
+dropped_to (Some xs) None rest line is none = absurd none
+dropped_to (Some xs) (Some ys) rest line is some = (ys, refl)
+
+module _ (functions : Functions) (wanted : Wanted) {D R : Type 0} (state : D → State) where
   session_goes : (old new : StoreView D R) (world : WorldState) (had has held written : Option (List ℕ)) (ended : Ended) → EndsRefused ended
       → ServesWanted functions state wanted old new world had has held written ended → Goes had has held written
   session_goes old new world had has held written End none served = absurd none
@@ -87,11 +92,6 @@ module _ (functions : Functions) (wanted : Wanted) {D R : Type 0} (state : D →
   session_goes old new world had has held written (Unaccepted number place) is served = λ text bytes known holds.
       let read = served.3 text known in (read.0, _, read.2, served.2.advances.lines bytes holds)
   session_goes old new world had has held written (Store number) none served = absurd none
-
-  dropped_to : (there has : Option (List ℕ)) (rest line : List ℕ) → there ≡ Some rest → Consumes there has line → (left : List ℕ) × (has ≡ Some left)
-  dropped_to None has rest line is some = absurd (cc)
-  dropped_to (Some xs) None rest line is none = absurd none
-  dropped_to (Some xs) (Some ys) rest line is some = (ys, refl)
 
   pub earlier_go : (others : List Ended) (old new : StoreView D R) (world left : WorldState) (had has held written : Option (List ℕ))
       → Earlier functions wanted state others old new world left had has held written → Goes had has held written
