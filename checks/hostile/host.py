@@ -143,7 +143,7 @@ def killed(room, times):
             with child.stdout:
                 lines = (b"".join(seen) + child.stdout.read()).split(b"\n")[:-1]
             child.wait(60)
-            want(lines == [b"%d" % (stored + number + 1) for number in range(len(lines))], "kill", turn, answers[-40:])
+            want(lines == [b"%d" % (stored + number + 1) for number in range(len(lines))], "kill", turn, lines[-3:])
             answered, found = stored + len(lines), count_in(room)
             want(answered <= found <= answered + 1, "kill", turn, answered, "answered,", found, "found")
             between += 0 < len(lines) < 2000

@@ -6,11 +6,12 @@ import shutil
 import subprocess
 import tempfile
 
+from undisturbed import WANTED
+
 HERE = os.path.dirname(os.path.abspath(__file__))
 
 Answer = collections.namedtuple("Answer", "status out err")
-# `wanted` is what an undisturbed session writes to standard output; its status is then 0.
-Session = collections.namedtuple("Session", "name words text base wanted", defaults=[None])
+Session = collections.namedtuple("Session", "name words text base")
 # What a session does undisturbed: the files before it, its answer, the files after it, and after each number of its lines how many
 # answers there are, and the text of the world. `looked` has the files that were looked at, each with how many answers there were: what
 # was left by one run is looked at once, though many runs leave it.
@@ -198,7 +199,7 @@ class Room:
 def course(room, session, before):
     room.put(before)
     ample = room.run(session.words, session.text)
-    want(session.wanted is None or ample == Answer(0, session.wanted, b""), session.name, "undisturbed:", ample)
+    want((ample.status, ample.out) == WANTED[session.name], session.name, "undisturbed:", ample)
     after = room.files()
     lines = session.text.splitlines(keepends=True)
     words = session.words if session.words[0] == "run" else ["run"]
