@@ -1,8 +1,6 @@
 -- What the functions of the tests mean.
-use Rattle.std.specs.Prelude.{ℕ, ◌≡◌, pos, Bool, true, false, ◌||◌, is_some, if◌then◌else◌, List, [], ◌∷◌, length, map, Option, Some, None, unwrap_or, codes, replicate, refl}
+use Rattle.std.specs.Prelude.{ℕ, ◌≡◌, pos, Bool, true, false, ◌||◌, is_some, if◌then◌else◌, List, [], ◌∷◌, length, map, Option, Some, None, unwrap_or, codes, refl}
 use Rattle.readtable_core.specs.Names.{same_name, is_among}
-use Rattle.lisp_object.specs.declared.datum.Datum
-use Rattle.lisp_object.specs.Datum.{object_of}
 use Rattle.lisp_object.specs.Object.{integer, symbol, pair, nil}
 use Rattle.user_macros.specs.declared.call.Gather.{Gather}
 use Rattle.user_macros.specs.declared.call.Gather.TheVariants.{Nothing, Next, Until, Text, TextSame, Line, Token}
@@ -13,7 +11,7 @@ use Rattle.user_macros.specs.Functions.{Functions}
 abbrev pub last_rows : List (List ℕ × Gather)
 last_rows =
     (codes "HIGH", Nothing) ∷ (codes "OWN", Nothing) ∷ (codes "OTHER", Nothing) ∷ (codes "IMPROPER", Nothing) ∷ (codes "WRAP", Next)
-    ∷ (codes "NAME", Text 125) ∷ (codes "LARGE", Nothing) ∷ []
+    ∷ (codes "NAME", Text 125) ∷ []
 
 abbrev pub later_rows : List (List ℕ × Gather)
 later_rows =
@@ -49,10 +47,6 @@ count (one x) = 1
 count (many xs) = length xs
 count (text cs) = length cs
 
--- a vector of n zeros
-unfoldable pub zeros : ℕ → MacroAnswer
-zeros n = value (object_of (Datum.Vector (replicate n (Datum.Integer (pos 0)))))
-
 -- what the others answer
 abbrev pub other_answer : List ℕ → Option MacroAnswer
 other_answer name =
@@ -65,8 +59,7 @@ other_answer name =
     else (if same_name (codes "OWN") name then Some (value (symbol (codes "COMMON-LISP") (codes "X")))
     else (if same_name (codes "OTHER") name then Some (value (symbol (codes "COMMON-LISP-USER") (codes "GET")))
     else (if same_name (codes "IMPROPER") name then Some improper
-    else (if same_name (codes "LARGE") name then Some (zeros 1000000)
-    else None)))))))))
+    else None))))))))
 
 -- two answer by what they gather: the object in two lists, or the symbol of this name
 abbrev pub makes : List ℕ → Bool

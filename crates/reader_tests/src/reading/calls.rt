@@ -7,7 +7,7 @@ ghost use Rattle.reader_tests.specs.Trial.{trial_answer, makes, other_answer};
 
 use super::hostile::repeated;
 use super::trial::{
-    Trial, counted, empty_list, list_before_a_list, name_of, named, symbol, wrapped, zeros,
+    Trial, counted, empty_list, list_before_a_list, name_of, named, symbol, wrapped,
 };
 use super::{field, number};
 use form_reader::{Limits, ReadOutcome, read_one};
@@ -232,9 +232,6 @@ fn answers_without_an_object(rt: HostRuntime) -> Result<(), Fail> {
     assert!(rt; refusal(&read_with(&rt, improper, answers, b"!")?) == (21, 1));
     let answers: MacroFn = Box::new(rt.alloc(), move |_call: &Call| list_before_a_list(alloc))?;
     assert!(rt; refusal(&read_with(&rt, improper, answers, b"!")?) == (21, 1));
-    let large = name_of(b"LARGE");
-    let answers: MacroFn = Box::new(rt.alloc(), move |_call: &Call| zeros(alloc, 1_000_000))?;
-    assert!(rt; refusal(&read_with(&rt, large, answers, b"!")?) == (21, 1));
     let mute = name_of(b"MUTE");
     let nothing: MacroFn = Box::new(rt.alloc(), |_call: &Call| Ok(Answer::Nothing))?;
     assert!(rt; refusal(&read_with(&rt, mute, nothing, b"!a b ")?) == (0, 5));

@@ -7,7 +7,7 @@ ghost use Rattle.lisp_object.specs.Datum.{is_proper, object_of};
 ghost use Rattle.lisp_object.specs.Object.{integer, nil, pair, symbol};
 ghost use Rattle.user_macros.specs.Calls.{answer_of, call_of, improper, value};
 ghost use Rattle.user_macros.specs.Sound.{IsSoundCall};
-ghost use Rattle.reader_tests.specs.Trial.{trial_functions, trial_names, later_rows, last_rows, way_among, count, named, wrapped, zeros};
+ghost use Rattle.reader_tests.specs.Trial.{trial_functions, trial_names, later_rows, last_rows, way_among, count, named, wrapped};
 
 use lisp_object::{Boxed, Bytes, Datum, Items};
 use readtable_core::FnName;
@@ -24,7 +24,7 @@ pub fn name_of(bytes: &[u8]) -> FnName
 
 #[derive(Drop)]
 pub struct Trial {
-    names: [FnName; 19],
+    names: [FnName; 18],
     ghost are: { names ≡ trial_names },
 }
 
@@ -50,7 +50,6 @@ impl Trial {
                 name_of(b"IMPROPER"),
                 name_of(b"WRAP"),
                 name_of(b"NAME"),
-                name_of(b"LARGE"),
             ],
         }
     }
@@ -137,9 +136,6 @@ fn last(name: FnName) -> Option<Gather>
     if b"NAME".as_slice() == name.as_bytes() {
         return Some(Gather::Text(b'}'));
     }
-    if b"LARGE".as_slice() == name.as_bytes() {
-        return Some(Gather::Nothing);
-    }
     None
 }
 
@@ -218,7 +214,6 @@ pub fn empty_list(alloc: Global) -> Answer
 }
 
 /// A list whose tail is a list, which is not proper.
-#[tactic(auto, using(lisp_object::proofs::Properness::proper_laws))]
 pub fn list_before_a_list(alloc: Global) -> Result<Answer, AllocError>
     ensures { IfOk result (λ a. answer_of a ≡ improper) }
 {
@@ -234,15 +229,4 @@ pub fn list_before_a_list(alloc: Global) -> Result<Answer, AllocError>
         items,
         tail: Some(Boxed::new(alloc, tail)?),
     }))
-}
-
-/// A vector of this many zeros.
-pub fn zeros(alloc: Global, count: usize) -> Result<Answer, AllocError>
-    ensures { IfOk result (λ a. answer_of a ≡ zeros count) }
-{
-    let mut items = Items::new(alloc);
-    for _ in 0..count {
-        items.push(Datum::Integer(0))?;
-    }
-    Ok(Answer::One(Datum::Vector(items)))
 }
