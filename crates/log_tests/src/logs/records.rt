@@ -53,8 +53,9 @@ fn half_of(alloc: Global, rows: &[(usize, u8)]) -> Result<Vec<u8>, AllocError> {
 fn are_given(alloc: Global, rows: &[(usize, u8)]) -> Result<bool, Fail> {
     let mut disk = MemoryDisk::new(alloc);
     disk.write_at(Half::A, 0, half_of(alloc, rows)?.as_slice())?;
-    let Ok(mut log) = Halves::open(alloc, disk, AMPLE) else {
-        return Ok(false);
+    let mut log = match Halves::open(alloc, disk, AMPLE) {
+        Ok(log) => log,
+        Err(error) => return Err(error.refusal.into()),
     };
     if !log.is_started() {
         return Ok(false);
