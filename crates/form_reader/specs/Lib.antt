@@ -10,5 +10,6 @@ pub mod Opening
 pub mod InPlace
 pub mod Changing
 pub mod Ending
+pub mod Starting
 pub mod Standing
 pub mod Reader

@@ -1,5 +1,5 @@
 -- A reader that takes a text one byte at a time: what it is after, and what it answers.
-use Rattle.std.specs.Prelude.{ℕ, ◌≡◌, ◌+◌, ◌≤◌, true, List, [], ◌∷◌, ◌++◌, length}
+use Rattle.std.specs.Prelude.{ℕ, ◌≡◌, ◌+◌, ◌≤◌, ◌<◌, true, false, List, [], ◌∷◌, ◌++◌, length, take, drop}
 use Rattle.lisp_object.specs.Object.{IsSound}
 use Rattle.lisp_object.specs.Datum.{object_of, is_proper}
 use Rattle.lisp_reading.specs.declared.limits.Limits.{Limits}
@@ -15,7 +15,7 @@ use Rattle.form_reader.specs.declared.ending.ReadOutcome.TheVariants.{Form as Re
 use Rattle.form_reader.specs.declared.change.Change.{Change}
 use Rattle.form_reader.specs.declared.change.Change.TheVariants.{Goes, Form as ChangeForm, Refused as ChangeRefused}
 use Rattle.lisp_reading.specs.Setting.{Setting}
-use Rattle.lisp_reading.specs.Reading.{Outcome, form, empty, refused, reads}
+use Rattle.lisp_reading.specs.Reading.{Outcome, form, empty, refused, is_whitespace, reads}
 use Rattle.form_reader.specs.Changing.{rest_of}
 
 -- the limits under which it reads
@@ -102,6 +102,32 @@ abbrev pub BeginsLater : FormReader → FormReader → Advance → Type 0
 BeginsLater old new AdvanceMore = (begun old ≤ begun new) × (begun new ≤ fed new)
 BeginsLater old new (AdvanceForm datum start «end» next) = (begun old ≤ start) × (begun new ≡ 0)
 BeginsLater old new (AdvanceRefused number offset) = begun new ≡ begun old
+
+-- this outcome, of a text that lies so many bytes further on
+abbrev pub further : ℕ → Outcome → Outcome
+further many (form x start «end» next) = form x (many + start) (many + «end») (many + next)
+further many empty = empty
+further many (refused number offset) = refused number (many + offset)
+
+-- What these bytes have open begins at this offset: what is before it is discarded text, and from there on the text is read,
+-- whatever follows, as it is alone. Its first byte is no whitespace, unless the limit of the text is 0.
+pub record BeginsAt (setting : Setting) (bytes : List ℕ) (from : ℕ) : Type 0 where
+  pub within : from ≤ length bytes
+  pub discarded : reads setting (take from bytes) ≡ empty
+  pub alone : (cs : List ℕ) → reads setting (bytes ++ cs) ≡ further from (reads setting (drop from bytes ++ cs))
+  pub first : (c : ℕ) (cs : List ℕ) → drop from bytes ≡ c ∷ cs → 0 < setting.limits.text → is_whitespace setting.table c ≡ false
+
+-- It goes on after these bytes, and what it has open began where it says; where that has no byte, it is between forms.
+pub record HasBegun (setting : Setting) (reader : FormReader) (bytes : List ℕ) : Type 0 where
+  pub goes_on : IsOpen reader
+  pub begins : BeginsAt setting bytes (begun reader)
+  pub between : begun reader ≡ fed reader → IsBetween reader
+
+-- where what is open after a step began, or what it refused; after a form the reader is new, whatever is handed to it then
+abbrev pub StepsBegun : Setting → FormReader → List ℕ → Advance → Type 0
+StepsBegun setting reader bytes AdvanceMore = HasBegun setting reader bytes
+StepsBegun setting reader bytes (AdvanceForm datum start «end» next) = (later : Setting) → HasBegun later reader []
+StepsBegun setting reader bytes (AdvanceRefused number offset) = BeginsAt setting bytes (begun reader)
 
 -- What is answered is the outcome, and the object of a form is sound.
 abbrev pub IsOutcome : ReadOutcome → Outcome → Type 0

@@ -7,13 +7,16 @@ ghost use Rattle.lisp_reading.specs.declared.limits.Limits.{Limits as Bounds};
 ghost use Rattle.lisp_reading.specs.Setting.{Setting};
 ghost use Rattle.form_reader.specs.Surrounding.{setting};
 ghost use Rattle.form_reader.specs.Delivering.{Passes};
+ghost use Rattle.form_reader.specs.declared.position.Position.TheVariants.{Object as AtObject};
 ghost use Rattle.form_reader.specs.Resuming.{Brings, position_gives};
 ghost use Rattle.form_reader.specs.Ready.{lookahead, IsReady, IsReadyPass};
 ghost use Rattle.form_reader.specs.Changing.{outcome_of, rest_of, Settles, ChangesTo, IsStanding, IsReadySettled, IsReadyChange, BeginsFrom, BeginsAnew};
+ghost use Rattle.form_reader.specs.Starting.{StartsAt, StartsWith, FollowsNothing, Starts};
 
 use crate::advance::advance;
 use crate::deliver::{Delivered, deliver};
 use crate::frame::Frames;
+use crate::in_place::is_discarded;
 use crate::macros::Moved;
 use crate::objects::{Passed, after_found, at_object, is_blank};
 use crate::position::{Event, Position};
@@ -111,6 +114,7 @@ fn done_after(found: Found, start: usize, at: usize) -> Change
         → IsReadyChange limits frames (start + at) result }
     ensures begins { BeginsFrom start result }
     ensures anew { BeginsAnew [] result }
+    ensures starts { StartsAt start result }
 {
     match found {
         Found::Nothing(_) => Change::Goes(start + at, 0, Position::Object),
@@ -139,12 +143,39 @@ fn change_of<R: MacroFunctions>(
     ensures ready { IfOk result (IsReadyChange with.now.limits frames.new (start + at)) }
     ensures begins { IfOk result (BeginsFrom start) }
     ensures anew { 0 < at → IfOk result (BeginsAnew frames.new) }
+    ensures starts { IfOk result (StartsAt start) }
 {
     match settle(with, frames, event, at)? {
         Settled::Open(position) => Ok(Change::Goes(start, at, position)),
         Settled::Done(found) => Ok(done_after(found, start, at)),
         Settled::Refused(code, offset) => Ok(Change::Refused(code, start + offset)),
     }
+}
+
+/// The byte `c`, with which an attempt begins at `start`, with no open call.
+#[inline(always)]
+fn first_change<R: MacroFunctions>(
+    with: &Surroundings<'_, R>,
+    frames: &mut Frames,
+    start: usize,
+    c: u8,
+) -> Result<Change, AllocError>
+    requires answers { R.answers with.now.macros.now }
+    requires none { frames.old ≡ [] }
+    requires count { start < 2 ^ 63 }
+    ensures turns { let setting = setting R.functions with.now in
+        (cs : List ℕ) → IfOk result (λ change. ChangesTo setting frames.new cs change
+        (rest_of setting [] AtObject start 0 (c ∷ cs))) }
+    ensures ready { IfOk result (IsReadyChange with.now.limits frames.new (start + 1)) }
+    ensures begins { IfOk result (BeginsFrom start) }
+    ensures anew { IfOk result (BeginsAnew frames.new) }
+    ensures starts { IfOk result (StartsWith (setting R.functions with.now) start c) }
+{
+    if is_discarded(with, frames, 0, c) {
+        return Ok(Change::Goes(start + 1, 0, Position::Object));
+    }
+    let event = at_object(with, frames, 0, c)?;
+    change_of(with, frames, event, start, 1)
 }
 
 /// What the attempt that began at `start` came to before the byte `c`, at the offset `at` in it, with no open call.
@@ -167,12 +198,11 @@ fn done_before<R: MacroFunctions>(
     ensures ready { IfOk result (IsReadyChange with.now.limits frames.new (start + at + 1)) }
     ensures begins { IfOk result (BeginsFrom start) }
     ensures anew { IfOk result (BeginsAnew frames.new) }
+    ensures starts { IfOk result (StartsWith (setting R.functions with.now) (start + at) c) }
+    ensures nothing { IfOk result (FollowsNothing found) }
 {
     match found {
-        Found::Nothing(_) => {
-            let event = at_object(with, frames, 0, c)?;
-            change_of(with, frames, event, start + at, 1)
-        }
+        Found::Nothing(_) => first_change(with, frames, start + at, c),
         Found::One(token, x) => {
             let end = start + at;
             if token && is_blank(with.readtable.syntax(c)) {
@@ -203,6 +233,7 @@ pub(crate) fn take_byte<R: MacroFunctions>(
     ensures ready { IfOk result (IsReadyChange with.now.limits frames.new (start + at + 1)) }
     ensures begins { IfOk result (BeginsFrom start) }
     ensures anew { IfOk result (BeginsAnew frames.new) }
+    ensures starts { IfOk result (Starts (setting R.functions with.now) frames.old position start at c) }
 {
     if let Position::Object = &position {
         let brought = at_object(with, frames, at, c)?;

@@ -141,7 +141,7 @@ fn discarded<R: MacroFunctions>(
 }
 
 /// Whether the byte `c` at `at`, where an object may begin, is whitespace that is discarded.
-fn is_discarded<R: MacroFunctions>(
+pub(crate) fn is_discarded<R: MacroFunctions>(
     with: &Surroundings<'_, R>,
     frames: &Frames,
     at: usize,

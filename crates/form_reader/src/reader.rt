@@ -69,7 +69,7 @@ impl FormReader {
     ghost use Rattle.form_reader.specs.declared.reader.Advance.TheVariants.{More as AdvanceMore, Refused as AdvanceRefused};
     ghost use Rattle.form_reader.specs.declared.ending.ReadOutcome.TheVariants.{Empty as ReadEmpty, Refused as ReadRefused};
     ghost use Rattle.form_reader.specs.Changing.{IsReadyChange};
-    ghost use Rattle.form_reader.specs.Reader.{limits_of, fed, begun, HasRefused, HasNoMemory, IsNew, IsBetween, LeavesBetween, IsAfter, IsOpen, Steps, Counts, BeginsLater, IsSoundStep, Becomes, IsOutcome};
+    ghost use Rattle.form_reader.specs.Reader.{limits_of, fed, begun, HasRefused, HasNoMemory, IsNew, IsBetween, LeavesBetween, IsAfter, IsOpen, Steps, Counts, BeginsLater, HasBegun, StepsBegun, IsSoundStep, Becomes, IsOutcome};
 
     /// A reader that was fed nothing, between forms. It keeps `alloc` for what it gathers.
     pub fn new(alloc: Global, limits: Limits) -> FormReader
@@ -78,6 +78,7 @@ impl FormReader {
         ensures begun { begun result ≡ 0 }
         ensures after { (setting : Setting) → IsAfter setting result [] }
         ensures between { IsBetween result }
+        ensures has_begun { (setting : Setting) → HasBegun setting result [] }
     {
         FormReader {
             limits,
@@ -143,6 +144,16 @@ impl FormReader {
         ensures between_forms { IfOk result (LeavesBetween self.new) }
         ensures nothing_open { result ≡ Ok AdvanceMore
             → begun self.new ≡ fed self.new → IsBetween self.new }
+        ensures has_begun { (bytes : List ℕ) → IsAfter
+            (setting_of (limits_of self.old) readtable.now base packages.now.0 current.now
+            (R.functions macros.now))
+            self.old bytes → HasBegun
+            (setting_of (limits_of self.old) readtable.now base packages.now.0 current.now
+            (R.functions macros.now))
+            self.old bytes → IfOk result (StepsBegun
+            (setting_of (limits_of self.old) readtable.now base packages.now.0 current.now
+            (R.functions macros.now))
+            self.new (bytes ++ byte ∷ [])) }
     {
         let with = Surroundings {
             alloc: self.alloc,
@@ -195,6 +206,8 @@ impl FormReader {
         requires limits { with.now.limits ≡ limits_of self.old }
         requires count { fed self.old < 2 ^ 63 }
         requires open { IsOpen self.old }
+        requires other { IsBetween self.old → 0 < with.now.limits.text
+            → is_whitespace with.now.readtable.now byte ≡ false }
         ensures steps { let setting = setting R.functions with.now in
             (bytes : List ℕ) → IsAfter setting self.old bytes → IfOk result (Steps setting self.new (bytes ++ byte ∷ [])) }
         ensures limits { limits_of self.new ≡ limits_of self.old }
@@ -206,6 +219,9 @@ impl FormReader {
         ensures between_forms { IfOk result (LeavesBetween self.new) }
         ensures nothing_open { result ≡ Ok AdvanceMore
             → begun self.new ≡ fed self.new → IsBetween self.new }
+        ensures has_begun { let setting = setting R.functions with.now in
+            (bytes : List ℕ) → IsAfter setting self.old bytes → HasBegun setting self.old bytes
+            → IfOk result (StepsBegun setting self.new (bytes ++ byte ∷ [])) }
     {
         // Until the byte has come to something: where that fails, the reader answers the same again.
         match mem::replace(&mut self.state, ReaderState::OutOfMemory) {
