@@ -20,6 +20,8 @@ pub mod Endings
 pub mod ReaderSteps
 pub mod Standings
 pub mod Between
+pub mod Ended
+pub mod Begun
 pub mod PlanEnds
 pub mod TextEnds
 pub mod Deciding

@@ -5,6 +5,7 @@ use Rattle.form_reader.specs.Surrounding.{setting}
 use Rattle.form_reader.specs.Reader.{IsAfterIn}
 use Rattle.form_reader.proofs.Between.{leaves_between, anew_between}
 use Rattle.form_reader.proofs.ReaderSteps.{stepped}
+use Rattle.form_reader.proofs.Begun.{stepped_begun}
 use Rattle.form_reader.proofs.reader.FormReader.leave.Goals as goal
 
 pub returns-clause-steps : goal.returns-clause-steps
@@ -23,3 +24,12 @@ pub returns-clause-nothing_open : goal.returns-clause-nothing_open
 returns-clause-nothing_open g c = λ e here.
     let more : c.take.result ≡ AdvanceMore = cc in
     anew_between _ c.take.new.self c.take_byte.new.frames c.in_ok-next-in-Open.next c.take.result c.in_ok-next-in-Open.ensures.anew c.take.ensures.takes refl more here
+
+pub returns-clause-has_begun : goal.returns-clause-has_begun
+returns-clause-has_begun g c = λ bytes after has.
+    let setting = setting g.R.MacroFunctions.functions c.args.with.now in
+    let here : IsAfterIn setting c.args.self.now (Open c.in-Open.position) bytes = subst (λ (s : ReaderState). IsAfterIn setting c.args.self.now s bytes) (sym c.replace.ensures.value ∙ c.in-Open.is) after in
+    stepped_begun setting c.args.self.now c.in-Open.position bytes c.args.byte here has _ c.take.new.self c.take_byte.new.frames c.in_ok-next-in-Open.next c.take.result
+    c.requires.other c.in_ok-next-in-Open.ensures.starts c.in_ok-next-in-Open.ensures.anew c.take.ensures.takes refl refl
+    (stepped setting c.args.self.now _ c.take.new.self c.in-Open.position bytes c.args.byte c.take_byte.new.frames c.in_ok-next-in-Open.next c.take.result
+    here c.in_ok-next-in-Open.ensures.turns c.in_ok-next-in-Open.ensures.ready c.take.ensures.takes refl)

@@ -7,6 +7,7 @@ use Rattle.lisp_reading.specs.Setting.{setting_of}
 use Rattle.form_reader.specs.Reader.{IsAfterIn}
 use Rattle.form_reader.proofs.ReaderSteps.{went_on, went_past, gave_up, taken_there, passed_there, left_there, refused_there, ready_there, ready_past}
 use Rattle.form_reader.proofs.Standings.{standing_of}
+use Rattle.form_reader.proofs.Begun.{between_begun, other_there, stays_begun, went_begun}
 use Rattle.form_reader.proofs.reader.FormReader.step.Goals as goal
 
 pub returns-in-Ok-GoesOn-clause-steps : goal.returns-in-Ok-GoesOn-clause-steps
@@ -55,3 +56,51 @@ returns-in-Ok-Left-clause-steps g c = λ bytes after.
     (g.R.MacroFunctions.functions c.args.macros.now) in
     let stays = left_there setting c.args.self.now.frames c.args.self.now.start c.args.self.now.at c.args.byte c.in-Open.position c.in_place.new.position c.in-Ok-Left.field-0 [] c.in-Ok-Left.field-0-is (c.in-Ok-Left.ensures.feeds []) in
     c.leave.ensures.steps bytes (subst (λ (s : ReaderState). IsAfterIn setting c.args.self.now s bytes) (c.in-Open.is ∙ ap Open (sym stays)) after)
+
+-- ---- where what is open began
+
+pub returns-in-Ok-GoesOn-clause-has_begun : goal.returns-in-Ok-GoesOn-clause-has_begun
+returns-in-Ok-GoesOn-clause-has_begun g c = λ bytes after has.
+    let setting = setting_of c.args.self.now.limits c.args.readtable.now c.args.base c.args.packages.now.0 c.args.current.now
+    (g.R.MacroFunctions.functions c.args.macros.now) in
+    went_begun setting c.args.self.now c.in-Open.position bytes c.args.byte (subst (λ (s : ReaderState). IsAfterIn setting c.args.self.now s bytes) c.in-Open.is after) has _
+    (other_there setting c.args.self.now c.in-Open.position c.args.byte c.in_place.result c.in-Open.is (λ none space. (c.in_place.ensures.passed none space).0) (λ e. cc)) refl (omega arith) (c.in_place.new.position, refl)
+
+pub returns-in-Ok-Passed-clause-has_begun : goal.returns-in-Ok-Passed-clause-has_begun
+returns-in-Ok-Passed-clause-has_begun g c = λ bytes after has.
+    let anew = c.in_place.ensures.anew cc in
+    between_begun _ _ _ (returns-in-Ok-Passed-clause-steps g c bytes after).0 (record { at = refl; frames = anew.0; state = ap Open anew.1 })
+
+pub returns-in-Ok-Refused-clause-has_begun : goal.returns-in-Ok-Refused-clause-has_begun
+returns-in-Ok-Refused-clause-has_begun g c = λ bytes after has.
+    let setting = setting_of c.args.self.now.limits c.args.readtable.now c.args.base c.args.packages.now.0 c.args.current.now
+    (g.R.MacroFunctions.functions c.args.macros.now) in
+    stays_begun setting c.args.self.now c.in-Open.position bytes c.args.byte (subst (λ (s : ReaderState). IsAfterIn setting c.args.self.now s bytes) c.in-Open.is after) has
+    (other_there setting c.args.self.now c.in-Open.position c.args.byte c.in_place.result c.in-Open.is (λ none space. (c.in_place.ensures.passed none space).0) (λ e. cc))
+
+pub leave-requires-clause-other : goal.leave-requires-clause-other
+leave-requires-clause-other g c = λ between.
+    let setting = setting_of c.args.self.now.limits c.args.readtable.now c.args.base c.args.packages.now.0 c.args.current.now
+    (g.R.MacroFunctions.functions c.args.macros.now) in
+    let stays = left_there setting c.args.self.now.frames c.args.self.now.start c.args.self.now.at c.args.byte c.in-Open.position c.in_place.new.position c.in-Ok-Left.field-0 [] c.in-Ok-Left.field-0-is (c.in-Ok-Left.ensures.feeds []) in
+    (other_there setting c.args.self.now c.in-Open.position c.args.byte c.in_place.result c.in-Open.is (λ none space. (c.in_place.ensures.passed none space).0) (λ e. cc))
+    (record { at = between.at; frames = between.frames; state = c.in-Open.is ∙ ap Open (sym stays) ∙ between.state })
+
+pub returns-in-Ok-Left-clause-has_begun : goal.returns-in-Ok-Left-clause-has_begun
+returns-in-Ok-Left-clause-has_begun g c = λ bytes after has.
+    let setting = setting_of c.args.self.now.limits c.args.readtable.now c.args.base c.args.packages.now.0 c.args.current.now
+    (g.R.MacroFunctions.functions c.args.macros.now) in
+    let stays = left_there setting c.args.self.now.frames c.args.self.now.start c.args.self.now.at c.args.byte c.in-Open.position c.in_place.new.position c.in-Ok-Left.field-0 [] c.in-Ok-Left.field-0-is (c.in-Ok-Left.ensures.feeds []) in
+    c.leave.ensures.has_begun bytes (subst (λ (s : ReaderState). IsAfterIn setting c.args.self.now s bytes) (c.in-Open.is ∙ ap Open (sym stays)) after)
+    (record {
+      goes_on = (c.in_place.new.position, refl);
+      begins = has.begins;
+      between = λ e.
+          let b = has.between e in
+          record { at = b.at; frames = b.frames; state = ap Open stays ∙ sym c.in-Open.is ∙ b.state };
+    })
+
+pub returns-in-Refused-clause-has_begun : goal.returns-in-Refused-clause-has_begun
+returns-in-Refused-clause-has_begun g c = λ bytes after has.
+    let never = sym has.goes_on.1 ∙ c.in-Refused.is in
+    absurd (cc)
