@@ -120,7 +120,7 @@ cut_there limit at front (Ok (ms, next, rest)) last there marks ds e = by (nat_l
 
     by : (b : Bool) → nat_le next limit ≡ b → read b next (map (λ (x : TypedByte). x.byte) rest) ≡ Ok (marks, at, ds) → cut limit (with_front front last) ≡ Ok (marks, at, [])
     by true is e =
-        let whole : (front ++ ms, next, map (λ (x : TypedByte). x.byte) rest) ≡ (marks, at, ds) = cc in
+        let whole : ◌≡◌ {A = List Mark × ℕ × List ℕ} (front ++ ms, next, map (λ (x : TypedByte). x.byte) rest) (marks, at, ds) = cc in
         let same : next ≡ at = ap (λ (p : List Mark × ℕ × List ℕ). p.1) whole in
         let marks_are : front ++ ms ≡ marks = ap (λ (p : List Mark × ℕ × List ℕ). p.0) whole in
         ap (λ (r : Scanned). cut limit (with_front front r)) (there same) ∙ ap (λ b. read b at []) (ap (λ n. nat_le n limit) (sym same) ∙ is) ∙ ap (λ m. Ok (m, at, [])) marks_are
@@ -140,7 +140,7 @@ cut_forwards limit at (Ok (ms, n, rest)) le marks next ds e = by (nat_le n limit
   where
     by : (b : Bool) → ◌≡◌ {A = Read (List Mark)} (elim b [ true ↦ Ok (ms, n, map (λ (x : TypedByte). x.byte) rest) | false ↦ Err (record { number = FORM_TOO_LONG; at = limit }) ]) (Ok (marks, next, ds)) → at ≤ next
     by true e =
-        let whole : (ms, n, map (λ (x : TypedByte). x.byte) rest) ≡ (marks, next, ds) = cc in
+        let whole : ◌≡◌ {A = List Mark × ℕ × List ℕ} (ms, n, map (λ (x : TypedByte). x.byte) rest) (marks, next, ds) = cc in
         let same : n ≡ next = ap (λ (p : List Mark × ℕ × List ℕ). p.1) whole in
         omega (arith, le, same)
     by false e = cc

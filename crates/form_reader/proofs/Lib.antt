@@ -21,6 +21,7 @@ pub mod ReaderSteps
 pub mod Standings
 pub mod Between
 pub mod Ended
+pub mod Startings
 pub mod Begun
 pub mod PlanEnds
 pub mod TextEnds

@@ -1,5 +1,6 @@
 use Rattle.std.proofs.Common.{◌≡◌, [], sym, subst, ◌∙◌, refl}
 use Rattle.form_reader.specs.declared.reader.ReaderState.{ReaderState}
+use Rattle.form_reader.specs.declared.reader.ReaderState.TheVariants.{Open}
 use Rattle.form_reader.specs.declared.reader.Advance.TheVariants.{More as AdvanceMore}
 use Rattle.form_reader.specs.Surrounding.{setting}
 use Rattle.form_reader.specs.Reader.{IsAfterIn}
