@@ -63,9 +63,9 @@ module _ (setting : Setting) where
   in_further (suc n) start text =
       turn_further (λ next cs. reads_in setting n next cs) start (run setting.table setting.limits (attempt setting setting.limits.nesting) 0 text)
       (λ at cs.
-        let sum : start + at ≡ start + (0 + at) = omega arith in
-        in_further n (start + at) cs ∙ ap (λ k. further k (reads_in setting n 0 cs)) sum ∙ sym (further_twice start (0 + at) (reads_in setting n 0 cs))
-        ∙ ap (further start) (sym (in_further n (0 + at) cs)))
+      let sum : start + at ≡ start + (0 + at) = omega arith in
+      in_further n (start + at) cs ∙ ap (λ k. further k (reads_in setting n 0 cs)) sum ∙ sym (further_twice start (0 + at) (reads_in setting n 0 cs))
+      ∙ ap (further start) (sym (in_further n (0 + at) cs)))
 
   reads_further : (start : ℕ) (text : List ℕ) → reads_at setting start text ≡ further start (reads setting text)
   unfolding reads
@@ -75,7 +75,7 @@ module _ (setting : Setting) where
   unfolding reads
   reads_none = reads_is setting 0 [] ∙ ap (outcome setting.table 0 (λ next cs. reads_at setting next cs)) (the_end_there setting)
 
--- ---- where what these bytes have open begins
+  -- ---- where what these bytes have open begins
 
   -- nothing is open
   ends_begins : (bytes : List ℕ) → reads setting bytes ≡ empty → ((cs : List ℕ) → reads setting (bytes ++ cs) ≡ reads_at setting (length bytes) cs)
@@ -203,8 +203,8 @@ module _ (setting : Setting) (old : FormReader) (position : Position) (bytes : L
   stays_begun other =
       begins_more setting bytes (byte ∷ []) (begun old) has.begins
       (λ c cs here is some.
-        let same : byte ≡ c = cc in
-        ap (is_whitespace setting.table) (sym same) ∙ other (has.between (omega (arith, after.0, here))) some)
+      let same : byte ≡ c = cc in
+      ap (is_whitespace setting.table) (sym same) ∙ other (has.between (omega (arith, after.0, here))) some)
 
   -- it came to nothing before the byte
   ended_begins : EndsBefore setting old.frames position old.at byte → BeginsAt setting (bytes ++ byte ∷ []) (old.start + old.at)

@@ -79,7 +79,7 @@ module _ (x : TypedByte) (left at : ℕ) where
   outside_there Invalid e = rw (outside_invalid x [] left at e) tt
 
   between_there : IsTrue (is_plain (kind x) || ends_tokens (kind x)) → EndsThere at (inside left at (x ∷ [])) (inside left at [])
-  between_there is = 
+  between_there is =
       rw (inside_between x [] left at is)
       (chosen_there (left == 0) at _ _ (inside left at []) tt (after_inside at (inside left at []) (Quoted x.byte ∷ []) (left - 1)))
 
