@@ -1,5 +1,5 @@
 -- Reading a whole text, whose bytes are fed at once.
-use Rattle.std.proofs.Common.{◌≡◌, ℕ, ◌≤◌, true, false, List, [], ◌∷◌, ◌++◌, length, take, drop, Result, Ok, IfOk, refl, sym, ap, subst, ◌∙◌, take_all, arith}
+use Rattle.std.proofs.Common.{◌≡◌, ℕ, true, false, List, [], ◌∷◌, length, take, drop, Result, Ok, IfOk, refl, sym, ap, subst, ◌∙◌, take_all, arith}
 use Rattle.std.proofs.lemmas.List.{take-append-drop}
 use Rattle.std.specs.declared.alloc.AllocError.{AllocError}
 use Rattle.lisp_object.specs.declared.datum.Datum.{Datum}
