@@ -12,3 +12,4 @@ pub mod SoundForms
 pub mod NumberedForms
 pub mod KeepingForms
 pub mod WithoutBase
+pub mod Effects

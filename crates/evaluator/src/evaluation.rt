@@ -9,6 +9,8 @@ ghost use Rattle.evaluator.specs.Gathered.{all_done, arguments_in, Evaluates, Op
 ghost use Rattle.evaluator.specs.Operations.{IsCounted, is_ordinary};
 ghost use Rattle.evaluator.specs.Gathered.{followed, subforms, gathered};
 
+pub mod effects;
+
 use crate::control::{after, itself, quoted, symbol_value};
 use crate::operation::{Operation, operation_of};
 use crate::perform::perform;

@@ -5,7 +5,8 @@
 //! `World` exactly what the definition says. Where the form is refused, or memory runs out, what was carried out before stays,
 //! and no clause says more of the world then but that its marks are as they were: the crate `form_eval` takes it back.
 //!
-//! - `evaluation`: the value of a form, by recursion on it
+//! - `evaluation`: the value of a form, by recursion on it; `evaluation::effects`: what a form does, where its value is not asked
+//!   for (`apply`)
 //! - `operation`: what is at its head; `place`: the places of SETF, INCF and PUSH; `control`: the operators of control, and
 //!   atoms; `perform`: what an operator makes of the values of its arguments; `values`: these values
 #![tactic(auto)]
@@ -18,4 +19,5 @@ mod perform;
 mod place;
 mod values;
 
+pub use evaluation::effects::apply;
 pub use evaluation::evaluate;

@@ -4,14 +4,16 @@
 //! crate `evaluator`). `laws` proves what holds of every form. The function `accept` does with a `World` exactly what the
 //! definition says, and leaves the world as it was where a form is refused.
 //!
-//! - `transaction`: `accept`
+//! - `transaction`: `accept`; `application`: `apply`, which does the same and gives no value
 //! - `symbols`: the symbols of a datum; `interning`: they are interned in their homes
 #![tactic(auto)]
 
+mod application;
 mod interning;
 pub mod laws;
 mod symbols;
 mod transaction;
 
+pub use application::apply;
 pub use lisp_operators::{Evaluated, EvaluationError};
 pub use transaction::accept;

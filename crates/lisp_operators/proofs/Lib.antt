@@ -23,3 +23,4 @@ pub mod Keeping
 pub mod KeepingOperators
 pub mod Covering
 pub mod SameBase
+pub mod Pushes

@@ -7,3 +7,4 @@ pub mod Properties
 pub mod Packages
 pub mod Readtables
 pub mod ReadBase
+pub mod Effects

@@ -5,7 +5,8 @@
 //! of specs/Evaluated.antt). After a refusal or out of memory the world may have changed, but for its marks. Which form is a call
 //! of which operator, the crate `evaluator` says.
 //!
-//! - `properties`, `packages`, `package_lists`, `readtables`, `read_base`: the operators of each family
+//! - `properties`, `packages`, `package_lists`, `readtables`, `read_base`: the operators of each family; `effects`: SETF and PUSH
+//!   of a property, where their values are not asked for
 //! - `error`, `evaluated`: what an operator gives, `EvaluationError` and `Evaluated`
 //! - `arguments`, `owned_arguments`, `kinds`, `lists`, `values`: so many arguments, what each stands for, lists of them, and
 //!   values that are built; `changes`: changes of the packages, one after the other
@@ -13,6 +14,7 @@
 
 mod arguments;
 mod changes;
+pub mod effects;
 mod error;
 mod evaluated;
 pub mod kinds;
@@ -23,6 +25,7 @@ pub mod packages;
 pub mod properties;
 pub mod read_base;
 pub mod readtables;
+mod sizes;
 pub mod values;
 
 pub use error::EvaluationError;

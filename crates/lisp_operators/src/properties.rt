@@ -38,8 +38,11 @@ fn symbol(datum: Datum) -> Result<Symbol, EvaluationError>
     }
 }
 
-// The symbol and the indicator of a property.
-fn property_key(key: Datum, indicator: Datum) -> Result<(Symbol, Symbol), EvaluationError>
+/// The symbol and the indicator of a property.
+pub(crate) fn property_key(
+    key: Datum,
+    indicator: Datum,
+) -> Result<(Symbol, Symbol), EvaluationError>
     requires symbol { IsProper key }
     requires indicator { IsProper indicator }
     ensures { IsPropertyKey result (a_symbol (object_of key)) (a_symbol (object_of indicator)) }
@@ -200,8 +203,8 @@ pub fn increment(
     })
 }
 
-// The pair of a value and a property, or NIL where there is none.
-fn pushed(alloc: Global, value: &Datum, old: Option<&Datum>) -> Result<Datum, AllocError>
+/// The pair of a value and a property, or NIL where there is none.
+pub(crate) fn pushed(alloc: Global, value: &Datum, old: Option<&Datum>) -> Result<Datum, AllocError>
     requires value { IsProper value.now }
     requires old { IfSome old (λ d. is_proper d.now ≡ true) }
     ensures value { IfOk result (λ d. object_of d

@@ -1,14 +1,16 @@
 //! Values that the operators build.
-ghost use Rattle.std.specs.Prelude.{◌≡◌, true, nat_lt, IfOk};
+ghost use Rattle.std.specs.Prelude.{◌≡◌, ◌≤◌, true, nat_lt, Some, IfOk};
 ghost use Rattle.std.specs.List.{list_all};
-ghost use Rattle.lisp_object.specs.Object.{Object, nil, object_depth, object_size};
+ghost use Rattle.lisp_object.specs.Object.{Object, nil, pair, object_depth, object_size};
 ghost use Rattle.lisp_object.specs.Datum.{object_of, is_proper};
 ghost use Rattle.package_table.specs.Table.{keyword};
 ghost use Rattle.plist_state.specs.State.{WorldState};
+ghost use Rattle.plist_state.specs.Pushed.{holds_pair};
 ghost use Rattle.lisp_operators.specs.Properties.{t, list};
 ghost use Rattle.lisp_operators.specs.Evaluated.{Answers, done, IsProper, IsProperValue, IsAscii, objects};
 
 use crate::EvaluationError::Refused;
+use crate::sizes::size_of;
 use crate::{Evaluated, EvaluationError};
 use lisp_object::refusal::{LIMIT, VALUE_TOO_DEEP};
 use lisp_object::{Bytes, Datum, Items};
@@ -17,6 +19,9 @@ use std::alloc::{AllocError, Global};
 
 // The most levels of a value that is built.
 const MOST_LEVELS: u64 = 100;
+
+// The most levels of an item of a list that is built.
+const MOST_LEVELS_WITHIN: u64 = 99;
 
 // The largest size of a value that is built.
 const LARGEST_SIZE: u64 = 1_000_000;
@@ -80,6 +85,27 @@ pub(crate) fn is_too_large(value: &Datum) -> bool
     ensures { result ≡ nat_lt 1000000 (object_size (object_of value.now)) }
 {
     value.size() > LARGEST_SIZE
+}
+
+/// Whether a list with an item more in front has more levels than one that is built may have. The list itself has not.
+#[tactic(auto, using(crate::proofs::Pushes::before_depth))]
+pub(crate) fn is_too_deep_before(first: &Datum) -> bool
+    requires { IsProper first.now }
+    ensures { (list : Object) → holds_pair (Some list) ≡ true → object_depth list ≤ 100
+        → result ≡ nat_lt 100 (object_depth (pair (object_of first.now) list)) }
+{
+    first.depth() > MOST_LEVELS_WITHIN
+}
+
+/// Whether a list with an item more in front is larger than one that is built may be.
+#[tactic(auto, using(crate::proofs::Pushes::before_size))]
+pub(crate) fn is_too_large_before(first: &Datum, list: &Datum) -> bool
+    requires first { IsProper first.now }
+    requires list { IsProper list.now }
+    requires pair { holds_pair (Some (object_of list.now)) ≡ true }
+    ensures { result ≡ nat_lt 1000000 (object_size (pair (object_of first.now) (object_of list.now))) }
+{
+    size_of(first).saturating_add(size_of(list)) > LARGEST_SIZE
 }
 
 /// LIST: the list of these values.

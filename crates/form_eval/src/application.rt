@@ -1,0 +1,71 @@
+//! A form as one transaction, where its value is not asked for.
+ghost use Rattle.std.specs.Prelude.{◌≡◌, ◌∷◌, ◌++◌, [], IfOk, IfErr};
+ghost use Rattle.lisp_object.specs.Datum.{object_of};
+ghost use Rattle.form_eval.specs.Acceptance.{accept};
+ghost use Rattle.lisp_operators.specs.Evaluated.{IsProper};
+ghost use Rattle.lisp_operators.specs.Effects.{Leaves};
+ghost use Rattle.lisp_operators.specs.Readtables.{AreFunctionNames};
+ghost use Rattle.form_eval.specs.Laws.{IsForm};
+
+use crate::transaction::{are_names, intern_symbols};
+use lisp_object::Datum;
+use lisp_operators::{EvaluationError, either};
+use plist_state::World;
+use readtable_core::FnName;
+use std::alloc::Global;
+use user_macros::Meaning;
+
+/// Does what `accept` does, where the value is not asked for. Gives whether anything in the world was written. Asks for what
+/// `accept` asks for; SETF and PUSH of a property copy nothing of what they store.
+///
+/// # Errors
+/// Those of `accept`. The world is then as it was, its marks too.
+pub fn apply<M: Meaning>(
+    alloc: Global,
+    world: &mut World,
+    macros: &M,
+    form: &Datum,
+) -> Result<bool, EvaluationError>
+    requires proper { IsProper form.now }
+    requires form { IsForm world.old.0.packages (object_of form.now) }
+    ensures gives { Leaves result world.new.0
+        (accept M.functions.names world.old.0 (object_of form.now)) }
+    ensures marked { IfOk result (λ _. world.new.1 ≡ world.old.1 ++ world.old.0 ∷ []) }
+    ensures unchanged { IfErr result (λ _. world.new ≡ world.old) }
+{
+    let names = macros.names();
+    are_names(names);
+    let mark = world.mark()?;
+    match run(alloc, world, names, form) {
+        Ok(wrote) => Ok(wrote),
+        Err(error) => {
+            world.back_to(mark);
+            Err(error)
+        }
+    }
+}
+
+// Interns the symbols of a form, and does what it says. Where it is refused, or memory runs out, the world is as that left it.
+fn run(
+    alloc: Global,
+    world: &mut World,
+    names: &[FnName],
+    form: &Datum,
+) -> Result<bool, EvaluationError>
+    requires names { AreFunctionNames names.now }
+    requires proper { IsProper form.now }
+    requires form { IsForm world.old.0.packages (object_of form.now) }
+    ensures gives { Leaves result world.new.0
+        (accept names.now world.old.0 (object_of form.now)) }
+    ensures marked { world.new.1 ≡ world.old.1 }
+{
+    world.soundness();
+    let interned = match intern_symbols(alloc, world, form) {
+        Ok(interned) => interned,
+        Err(error) => return Err(EvaluationError::from(error)),
+    };
+    match evaluator::apply(alloc, world, names, form) {
+        Ok(wrote) => Ok(either(interned, wrote)),
+        Err(error) => Err(error),
+    }
+}

@@ -1,0 +1,74 @@
+-- PUSH before a list that is moved.
+--     before_depth, before_size      how deep and how large a list is with a value more in front
+--     list_within      how deep a property is
+--     pair_held      a property that is a pair
+--     too_deep, too_large, built_up      what comes of a value that is built
+use Rattle.std.proofs.Common.{◌≡◌, ◌≤◌, ◌+◌, ◌-◌, ◌^◌, ℕ, true, false, max, min, nat_lt, unwrap_or, cond, Some, Err, refl, sym, ap, subst, ◌∙◌, arith}
+use Rattle.std.proofs.lemmas.Bool.{false≢true}
+use Rattle.std.proofs.lemmas.Bool.Decides.{nat_tests}
+use Rattle.lisp_object.specs.Object.{Object, integer, rational, character, text, symbol, uninterned, pair, vector, nil, object_depth, object_size, depth_along, size_along}
+use Rattle.plist_state.specs.Properties.{Symbol}
+use Rattle.plist_state.specs.State.{WorldState}
+use Rattle.plist_state.specs.Changes.{property}
+use Rattle.plist_state.specs.Sound.{IsSound}
+use Rattle.plist_state.specs.Pushed.{holds_pair}
+use Rattle.lisp_object.specs.declared.refusal.TheConstants.{VALUE_TOO_DEEP, LIMIT}
+use Rattle.lisp_operators.specs.Kinds.{is_pair}
+use Rattle.lisp_operators.specs.Evaluation.{Evaluation}
+use Rattle.lisp_operators.specs.Properties.{built}
+use Rattle.lisp_operators.proofs.SoundProperties.{property_value}
+use Rattle.lisp_operators.proofs.Storable.{nil_value}
+
+one_deeper : (x y : ℕ) → y + 1 ≤ 100 → nat_lt 99 (min x (2 ^ 64 - 1)) ≡ nat_lt 100 (max x y + 1)
+one_deeper x y within = grind (arith, nat_tests, within)
+
+pub before_depth : (a list : Object) → holds_pair (Some list) ≡ true → object_depth list ≤ 100 → nat_lt 99 (min (object_depth a) (2 ^ 64 - 1)) ≡ nat_lt 100 (object_depth (pair a list))
+before_depth a (pair b c) some within = one_deeper (object_depth a) (max (object_depth b) (depth_along c)) within
+before_depth a (integer n) some within = absurd (false≢true some)
+before_depth a (rational n d) some within = absurd (false≢true some)
+before_depth a (character c) some within = absurd (false≢true some)
+before_depth a (text b) some within = absurd (false≢true some)
+before_depth a (symbol h n) some within = absurd (false≢true some)
+before_depth a (uninterned n) some within = absurd (false≢true some)
+before_depth a (vector xs) some within = absurd (false≢true some)
+
+together : (x y z : ℕ) → nat_lt 1000000 (min (min x (2 ^ 64 - 1) + min (y + z + 1) (2 ^ 64 - 1)) (2 ^ 64 - 1)) ≡ nat_lt 1000000 (x + (y + z) + 1)
+together x y z = grind (arith, nat_tests)
+
+pub before_size : (a list : Object) → holds_pair (Some list) ≡ true
+    → nat_lt 1000000 (min (min (object_size a) (2 ^ 64 - 1) + min (object_size list) (2 ^ 64 - 1)) (2 ^ 64 - 1)) ≡ nat_lt 1000000 (object_size (pair a list))
+before_size a (pair b c) some = together (object_size a) (object_size b) (size_along c)
+before_size a (integer n) some = absurd (false≢true some)
+before_size a (rational n d) some = absurd (false≢true some)
+before_size a (character c) some = absurd (false≢true some)
+before_size a (text b) some = absurd (false≢true some)
+before_size a (symbol h n) some = absurd (false≢true some)
+before_size a (uninterned n) some = absurd (false≢true some)
+before_size a (vector xs) some = absurd (false≢true some)
+
+-- the property of a sound state is within the depth of what may be stored
+pub list_within : (s : WorldState) (x i : Symbol) (list : Object) → IsSound s → Some list ≡ property s x i → object_depth list ≤ 100
+list_within s x i list sound is =
+    subst (λ o. object_depth (unwrap_or o nil) ≤ 100) (sym is) ((property_value s x i nil sound (nil_value s.packages sound.packages)).depth)
+
+pub pair_held : (x : Object) → holds_pair (Some x) ≡ is_pair x
+pair_held (integer n) = refl
+pair_held (rational n d) = refl
+pair_held (character c) = refl
+pair_held (text b) = refl
+pair_held (symbol h n) = refl
+pair_held (uninterned n) = refl
+pair_held (pair a b) = refl
+pair_held (vector xs) = refl
+
+module _ (x : Object) (on : Evaluation Object) where
+  pub too_deep : nat_lt 100 (object_depth x) ≡ true → built x on ≡ Err VALUE_TOO_DEEP
+  too_deep deep = ap (λ b. cond b (Err VALUE_TOO_DEEP) (cond (nat_lt 1000000 (object_size x)) (Err LIMIT) on)) deep
+
+  pub too_large : nat_lt 100 (object_depth x) ≡ false → nat_lt 1000000 (object_size x) ≡ true → built x on ≡ Err LIMIT
+  too_large shallow large =
+      ap (λ b. cond b (Err VALUE_TOO_DEEP) (cond (nat_lt 1000000 (object_size x)) (Err LIMIT) on)) shallow ∙ ap (λ b. cond b (Err LIMIT) on) large
+
+  pub built_up : nat_lt 100 (object_depth x) ≡ false → nat_lt 1000000 (object_size x) ≡ false → built x on ≡ on
+  built_up shallow small =
+      ap (λ b. cond b (Err VALUE_TOO_DEEP) (cond (nat_lt 1000000 (object_size x)) (Err LIMIT) on)) shallow ∙ ap (λ b. cond b (Err LIMIT) on) small

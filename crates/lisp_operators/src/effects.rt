@@ -1,0 +1,118 @@
+//! SETF and PUSH of a property, where the value that they give is not asked for. What is stored is not copied.
+ghost use Rattle.std.specs.Prelude.{◌≡◌, true, IfErr};
+ghost use Rattle.lisp_object.specs.Datum.{object_of};
+ghost use Rattle.plist_state.specs.Changes.{property};
+ghost use Rattle.plist_state.specs.Pushed.{holds_pair};
+ghost use Rattle.plist_state.specs.Shown.{symbol_of};
+ghost use Rattle.plist_state.specs.Sound.{IsSymbol};
+ghost use Rattle.lisp_operators.specs.Properties.{set, push};
+ghost use Rattle.lisp_operators.specs.Effects.{Leaves, pushes};
+ghost use Rattle.lisp_operators.specs.Evaluated.{AreArgumentsOf, IsArgument, objects};
+
+use crate::EvaluationError::Refused;
+use crate::owned_arguments::three;
+use crate::properties::{property_key, pushed};
+use crate::{EvaluationError, kinds, values};
+use lisp_object::Datum;
+use lisp_object::refusal::{LIMIT, VALUE_TOO_DEEP};
+use plist_state::{Symbol, World};
+use std::alloc::Global;
+
+/// SETF of a property. Gives whether anything was written.
+pub fn set(world: &mut World, values: Vec<Datum>) -> Result<bool, EvaluationError>
+    requires { AreArgumentsOf world.old values.items }
+    ensures gives { Leaves result world.new.0 (set (objects values.items) world.old.0) }
+    ensures unchanged { IfErr result (λ _. world.new ≡ world.old) }
+    ensures marked { world.new.1 ≡ world.old.1 }
+{
+    let (symbol, indicator, value) = three(values)?;
+    let (symbol, indicator) = property_key(symbol, indicator)?;
+    world.put(&symbol, indicator, value)?;
+    Ok(true)
+}
+
+// Whether a property is a list with an item.
+fn has_list(world: &World, symbol: &Symbol, indicator: &Symbol) -> bool
+    ensures { result ≡ holds_pair (property world.now.0 (symbol_of symbol.now) (symbol_of indicator.now)) }
+{
+    match world.get(symbol, indicator) {
+        Some(value) => kinds::is_pair(value),
+        None => false,
+    }
+}
+
+// PUSH of a value before the list that a property is.
+fn put_before(
+    world: &mut World,
+    symbol: &Symbol,
+    indicator: &Symbol,
+    value: Datum,
+) -> Result<bool, EvaluationError>
+    requires symbol { IsSymbol world.old.0.packages (symbol_of symbol.now) }
+    requires indicator { IsSymbol world.old.0.packages (symbol_of indicator.now) }
+    requires list { holds_pair
+        (property world.old.0 (symbol_of symbol.now) (symbol_of indicator.now)) ≡ true }
+    requires value { IsArgument world.old.0.packages value }
+    ensures gives { Leaves result world.new.0
+        (pushes world.old.0 (symbol_of symbol.now) (symbol_of indicator.now) (object_of value)) }
+    ensures unchanged { IfErr result (λ _. world.new ≡ world.old) }
+    ensures marked { world.new.1 ≡ world.old.1 }
+{
+    world.soundness();
+    let Some(list) = world.get(symbol, indicator) else {
+        unreachable!()
+    };
+    if values::is_too_deep_before(&value) {
+        return Err(Refused(VALUE_TOO_DEEP));
+    }
+    if values::is_too_large_before(&value, list) {
+        return Err(Refused(LIMIT));
+    }
+    world.push(symbol, indicator, value)?;
+    Ok(true)
+}
+
+// PUSH of a value to a property that is no list with an item, or is not there.
+fn put_pair(
+    alloc: Global,
+    world: &mut World,
+    symbol: &Symbol,
+    indicator: Symbol,
+    value: &Datum,
+) -> Result<bool, EvaluationError>
+    requires symbol { IsSymbol world.old.0.packages (symbol_of symbol.now) }
+    requires indicator { IsSymbol world.old.0.packages (symbol_of indicator) }
+    requires value { IsArgument world.old.0.packages value.now }
+    ensures gives { Leaves result world.new.0
+        (pushes world.old.0 (symbol_of symbol.now) (symbol_of indicator) (object_of value.now)) }
+    ensures unchanged { IfErr result (λ _. world.new ≡ world.old) }
+    ensures marked { world.new.1 ≡ world.old.1 }
+{
+    let old = world.get(symbol, &indicator);
+    let value = pushed(alloc, value, old)?;
+    if values::is_too_deep(&value) {
+        return Err(Refused(VALUE_TOO_DEEP));
+    }
+    if values::is_too_large(&value) {
+        return Err(Refused(LIMIT));
+    }
+    world.soundness();
+    world.put(symbol, indicator, value)?;
+    Ok(true)
+}
+
+/// PUSH of a value to a property. Gives whether anything was written. A list that was there is not copied.
+pub fn push(alloc: Global, world: &mut World, values: Vec<Datum>) -> Result<bool, EvaluationError>
+    requires { AreArgumentsOf world.old values.items }
+    ensures gives { Leaves result world.new.0 (push (objects values.items) world.old.0) }
+    ensures unchanged { IfErr result (λ _. world.new ≡ world.old) }
+    ensures marked { world.new.1 ≡ world.old.1 }
+{
+    let (value, symbol, indicator) = three(values)?;
+    let (symbol, indicator) = property_key(symbol, indicator)?;
+    if has_list(world, &symbol, &indicator) {
+        put_before(world, &symbol, &indicator, value)
+    } else {
+        put_pair(alloc, world, &symbol, indicator, &value)
+    }
+}
