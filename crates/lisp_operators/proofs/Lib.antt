@@ -24,3 +24,4 @@ pub mod KeepingOperators
 pub mod Covering
 pub mod SameBase
 pub mod Pushes
+pub mod ListSizes

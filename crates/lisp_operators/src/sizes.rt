@@ -30,7 +30,6 @@ fn sizes(items: &[Datum]) -> u64
 }
 
 /// The size of an object. More than 2^64-1 counts as that.
-#[tactic(auto, using(lisp_object::proofs::Objects::size_laws, lisp_object::proofs::Sizes::size_object))]
 pub(crate) fn size_of(datum: &Datum) -> u64
     requires { IsProper datum.now }
     ensures { result ≡ min (object_size (object_of datum.now)) (2 ^ 64 - 1) }
