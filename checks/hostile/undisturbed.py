@@ -1,5 +1,5 @@
-"""What each session of the campaign gives where nothing is disturbed: its status, and standard output. Worked out by the rules of
-the language, and not taken over from a run when it changes."""
+"""What each session of the campaign gives where nothing is disturbed: its status, and standard output. Taken from a run of the proved
+program and read against the rules of the language by one reader: it shows a change, and is no independent model."""
 
 WANTED = {
     "property": (0, (
