@@ -16,7 +16,7 @@ use std::alloc::Global;
 use user_macros::Meaning;
 
 /// Does what `accept` does, where the value is not asked for. Gives whether anything in the world was written. Asks for what
-/// `accept` asks for; SETF and PUSH of a property copy nothing of what they store.
+/// `accept` asks for. Where the whole form is SETF or PUSH of a property, neither the value nor a list that is there is copied.
 ///
 /// # Errors
 /// Those of `accept`. The world is then as it was, its marks too.

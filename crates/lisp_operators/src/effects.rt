@@ -1,4 +1,5 @@
-//! SETF and PUSH of a property, where the value that they give is not asked for. What is stored is not copied.
+//! SETF and PUSH of a property, where the value that they give is not asked for. The value of
+//! SETF, and a list to which PUSH adds, are not copied.
 ghost use Rattle.std.specs.Prelude.{◌≡◌, true, IfErr};
 ghost use Rattle.lisp_object.specs.Datum.{object_of};
 ghost use Rattle.plist_state.specs.Changes.{property};

@@ -1,4 +1,5 @@
-//! What a form does, where its value is not asked for: SETF and PUSH of a property copy nothing of what they store.
+//! What a form does, where its value is not asked for: where the
+//! whole form is SETF or PUSH of a property, neither the value nor a list that is there is copied.
 ghost use Rattle.std.specs.Prelude.{◌≡◌, ◌<◌, true, length};
 ghost use Rattle.lisp_object.specs.Object.{Object, list_of};
 ghost use Rattle.lisp_object.specs.Datum.{object_of};
