@@ -136,7 +136,7 @@ abbrev pub IsBeforeFolder : Text → Status → Type 0
 IsBeforeFolder folder status = (status ≡ Fault NO_MEMORY) ⊎ ((status ≡ Fault INPUT) ⊎ ((folder ≡ []) × (status ≡ Fault DEVICE)))
 
 module _ {D I O : Type 0} (input left : I) (held written : O) where
-  -- The folder is opened once, with or without `--existing`. If no store is opened there, nothing is read or written, and the cause is
+  -- An opening of the folder gave this, with or without `--existing`. If no store is opened there, nothing is read or written, and a cause is
   -- told.
   abbrev pub OpensFolder : (opens : Text → Bool → Result D HostError → Type 0) (follows : D → Type 0) → Text → Bool → Status → Told → Type 0
   OpensFolder opens follows folder existing status told =

@@ -19,13 +19,13 @@ EndsRefused (Unreadable number place) = Unit {0}
 EndsRefused (Unaccepted number place) = Unit {0}
 EndsRefused (Store number) = ⊥
 
--- After a session the input may have lost some bytes more: the rest of a line.
+-- After a session the input may have lost some bytes more.
 abbrev pub Drops : Option (List ℕ) → Option (List ℕ) → Type 0
 Drops there has = (line : List ℕ) × Consumes there has line
 
 module _ (functions : Functions) (wanted : Wanted) {D R : Type 0} (state : D → State) where
   -- Sessions that refusals ended so, the last one first; each begins in the world and the store that the one before it left, and with
-  -- what that left of the input, but for the rest of a line.
+  -- what that left of the input, but for some bytes.
   abbrev pub Earlier : List Ended → (old new : StoreView D R) → (world left : WorldState) → (had has held written : Option (List ℕ)) → Type 0
   Earlier [] old new world left had has held written = (new ≡ old) × (left ≡ world) × (has ≡ had) × (written ≡ held)
   Earlier (ended ∷ others) old new world left had has held written =
