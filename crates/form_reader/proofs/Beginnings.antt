@@ -18,7 +18,7 @@ use Rattle.lisp_reading.specs.declared.way.Way.TheVariants.{Nothing, Next, List 
 use Rattle.lisp_reading.specs.Plans.{Plan, refuses, scans, Read, fault, limited, scanned, run}
 use Rattle.lisp_reading.specs.Calls.{InvokedCall}
 use Rattle.lisp_reading.specs.Setting.{Setting, way_in}
-use Rattle.lisp_reading.specs.Reading.{next_item, completed, gathered, gathered_by, called, attempt, inner}
+use Rattle.lisp_reading.specs.Reading.{completed, gathered, gathered_by, called, attempt, inner}
 use Rattle.form_reader.specs.Completing.{plan_of}
 use Rattle.form_reader.specs.Feeding.{token_read}
 use Rattle.form_reader.specs.Frames.{given, between, plan_gives, token_goes_on}

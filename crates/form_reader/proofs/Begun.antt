@@ -1,12 +1,10 @@
 -- Where what is open began: what is before it is discarded text, and from there on the text is read as it is alone.
-use Rattle.std.proofs.Common.{◌≡◌, ℕ, zero, suc, ◌+◌, ◌-◌, ◌<◌, ◌≤◌, ◌⊎◌, inl, inr, Bool, true, false, List, [], ◌∷◌, ◌++◌, length, take, drop, Result, Ok, Err, refl, sym, ap, subst, ◌∙◌, append_assoc, append-nil, length-append, length-drop, arith}
-use Rattle.std.specs.Prelude.{nat_lt, not, ◌&&◌}
+use Rattle.std.proofs.Common.{◌≡◌, ℕ, zero, suc, ◌+◌, ◌-◌, ◌<◌, ◌≤◌, ◌⊎◌, inl, inr, Bool, true, false, List, [], ◌∷◌, ◌++◌, length, drop, Result, Ok, Err, refl, sym, ap, subst, ◌∙◌, append_assoc, append-nil, length-append, length-drop, arith}
+use Rattle.std.specs.Prelude.{◌&&◌}
 use Rattle.std.proofs.lemmas.Bool.{lt-ltb}
 use Rattle.std.proofs.lemmas.List.{take-append-le, drop-append-le}
 use Rattle.std.proofs.Math.Seq.{take-length, drop-length, take-append_seam, drop-append_seam}
-use Rattle.lisp_object.specs.Object.{Object}
 use Rattle.lisp_object.specs.declared.refusal.TheConstants.{DOT_CONTEXT}
-use Rattle.lisp_object.specs.declared.datum.Datum.{Datum}
 use Rattle.lisp_reading.specs.declared.found.Found.{Found}
 use Rattle.lisp_reading.specs.declared.found.Found.TheVariants.{Nothing as nothing, One as one, LoneDot as lone_dot, TheEnd as the_end}
 use Rattle.lisp_reading.specs.Plans.{Read, run}
@@ -27,8 +25,7 @@ use Rattle.form_reader.specs.declared.in_place.InPlace.{InPlace}
 use Rattle.form_reader.specs.declared.in_place.InPlace.TheVariants.{Passed as IsPassed}
 use Rattle.std.specs.declared.alloc.AllocError.{AllocError}
 use Rattle.form_reader.specs.InPlace.{is_space}
-use Rattle.form_reader.specs.Resuming.{position_gives}
-use Rattle.form_reader.specs.Changing.{outcome_of, rest_of, BeginsAnew}
+use Rattle.form_reader.specs.Changing.{outcome_of, BeginsAnew}
 use Rattle.form_reader.specs.Starting.{EndsBefore, Starts}
 use Rattle.form_reader.specs.Reader.{fed, begun, further, BeginsAt, HasBegun, StepsBegun, IsNew, IsOpen, IsBetween, IsAfter, IsAfterIn, Steps, Becomes}
 use Rattle.form_reader.proofs.Between.{anew_between, between_reads, between_empty}

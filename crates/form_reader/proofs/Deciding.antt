@@ -1,5 +1,5 @@
 -- Where a reader waits for more, the bytes before decide nothing: a byte that is no character would be refused where it is.
-use Rattle.std.proofs.Common.{◌≡◌, ℕ, ◌+◌, ◌-◌, ◌<◌, ◌≤◌, Bool, true, false, List, [], ◌∷◌, ◌++◌, length, Option, Some, None, unwrap_or, Ok, refl, sym, ap, subst, ◌∙◌, append-nil, length-append, arith}
+use Rattle.std.proofs.Common.{◌≡◌, ℕ, ◌+◌, ◌-◌, ◌<◌, ◌≤◌, Bool, true, false, List, [], ◌∷◌, ◌++◌, length, Option, Some, None, unwrap_or, Ok, refl, sym, ap, subst, ◌∙◌, append-nil, arith}
 use Rattle.std.specs.Prelude.{nat_le, nat_lt, ◌==◌, ◌&&◌, if◌then◌else◌, IsTrue}
 use Rattle.std.proofs.lemmas.Bool.{false≢true, le-ltb, lt-leb, ne_eqb, ltb-true, ltb-false}
 use Rattle.std.proofs.lemmas.List.{get_or_past}
@@ -15,7 +15,6 @@ use Rattle.token_scan.specs.Scans.{Scan, from_stage}
 use Rattle.readtable_core.specs.declared.characters.Syntax.TheVariants.{Invalid}
 use Rattle.token_scan.proofs.Steps.{outside_invalid, inside_invalid}
 use Rattle.lisp_reading.specs.declared.found.Found.{Found}
-use Rattle.lisp_reading.specs.declared.found.Found.TheVariants.{Nothing as nothing, One as one}
 use Rattle.form_reader.specs.declared.frame.Frame.{Frame}
 use Rattle.lisp_reading.specs.declared.limits.Limits.{Limits}
 use Rattle.form_reader.specs.declared.position.Position.{Position}
@@ -32,7 +31,6 @@ use Rattle.form_reader.specs.Resuming.{IsPositionAt, inner_at, position_gives}
 use Rattle.form_reader.specs.Reader.{MayGoOn, DecideNothing}
 use Rattle.form_reader.specs.Changing.{outcome_of, rest_of}
 use Rattle.form_reader.proofs.FedTokens.{cut, refused_cut}
-use Rattle.lisp_reading.proofs.Faults.{decided}
 use Rattle.lisp_reading.proofs.Fed.{number_ends}
 use Rattle.lisp_reading.proofs.Following.{form_follows}
 use Rattle.lisp_reading.proofs.Forms.{form_framed}

@@ -28,3 +28,5 @@ pub mod TextEnds
 pub mod Deciding
 pub mod Waiting
 pub mod WholeTexts
+pub mod FeedSteps
+pub mod WholeFeeds

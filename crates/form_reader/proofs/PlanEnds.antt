@@ -7,7 +7,6 @@ use Rattle.readtable_core.specs.Tables.{Table}
 use Rattle.token_scan.specs.declared.mark.Mark.{Mark}
 use Rattle.token_scan.specs.declared.refusal.ScanRefusal.TheVariants.{EndOfFile}
 use Rattle.token_scan.specs.Tokens.{outside}
-use Rattle.token_meaning.specs.Meanings.{number}
 use Rattle.lisp_reading.specs.declared.limits.Limits.{Limits}
 use Rattle.lisp_reading.specs.Plans.{Plan, gives, refuses, takes, scans, then_plan, next_byte, character, loop_in, loop, Read, scanned, limited, run}
 use Rattle.form_reader.proofs.FedTokens.{refused_cut}

@@ -13,3 +13,4 @@ pub mod Ending
 pub mod Starting
 pub mod Standing
 pub mod Reader
+pub mod Feeds

@@ -32,6 +32,7 @@ mod close;
 mod complete;
 mod deliver;
 mod ending;
+mod feed;
 mod frame;
 mod gathering;
 mod in_place;

@@ -39,24 +39,23 @@ pub fn read_one<R: MacroFunctions>(
         → result ≡ Ok ReadEmpty }
 {
     let mut reader = FormReader::new(alloc, limits);
-    for byte in bytes {
-        match reader.step(*byte, readtable, base, packages, current, macros)? {
-            Advance::More => {}
-            Advance::Form {
-                datum,
-                start,
-                end,
-                next,
-            } => {
-                return Ok(ReadOutcome::Form {
-                    datum,
-                    start,
-                    end,
-                    next,
-                });
-            }
-            Advance::Refused { code, at } => return Ok(ReadOutcome::Refused { code, at }),
-        }
+    if bytes.is_empty() {
+        return reader.finish(readtable, base, packages, current, macros);
     }
-    reader.finish(readtable, base, packages, current, macros)
+    let (_, advance) = reader.feed(bytes, readtable, base, packages, current, macros)?;
+    match advance {
+        Advance::More => reader.finish(readtable, base, packages, current, macros),
+        Advance::Form {
+            datum,
+            start,
+            end,
+            next,
+        } => Ok(ReadOutcome::Form {
+            datum,
+            start,
+            end,
+            next,
+        }),
+        Advance::Refused { code, at } => Ok(ReadOutcome::Refused { code, at }),
+    }
 }

@@ -1,41 +1,52 @@
-use Rattle.std.proofs.Common.{◌<◌, sym, subst, ◌∙◌, take}
-use Rattle.std.proofs.lemmas.List.{take_more, drop_more}
+use Rattle.std.proofs.Common.{◌<◌, [], length, sym, subst, ◌∙◌}
+use Rattle.std.proofs.lemmas.Bool.{eqb-true}
 use Rattle.lisp_reading.specs.declared.limits.Limits.{Limits}
 use Rattle.lisp_reading.specs.Setting.{Setting, setting_of}
-use Rattle.lisp_reading.specs.Reading.{is_whitespace}
-use Rattle.form_reader.proofs.ReaderSteps.{decided_form, decided_refusal}
-use Rattle.form_reader.proofs.WholeTexts.{byte_counted, byte_after, each_holds}
+use Rattle.form_reader.proofs.WholeFeeds.{whole_form, whole_refusal, whole_after, finished_whole, finished_none, none_in, decided_not_more, form_is, refused_is}
 use Rattle.form_reader.proofs.whole.read_one.Goals as goal
-
-pub loop-byte-preserved : goal.loop-byte-preserved
-loop-byte-preserved g c =
-    let under : Limits → Setting = λ limits. setting_of limits c.args.readtable.now c.args.base c.args.packages.now.0 c.args.current.now
-    (g.R.MacroFunctions.functions c.args.macros.now) in
-    record {
-      limits = c.in_ok-step.ensures.limits ∙ c.loop-byte.invariant.limits;
-      count = byte_counted under c.loop-byte.reader.limits c.args.limits c.loop-byte.reader c.args.bytes.now c.loop-byte.byte-index _
-          c.loop-byte.invariant.limits (take_more c.args.bytes.now c.loop-byte.byte-index 0 c.loop-byte-test.true) c.loop-byte.invariant.after
-          c.step.new.self c.in_ok-step.field-0 c.in-More.is (c.in_ok-step.ensures.steps (take c.loop-byte.byte-index c.args.bytes.now)) c.loop-byte-test.true;
-      after = byte_after under c.loop-byte.reader.limits c.args.limits c.loop-byte.reader c.args.bytes.now c.loop-byte.byte-index _
-          c.loop-byte.invariant.limits (take_more c.args.bytes.now c.loop-byte.byte-index 0 c.loop-byte-test.true) c.loop-byte.invariant.after
-          c.step.new.self c.in_ok-step.field-0 c.in-More.is (c.in_ok-step.ensures.steps (take c.loop-byte.byte-index c.args.bytes.now));
-      blank = λ room all. (c.step.ensures.between (c.loop-byte.invariant.blank room all)
-          (each_holds (is_whitespace c.args.readtable.now) c.args.bytes.now c.loop-byte.byte-index _ _ all (drop_more c.args.bytes.now c.loop-byte.byte-index 0 c.loop-byte-test.true))
-          (subst (λ (l : Limits). 0 < l.text) (sym c.loop-byte.invariant.limits) room)).1;
-    }
 
 pub returns-in-Form-clause-outcome : goal.returns-in-Form-clause-outcome
 returns-in-Form-clause-outcome g c =
     let under : Limits → Setting = λ limits. setting_of limits c.args.readtable.now c.args.base c.args.packages.now.0 c.args.current.now
     (g.R.MacroFunctions.functions c.args.macros.now) in
-    decided_form under c.loop-byte.reader.limits c.args.limits c.loop-byte.reader c.step.new.self c.args.bytes.now c.loop-byte.byte-index _ c.in_ok-step.field-0
-    c.in-Form.datum c.in-Form.start c.in-Form.end c.in-Form.next c.in-Form.is c.in_ok-step.ensures.sound c.loop-byte.invariant.limits c.loop-byte.invariant.after
-    (c.in_ok-step.ensures.steps (take c.loop-byte.byte-index c.args.bytes.now)) (take_more c.args.bytes.now c.loop-byte.byte-index 0 c.loop-byte-test.true)
+    whole_form under c.new-reader.result.limits c.args.limits c.feed.new.self c.args.bytes.now _ _ c.new-reader.ensures.limits
+    (c.in_ok-advance.ensures.feeds [] (c.new-reader.ensures.after (under c.new-reader.result.limits)))
+    c.in-Form.datum c.in-Form.start c.in-Form.end c.in-Form.next c.in-Form.is c.in_ok-advance.ensures.sound
 
 pub returns-in-Refused-clause-outcome : goal.returns-in-Refused-clause-outcome
 returns-in-Refused-clause-outcome g c =
     let under : Limits → Setting = λ limits. setting_of limits c.args.readtable.now c.args.base c.args.packages.now.0 c.args.current.now
     (g.R.MacroFunctions.functions c.args.macros.now) in
-    decided_refusal under c.loop-byte.reader.limits c.args.limits c.loop-byte.reader c.step.new.self c.args.bytes.now c.loop-byte.byte-index _ c.in_ok-step.field-0
-    c.in-Refused.code c.in-Refused.at c.in-Refused.is c.loop-byte.invariant.limits c.loop-byte.invariant.after
-    (c.in_ok-step.ensures.steps (take c.loop-byte.byte-index c.args.bytes.now)) (take_more c.args.bytes.now c.loop-byte.byte-index 0 c.loop-byte-test.true)
+    whole_refusal under c.new-reader.result.limits c.args.limits c.feed.new.self c.args.bytes.now _ _ c.new-reader.ensures.limits
+    (c.in_ok-advance.ensures.feeds [] (c.new-reader.ensures.after (under c.new-reader.result.limits)))
+    c.in-Refused.code c.in-Refused.at c.in-Refused.is
+
+pub returns-in-More-clause-outcome : goal.returns-in-More-clause-outcome
+returns-in-More-clause-outcome g c =
+    let under : Limits → Setting = λ limits. setting_of limits c.args.readtable.now c.args.base c.args.packages.now.0 c.args.current.now
+    (g.R.MacroFunctions.functions c.args.macros.now) in
+    finished_whole under c.feed.new.self.limits c.args.limits c.feed.new.self c.args.bytes.now _ (c.in_ok-advance.ensures.limits ∙ c.new-reader.ensures.limits)
+    (whole_after under c.new-reader.result.limits c.args.limits c.feed.new.self c.args.bytes.now _ _ c.new-reader.ensures.limits
+    (c.in_ok-advance.ensures.feeds [] (c.new-reader.ensures.after (under c.new-reader.result.limits))) c.in-More.is (c.in_ok-advance.ensures.whole c.in-More.is))
+    c.finish-in-More.ensures.outcome
+
+pub returns-then-is_empty-clause-outcome : goal.returns-then-is_empty-clause-outcome
+returns-then-is_empty-clause-outcome g c =
+    let under : Limits → Setting = λ limits. setting_of limits c.args.readtable.now c.args.base c.args.packages.now.0 c.args.current.now
+    (g.R.MacroFunctions.functions c.args.macros.now) in
+    finished_none under c.new-reader.result.limits c.args.limits c.new-reader.result c.args.bytes.now _ c.new-reader.ensures.limits (none_in c.args.bytes.now (eqb-true (length c.args.bytes.now) 0 (sym c.is_empty.ensures ∙ c.if-is_empty.true)))
+    (c.new-reader.ensures.after (under c.args.limits)) c.finish.ensures.outcome
+
+pub returns-in-Form-clause-blank : goal.returns-in-Form-clause-blank
+returns-in-Form-clause-blank g c = λ room all.
+    absurd (decided_not_more _ c.in_ok-advance.advance (form_is _ _ _ _ c.in_ok-advance.advance c.in-Form.is)
+    (c.in_ok-advance.ensures.between c.new-reader.ensures.between all (subst (λ (l : Limits). 0 < l.text) (sym c.new-reader.ensures.limits) room)).0)
+
+pub returns-in-Refused-clause-blank : goal.returns-in-Refused-clause-blank
+returns-in-Refused-clause-blank g c = λ room all.
+    absurd (decided_not_more _ c.in_ok-advance.advance (refused_is _ _ c.in_ok-advance.advance c.in-Refused.is)
+    (c.in_ok-advance.ensures.between c.new-reader.ensures.between all (subst (λ (l : Limits). 0 < l.text) (sym c.new-reader.ensures.limits) room)).0)
+
+pub returns-in-More-clause-blank : goal.returns-in-More-clause-blank
+returns-in-More-clause-blank g c = λ room all.
+    c.finish-in-More.ensures.between (c.in_ok-advance.ensures.between c.new-reader.ensures.between all (subst (λ (l : Limits). 0 < l.text) (sym c.new-reader.ensures.limits) room)).1
