@@ -1,0 +1,7 @@
+mod Calls
+mod Coming
+mod Fronts
+mod Items
+mod Listing
+mod Runs
+mod Strings
