@@ -150,8 +150,10 @@ module _ (setting : Setting) (room : ℕ) where
 
   space_by : (xs : List Object) (c at : ℕ) (cs : List ℕ) → is_whitespace setting.table 41 ≡ false → at ≤ setting.limits.text
       → (b : Bool) → is_whitespace setting.table c ≡ b
-      → elim b [ true ↦ within (nat_le setting.limits.text at) at (run setting.table setting.limits (after xs) (at + 1) cs)
-          | false ↦ run setting.table setting.limits (after xs) at (c ∷ cs) ]
+      → elim b [
+        | true ↦ within (nat_le setting.limits.text at) at (run setting.table setting.limits (after xs) (at + 1) cs)
+        | false ↦ run setting.table setting.limits (after xs) at (c ∷ cs)
+      ]
       ≡ run setting.table setting.limits (after xs) at (c ∷ cs)
   space_by xs c at cs closes le true e = spaced xs c at cs le (no_close c closes e (c == 41) refl) e (nat_le setting.limits.text at) refl
   space_by xs c at cs closes le false e = refl

@@ -5,3 +5,4 @@ mod Items
 mod Listing
 mod Runs
 mod Strings
+mod Whole

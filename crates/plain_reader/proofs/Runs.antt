@@ -156,7 +156,7 @@ module _ (table : Table) where
 
   pub run_here : (text : List ℕ) (i : ℕ) → i < length text → list_all (is_part table) (take i text) ≡ true
       → ends_tokens (kind (typed table (get_or text i 0))) ≡ true → IsRun table text i
-  run_here text i lt before ends = record { parts = before; ends = at_drop_more (ends_before table) text i 0 lt ∙ ends; }
+  run_here text i lt before ends = record { parts = before; ends = at_drop_more (ends_before table) text i 0 lt ∙ ends }
 
 pub marks_ascii : (bs : List ℕ) → list_all is_ascii bs ≡ true → are_ascii (marks_of bs) ≡ true
 marks_ascii [] e = refl

@@ -1,5 +1,5 @@
 //! Lists, quoted objects and texts.
-ghost use Rattle.std.specs.Prelude.{◌≡◌, ◌<◌, ℕ, ◌∷◌, length, None, IfOk, IfSome, IsTrue};
+ghost use Rattle.std.specs.Prelude.{◌≡◌, ◌<◌, ℕ, ◌∷◌, length, false, None, IfOk, IfSome, IsTrue};
 ghost use Rattle.lisp_reading.specs.Gathering.{is_escape};
 ghost use Rattle.lisp_reading.specs.Reading.{is_whitespace};
 ghost use Rattle.plain_reader.specs.Plain.{Takes, Gathers, Closes};
@@ -46,6 +46,7 @@ pub(crate) fn list<'a>(
     text: &'a [u8],
 ) -> Result<Option<Taken<'a>>, AllocError>
     ensures takes { IfOk result (λ found. IfSome found (Takes with.now room (40 ∷ text.now))) }
+    ensures token { IfOk result (λ found. IfSome found (λ t. t.token ≡ false)) }
     ensures shorter { IfOk result (λ found. IfSome found (λ t. length t.rest.now < length text.now)) }
 {
     if room == 0 {
@@ -94,6 +95,7 @@ fn close<'a>(
     text: &'a [u8],
 ) -> Result<Option<Taken<'a>>, AllocError>
     ensures closes { IfOk result (λ found. IfSome found (Closes with.now room items text.now)) }
+    ensures token { IfOk result (λ found. IfSome found (λ t. t.token ≡ false)) }
     ensures shorter { IfOk result (λ found. IfSome found (λ t. length t.rest.now < length text.now)) }
 {
     match text {

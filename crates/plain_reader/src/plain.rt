@@ -54,7 +54,7 @@ pub fn read_plain(
         return Ok(None);
     }
     match bytes {
-        [b'(', rest @ ..] => {
+        [c, rest @ ..] if *c == b'(' => {
             if !calls(readtable, b'(', STD_LIST) || is_blank(readtable, b')') {
                 return Ok(None);
             }

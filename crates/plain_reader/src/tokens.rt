@@ -18,10 +18,7 @@ use token_scan::{Mark, Marks};
 
 /// A token at the front of the text, without escapes, that is an object.
 #[inline(always)]
-pub(crate) fn token<'a>(
-    with: &Context<'_>,
-    text: &'a [u8],
-) -> Result<Option<Taken<'a>>, AllocError>
+pub(crate) fn token<'a>(with: &Context<'_>, text: &'a [u8]) -> Result<Option<Taken<'a>>, AllocError>
     ensures takes { (room : ℕ) → IfOk result (λ found. IfSome found (Takes with.now room text.now)) }
     ensures shorter { IfOk result (λ found. IfSome found (λ t. length t.rest.now < length text.now)) }
 {
