@@ -1,0 +1,43 @@
+-- A list at the beginning of a text is the form that the text begins with.
+use Rattle.std.proofs.Common.{◌≡◌, ℕ, suc, ◌+◌, ◌-◌, ◌<◌, ◌≤◌, Bool, true, false, List, [], ◌∷◌, ◌++◌, length, Option, Some, IfSome, Result, Ok, Err, refl, sym, ap, subst, ◌∙◌, arith}
+use Rattle.lisp_object.specs.Object.{Object}
+use Rattle.lisp_reading.specs.declared.found.Found.TheVariants.{One as one}
+use Rattle.lisp_reading.specs.Plans.{gives, Read, run}
+use Rattle.readtable_core.specs.Tables.{Table}
+use Rattle.package_table.specs.Table.{Name, Table as Packages}
+use Rattle.user_macros.specs.Functions.{Functions}
+use Rattle.lisp_reading.specs.declared.limits.Limits.{Limits}
+use Rattle.lisp_reading.specs.Setting.{Setting, setting_of}
+use Rattle.lisp_reading.specs.Reading.{attempt, form, outcome, reads_in, reads}
+use Rattle.plain_reader.specs.Coming.{ComesTo}
+use Rattle.plain_reader.specs.declared.objects.Taken.{Taken}
+
+pub form_given : (setting : Setting) (text rest more : List ℕ) (token : Bool) (x : Object) (end : ℕ) → length text ≤ setting.limits.text → token ≡ false
+    → end ≡ length text - length rest → ComesTo setting (attempt setting setting.limits.nesting) text (gives (one token x)) rest
+    → reads setting (text ++ more) ≡ form x 0 end end
+unfolding run reads reads_in
+form_given setting text rest more token x end fits is_false at comes =
+    let whole : List ℕ = text ++ more in
+    let n : length whole + 1 ≡ suc (length whole) = omega arith in
+    let next : 0 + (0 + (length text - length rest)) ≡ end = omega arith in
+    let after : 0 + (0 + (length text - length rest)) + 0 ≡ end = omega arith in
+    ap (λ n. reads_in setting n 0 whole) n
+    ∙ ap (outcome setting.table 0 (λ next cs. reads_in setting (length whole) next cs))
+    (comes.goes 0 more (omega arith) ∙ ap (λ (b : Bool). Ok (one b x, 0 + (length text - length rest), rest ++ more)) is_false)
+    ∙ (λ i. form x 0 (next i) (after i))
+
+-- of what a list was read as, whatever the functions of users are
+pub form_taken : (limits : Limits) (table : Table) (base : ℕ) (packages : Packages) (current : Name) (text start more : List ℕ) (o : Option Taken) (t : Taken) (x : Object)
+    (functions : Functions) → length text ≤ limits.text → start ≡ text → o ≡ Some t → x ≡ t.object → IfSome o (λ t. t.token ≡ false)
+    → IfSome o (λ t. (functions : Functions) → let setting = setting_of limits table base packages current functions in
+    ComesTo setting (attempt setting limits.nesting) start (gives (one t.token t.object)) t.rest.now)
+    → reads (setting_of limits table base packages current functions) (text ++ more) ≡ form x 0 (length text - length t.rest.now) (length text - length t.rest.now)
+form_taken limits table base packages current text start more o t x functions fits whole is object token takes =
+    let setting = setting_of limits table base packages current functions in
+    let plain : t.token ≡ false = subst (λ o. IfSome o (λ (t : Taken). t.token ≡ false)) is token in
+    let comes : ComesTo setting (attempt setting limits.nesting) start (gives (one t.token t.object)) t.rest.now =
+    subst (λ o. IfSome o (λ (t : Taken). (functions : Functions) → let setting = setting_of limits table base packages current functions in
+    ComesTo setting (attempt setting limits.nesting) start (gives (one t.token t.object)) t.rest.now)) is takes functions in
+    form_given setting text t.rest.now more t.token t.object (length text - length t.rest.now) fits plain refl
+    (subst (λ cs. ComesTo setting (attempt setting limits.nesting) cs (gives (one t.token t.object)) t.rest.now) whole comes)
+    ∙ ap (λ (x : Object). form x 0 (length text - length t.rest.now) (length text - length t.rest.now)) (sym object)

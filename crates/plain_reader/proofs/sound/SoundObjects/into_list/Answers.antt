@@ -1,0 +1,10 @@
+use Rattle.std.proofs.Common.{refl, sym, subst}
+use Rattle.lisp_object.specs.Object.{IsSound, nil}
+use Rattle.lisp_object.proofs.Sound.{sound_pairs, sound_nil}
+use Rattle.plain_reader.proofs.sound.SoundObjects.into_list.Goals as goal
+
+pub invariant_of-result : goal.invariant_of-result
+invariant_of-result c = (
+  c.in_ok-list.ensures.proper c.self.invariant.0 refl,
+  subst IsSound (sym c.in_ok-list.ensures.object) (sound_pairs c.self.inside.data.items nil c.self.invariant.1 sound_nil),
+)

@@ -1,0 +1,4 @@
+pub mod Coming
+pub mod Plain
+pub mod Texts
+pub mod Tokens

@@ -1,0 +1,37 @@
+-- What reading a plain form comes to.
+use Rattle.std.specs.Prelude.{ℕ, ◌≡◌, List, [], true, false}
+use Rattle.lisp_object.specs.Object.{Object, list_of}
+use Rattle.user_macros.specs.Functions.{Functions}
+use Rattle.lisp_reading.specs.declared.found.Found.TheVariants.{One as one}
+use Rattle.lisp_reading.specs.Plans.{Plan, gives}
+use Rattle.lisp_reading.specs.Setting.{Setting, setting_of}
+use Rattle.lisp_reading.specs.Reading.{Items, attempt, items_after}
+use Rattle.plain_reader.specs.declared.context.Context.{Context}
+use Rattle.plain_reader.specs.declared.objects.Taken.{Taken}
+use Rattle.plain_reader.specs.Coming.{ComesTo}
+
+-- reading with this, where these are the functions of users
+abbrev pub setting : Context → Functions → Setting
+setting with functions = setting_of with.limits with.readtable.now with.base with.packages.now.0 with.current.now functions
+
+-- an attempt at an object where so many calls may be opened takes this from the text, whatever the functions are
+abbrev pub Takes : Context → ℕ → List ℕ → Taken → Type 0
+Takes with room text t =
+    (functions : Functions) → let setting = setting with functions in
+    ComesTo setting (attempt setting room) text (gives (one t.token t.object)) t.rest.now
+
+-- the items of a list after these
+abbrev pub items_from : Setting → ℕ → List Object → Plan Items
+items_from setting room xs = items_after setting 41 (attempt setting room) xs
+
+-- a list goes on from these items and this text with those, whatever the functions are
+abbrev pub Gathers : Context → ℕ → List Object → List ℕ → List Object → List ℕ → Type 0
+Gathers with room xs text ys rest =
+    (functions : Functions) → let setting = setting with functions in
+    ComesTo setting (items_from setting room xs) text (items_from setting room ys) rest
+
+-- a list of these items is closed at the front of the text, whatever the functions are
+abbrev pub Closes : Context → ℕ → List Object → List ℕ → Taken → Type 0
+Closes with room xs text t =
+    (functions : Functions) → ComesTo (setting with functions) (items_from (setting with functions) room xs) text (gives (xs, true)) t.rest.now
+    × (t.token ≡ false) × (t.object ≡ list_of xs)

@@ -1,0 +1,44 @@
+-- Tokens that are written without escapes.
+use Rattle.std.specs.Prelude.{ℕ, ◌≡◌, ◌&&◌, not, Bool, true, false, List, [], ◌∷◌, map, take, drop, Ok, IsTrue}
+use Rattle.std.specs.List.{list_all}
+use Rattle.lisp_object.specs.Object.{Object}
+use Rattle.readtable_core.specs.Characters.{has_invalid_trait}
+use Rattle.readtable_core.specs.Tables.{Table}
+use Rattle.readtable_core.specs.declared.characters.Syntax.{Syntax}
+use Rattle.readtable_core.specs.declared.characters.Syntax.TheVariants.{Constituent}
+use Rattle.token_scan.specs.declared.mark.Mark.{Mark}
+use Rattle.token_scan.specs.declared.mark.Mark.TheVariants.{Plain}
+use Rattle.token_scan.specs.Spelling.{ends_tokens}
+use Rattle.token_scan.specs.Tokens.{typed, kind}
+use Rattle.token_meaning.specs.Folding.{folded}
+use Rattle.token_meaning.specs.Meanings.{meaning_of}
+use Rattle.lisp_reading.specs.Naming.{told_of}
+use Rattle.lisp_reading.specs.declared.told.Told.TheVariants.{Object as told_object}
+use Rattle.plain_reader.specs.declared.context.Context.{Context}
+
+abbrev pub is_constituent : Syntax → Bool
+is_constituent Constituent = true
+is_constituent _ = false
+
+-- a constituent that may stand in a token as it is
+abbrev pub is_part : Table → ℕ → Bool
+is_part table c = is_constituent (kind (typed table c)) && not (has_invalid_trait c)
+
+-- a token ends before this text, which begins with a byte that ends one
+abbrev pub ends_before : Table → List ℕ → Bool
+ends_before table [] = false
+ends_before table (c ∷ cs) = ends_tokens (kind (typed table c))
+
+-- so many bytes at the front of the text are parts of a token, and it ends before the rest
+pub record IsRun (table : Table) (text : List ℕ) (count : ℕ) : Type 0 where
+  pub parts : list_all (is_part table) (take count text) ≡ true
+  pub ends : ends_before table (drop count text) ≡ true
+
+-- the marks of a token that is written in these bytes
+abbrev pub marks_of : List ℕ → List Mark
+marks_of bytes = map (λ c. Plain c) bytes
+
+-- a token of these bytes is this object
+abbrev pub IsToken : Context → List ℕ → Object → Type 0
+IsToken with bytes x =
+    told_of with.packages.now.0 with.current.now (meaning_of with.base (folded with.readtable.now.letters (marks_of bytes))) ≡ Ok (told_object x)

@@ -1,0 +1,98 @@
+//! Plain forms.
+ghost use Rattle.std.specs.Prelude.{◌≡◌, ◌≤◌, ◌<◌, ℕ, List, ◌++◌, length, true, Some, None, Ok, IfOk, IfSome, IsTrue};
+ghost use Rattle.std.specs.List.{list_all};
+ghost use Rattle.lisp_object.specs.Object.{IsSound};
+ghost use Rattle.lisp_object.specs.Datum.{object_of, is_proper};
+ghost use Rattle.readtable_core.specs.Tables.{entry_at};
+ghost use Rattle.package_table.specs.Table.{IsPackage};
+ghost use Rattle.user_macros.specs.Functions.{Functions};
+ghost use Rattle.lisp_reading.specs.Setting.{setting_of};
+ghost use Rattle.lisp_reading.specs.Reading.{is_whitespace, form, reads};
+
+use crate::context::Context;
+use crate::objects::list;
+use lisp_object::Datum;
+use lisp_reading::Limits;
+use package_table::Packages;
+use readtable_core::standard_names::{STD_LIST, STD_QUOTE, STD_STRING};
+use readtable_core::{Readtable, Syntax};
+use std::alloc::{AllocError, Global};
+
+/// A form that begins a text: its object, and its end.
+#[derive(Drop)]
+pub struct PlainForm {
+    pub datum: Datum,
+    pub end: usize,
+}
+
+/// The form that the text `bytes` begins with, where numbers are in `base`, which is 2 to 36, if it is a list that is written
+/// with parentheses, quotes, tokens and texts without escapes, and whitespace, under the standard functions of these
+/// characters. It is that of every text that begins with these bytes, whatever the functions of users are. None says nothing
+/// of the text.
+pub fn read_plain(
+    alloc: Global,
+    limits: Limits,
+    readtable: &Readtable,
+    base: u8,
+    packages: &Packages,
+    current: &[u8],
+    bytes: &[u8],
+) -> Result<Option<PlainForm>, AllocError>
+    requires lowest_base { 2 ≤ base }
+    requires highest_base { base ≤ 36 }
+    requires current { IsPackage packages.now.0 current.now }
+    ensures form { (functions : Functions) (more : List ℕ) → IfOk result (λ found. IfSome found (λ f. reads
+        (setting_of limits readtable.now base packages.now.0 current.now functions) (bytes.now ++ more)
+        ≡ form (object_of f.datum) 0 f.end f.end)) }
+    ensures proper { IfOk result (λ found. IfSome found (λ f. is_proper f.datum ≡ true)) }
+    ensures sound { IfOk result (λ found. IfSome found (λ f. IsSound (object_of f.datum))) }
+    ensures some { IfOk result (λ found. IfSome found (λ f. 0 < f.end)) }
+    ensures within { IfOk result (λ found. IfSome found (λ f. f.end ≤ length bytes.now)) }
+    ensures blank { list_all (is_whitespace readtable.now) bytes.now ≡ true → result ≡ Ok None }
+{
+    if bytes.len() > limits.text {
+        return Ok(None);
+    }
+    match bytes {
+        [c, rest @ ..] if *c == b'(' => {
+            if !calls(readtable, b'(', STD_LIST) || is_blank(readtable, b')') {
+                return Ok(None);
+            }
+            readtable.soundness();
+            let with = Context {
+                alloc,
+                limits,
+                readtable,
+                base,
+                packages,
+                current,
+                quotes: calls(readtable, b'\'', STD_QUOTE),
+                texts: calls(readtable, b'"', STD_STRING),
+            };
+            match list(&with, limits.nesting, rest)? {
+                None => Ok(None),
+                Some(taken) => Ok(Some(PlainForm {
+                    datum: taken.object.into_datum(),
+                    end: bytes.len() - taken.rest.len(),
+                })),
+            }
+        }
+        _ => Ok(None),
+    }
+}
+
+/// Whether the function of the macro character `c` has this name.
+fn calls(readtable: &Readtable, c: u8, name: &[u8]) -> bool
+    ensures { IsTrue result → (entry_at readtable.now c).function ≡ Some name.now }
+{
+    match readtable.macro_of(c) {
+        Some(function) => function.as_bytes() == name,
+        None => false,
+    }
+}
+
+fn is_blank(readtable: &Readtable, c: u8) -> bool
+    ensures { result ≡ is_whitespace readtable.now c }
+{
+    matches!(readtable.syntax(c), Syntax::Whitespace)
+}

@@ -1,0 +1,141 @@
+//! Objects that are known to be proper and sound, so that nothing looks at them once more.
+ghost use Rattle.std.specs.Prelude.{◌≡◌, [], ◌∷◌, ◌++◌, true, codes, pos, IfOk, OnOk};
+ghost use Rattle.std.specs.List.{list_all};
+ghost use Rattle.lisp_object.specs.Ascii.{is_ascii};
+ghost use Rattle.lisp_object.specs.Object.{IsSound, text, symbol, list_of};
+ghost use Rattle.lisp_object.specs.Datum.{object_of, is_proper};
+ghost use Rattle.std_macros.specs.Values.{headed};
+
+use lisp_object::{Bytes, Datum};
+use lisp_reading::HeldObject;
+use std::alloc::{AllocError, Global};
+use std::marker::Model;
+
+/// A proper datum whose object is sound, which contracts see as its object.
+#[derive(Drop)]
+pub(crate) struct SoundObject {
+    datum: Datum,
+}
+
+impl Model for SoundObject {
+    ghost use Rattle.std.specs.Prelude.{◌≡◌, true};
+    ghost use Rattle.lisp_object.specs.Object.{Object, IsSound};
+    ghost use Rattle.lisp_object.specs.ObjectCode.{object_code};
+
+    ghost Value = { Object };
+
+    ghost coded = { object_code };
+
+    ghost use Rattle.lisp_object.specs.Datum.{object_of, is_proper};
+
+    ghost view = { λ h. object_of h.datum };
+
+    ghost invariant = { λ h. (is_proper h.datum ≡ true) × IsSound (object_of h.datum) };
+}
+
+impl SoundObject {
+    /// An object that is looked at once.
+    pub fn of_held(held: HeldObject) -> SoundObject
+        ensures { result ≡ held }
+    {
+        SoundObject {
+            datum: held.into_sound_datum(),
+        }
+    }
+
+    /// A text.
+    pub fn text(bytes: Bytes) -> SoundObject
+        requires { list_all is_ascii bytes ≡ true }
+        ensures { result ≡ text bytes }
+    {
+        SoundObject {
+            datum: Datum::Text(bytes),
+        }
+    }
+
+    /// The list of QUOTE and this object.
+    pub fn quoted(self, alloc: Global) -> Result<SoundObject, AllocError>
+        ensures { IfOk result (λ x. x ≡ headed (codes "QUOTE") self) }
+    {
+        let mut items = SoundObjects::new(alloc);
+        items.push(quote(alloc)?)?;
+        items.push(self)?;
+        items.into_list(alloc)
+    }
+
+    /// The datum, moved out.
+    pub fn into_datum(self) -> Datum
+        ensures object { object_of result ≡ self }
+        ensures proper { is_proper result ≡ true }
+        ensures sound { IsSound (object_of result) }
+    {
+        let SoundObject { datum } = self;
+        datum
+    }
+}
+
+/// The symbol QUOTE.
+fn quote(alloc: Global) -> Result<SoundObject, AllocError>
+    ensures { IfOk result (λ x. x ≡ symbol (codes "COMMON-LISP") (codes "QUOTE")) }
+{
+    Ok(SoundObject {
+        datum: Datum::Symbol {
+            package: Bytes::from_slice(alloc, b"COMMON-LISP")?,
+            name: Bytes::from_slice(alloc, b"QUOTE")?,
+        },
+    })
+}
+
+/// Such data in order, which contracts see as their objects.
+#[derive(Drop)]
+pub(crate) struct SoundObjects {
+    data: Vec<Datum>,
+}
+
+impl Model for SoundObjects {
+    ghost use Rattle.std.specs.Prelude.{◌≡◌, true, List, map, All};
+    ghost use Rattle.std.specs.List.{list_all};
+    ghost use Rattle.std.specs.Coded.{coded_list};
+    ghost use Rattle.lisp_object.specs.Object.{Object, IsSound};
+    ghost use Rattle.lisp_object.specs.ObjectCode.{object_code};
+
+    ghost Value = { List Object };
+
+    ghost coded = { coded_list object_code };
+
+    ghost use Rattle.lisp_object.specs.Datum.{object_of, is_proper};
+
+    ghost view = { λ h. map object_of h.data.items };
+
+    ghost invariant = { λ h. (list_all is_proper h.data.items ≡ true) × All (λ d. IsSound (object_of d)) h.data.items };
+}
+
+impl SoundObjects {
+    /// No objects. It keeps `alloc` for later ones.
+    pub fn new(alloc: Global) -> SoundObjects
+        ensures { result ≡ [] }
+    {
+        SoundObjects {
+            data: Vec::new(alloc),
+        }
+    }
+
+    /// One more object, after the others.
+    pub fn push(&mut self, x: SoundObject) -> Result<(), AllocError>
+        ensures { OnOk result (self.new ≡ self.old ++ x ∷ []) }
+    {
+        let datum = x.into_datum();
+        self.data.push(datum)?;
+        Ok(())
+    }
+
+    /// The list of them.
+    pub fn into_list(self, alloc: Global) -> Result<SoundObject, AllocError>
+        ensures { IfOk result (λ x. x ≡ list_of self) }
+    {
+        let SoundObjects { data } = self;
+        Ok(SoundObject {
+            datum: Datum::list(alloc, data, None)?,
+        })
+    }
+}

@@ -1,0 +1,115 @@
+//! Tokens without escapes.
+ghost use Rattle.std.specs.Prelude.{◌≡◌, ◌≤◌, ◌<◌, ℕ, ◌∷◌, map, length, true, false, IfOk, IfSome, IsTrue};
+ghost use Rattle.std.specs.List.{list_all};
+ghost use Rattle.lisp_object.specs.Ascii.{is_ascii};
+ghost use Rattle.token_scan.specs.Marks.{are_ascii};
+ghost use Rattle.token_scan.specs.Tokens.{typed, kind};
+ghost use Rattle.plain_reader.specs.Plain.{Takes};
+ghost use Rattle.plain_reader.specs.Tokens.{IsRun, IsToken, marks_of};
+
+use crate::context::Context;
+use crate::objects::Taken;
+use crate::sound::SoundObject;
+use lisp_reading::{TellError, Told, tell};
+use readtable_core::{Readtable, Syntax, traits_of};
+use smallvec::SmallVec;
+use std::alloc::{AllocError, Global};
+use token_scan::{Mark, Marks};
+
+/// A token at the front of the text, without escapes, that is an object.
+#[inline(always)]
+pub(crate) fn token<'a>(with: &Context<'_>, text: &'a [u8]) -> Result<Option<Taken<'a>>, AllocError>
+    ensures takes { (room : ℕ) → IfOk result (λ found. IfSome found (Takes with.now room text.now)) }
+    ensures shorter { IfOk result (λ found. IfSome found (λ t. length t.rest.now < length text.now)) }
+{
+    let Some(count) = token_length(with.readtable, text) else {
+        return Ok(None);
+    };
+    if count == 0 || count > with.limits.token {
+        return Ok(None);
+    }
+    let bytes = &text[..count];
+    let rest = &text[count..];
+    match meaning(with, bytes)? {
+        None => Ok(None),
+        Some(object) => Ok(Some(Taken {
+            token: true,
+            object,
+            rest,
+        })),
+    }
+}
+
+/// How many bytes at the front of the text a token has there; None where it has an escape, or nothing ends it.
+fn token_length(readtable: &Readtable, text: &[u8]) -> Option<usize>
+    ensures run { IfSome result (IsRun readtable.now text.now) }
+    ensures within { IfSome result (λ n. n < length text.now) }
+{
+    for (i, c) in text.iter().enumerate() {
+        match kind(readtable, *c) {
+            Syntax::Constituent => {
+                if traits_of(*c).is_invalid() {
+                    return None;
+                }
+            }
+            Syntax::Whitespace | Syntax::TerminatingMacro => return Some(i),
+            _ => return None,
+        }
+    }
+    None
+}
+
+/// The syntax type of a byte, which is no character over 127.
+#[inline(always)]
+fn kind(readtable: &Readtable, c: u8) -> Syntax
+    ensures { result ≡ kind (typed readtable.now c) }
+{
+    if c < 128 {
+        readtable.syntax(c)
+    } else {
+        Syntax::Invalid
+    }
+}
+
+/// The object that a token of these bytes is.
+fn meaning(with: &Context<'_>, bytes: &[u8]) -> Result<Option<SoundObject>, AllocError>
+    requires some { 0 < length bytes.now }
+    requires ascii { list_all is_ascii bytes.now ≡ true }
+    ensures { IfOk result (λ found. IfSome found (IsToken with.now bytes.now)) }
+{
+    through_marks(with, bytes)
+}
+
+/// The same, over its marks.
+fn through_marks(with: &Context<'_>, bytes: &[u8]) -> Result<Option<SoundObject>, AllocError>
+    requires some { 0 < length bytes.now }
+    requires ascii { list_all is_ascii bytes.now ≡ true }
+    ensures { IfOk result (λ found. IfSome found (IsToken with.now bytes.now)) }
+{
+    let case = with.readtable.case();
+    let marks = marks(with.alloc, bytes)?;
+    match tell(
+        with.alloc,
+        case,
+        with.packages,
+        with.current,
+        with.base,
+        marks,
+    ) {
+        Ok(Told::Object(x)) => Ok(Some(SoundObject::of_held(x))),
+        Ok(Told::Dot) => Ok(None),
+        Err(TellError::OutOfMemory) => Err(AllocError),
+        Err(TellError::Refused(_)) => Ok(None),
+    }
+}
+
+/// The marks of these bytes.
+fn marks(alloc: Global, bytes: &[u8]) -> Result<Marks, AllocError>
+    ensures { IfOk result (λ marks. marks.items ≡ marks_of bytes.now) }
+{
+    let mut marks: Marks = SmallVec::new(alloc);
+    for c in bytes {
+        marks.push(Mark::Plain(*c))?;
+    }
+    Ok(marks)
+}
