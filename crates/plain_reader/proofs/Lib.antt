@@ -3,6 +3,7 @@ mod Coming
 mod Fronts
 mod Items
 mod Listing
+mod Names
 mod Runs
 mod Strings
 mod Whole

@@ -2,3 +2,4 @@ pub mod Coming
 pub mod Plain
 pub mod Texts
 pub mod Tokens
+pub mod Words

@@ -10,7 +10,8 @@
 //!
 //! - `plain`: `PlainForm`, `read_plain`
 //! - `context`: what reading is handed; `sound`: what is held while lists are open
-//! - `objects`: lists, quoted objects, texts; `tokens`: where a token ends, and what it means
+//! - `objects`: lists, quoted objects, texts
+//! - `tokens`: where a token ends, and what it means; `words`: names and integers that are seen from their bytes
 #![tactic(auto)]
 
 mod context;
@@ -18,5 +19,6 @@ mod objects;
 mod plain;
 mod sound;
 mod tokens;
+mod words;
 
 pub use plain::{PlainForm, read_plain};

@@ -3,6 +3,7 @@ ghost use Rattle.std.specs.Prelude.{◌≡◌, ◌≤◌, ◌<◌, ℕ, List, �
 ghost use Rattle.std.specs.List.{list_all};
 ghost use Rattle.lisp_object.specs.Object.{IsSound};
 ghost use Rattle.lisp_object.specs.Datum.{object_of, is_proper};
+ghost use Rattle.readtable_core.specs.declared.table.Case.TheVariants.{Upcase};
 ghost use Rattle.readtable_core.specs.Tables.{entry_at};
 ghost use Rattle.package_table.specs.Table.{IsPackage};
 ghost use Rattle.user_macros.specs.Functions.{Functions};
@@ -15,7 +16,7 @@ use lisp_object::Datum;
 use lisp_reading::Limits;
 use package_table::Packages;
 use readtable_core::standard_names::{STD_LIST, STD_QUOTE, STD_STRING};
-use readtable_core::{Readtable, Syntax};
+use readtable_core::{Case, Readtable, Syntax};
 use std::alloc::{AllocError, Global};
 
 /// A form that begins a text: its object, and its end.
@@ -66,6 +67,7 @@ pub fn read_plain(
                 base,
                 packages,
                 current,
+                standard: base == 10 && is_upcase(readtable.case()),
                 quotes: calls(readtable, b'\'', STD_QUOTE),
                 texts: calls(readtable, b'"', STD_STRING),
             };
@@ -95,4 +97,10 @@ fn is_blank(readtable: &Readtable, c: u8) -> bool
     ensures { result ≡ is_whitespace readtable.now c }
 {
     matches!(readtable.syntax(c), Syntax::Whitespace)
+}
+
+fn is_upcase(case: Case) -> bool
+    ensures { IsTrue result → case ≡ Upcase }
+{
+    matches!(case, Case::Upcase)
 }

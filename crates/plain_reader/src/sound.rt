@@ -2,7 +2,7 @@
 ghost use Rattle.std.specs.Prelude.{◌≡◌, [], ◌∷◌, ◌++◌, true, codes, pos, IfOk, OnOk};
 ghost use Rattle.std.specs.List.{list_all};
 ghost use Rattle.lisp_object.specs.Ascii.{is_ascii};
-ghost use Rattle.lisp_object.specs.Object.{IsSound, text, symbol, list_of};
+ghost use Rattle.lisp_object.specs.Object.{IsSound, integer, text, symbol, list_of};
 ghost use Rattle.lisp_object.specs.Datum.{object_of, is_proper};
 ghost use Rattle.std_macros.specs.Values.{headed};
 
@@ -53,6 +53,29 @@ impl SoundObject {
         }
     }
 
+    /// An integer.
+    pub fn integer(n: u64) -> SoundObject
+        ensures { result ≡ integer (pos n) }
+    {
+        SoundObject {
+            datum: Datum::Integer(i128::from(n)),
+        }
+    }
+
+    /// A symbol, by its home and its name.
+    pub fn symbol(home: Bytes, name: Bytes) -> SoundObject
+        requires home { list_all is_ascii home ≡ true }
+        requires name { list_all is_ascii name ≡ true }
+        ensures { result ≡ symbol home name }
+    {
+        SoundObject {
+            datum: Datum::Symbol {
+                package: home,
+                name,
+            },
+        }
+    }
+
     /// The list of QUOTE and this object.
     pub fn quoted(self, alloc: Global) -> Result<SoundObject, AllocError>
         ensures { IfOk result (λ x. x ≡ headed (codes "QUOTE") self) }
@@ -78,12 +101,9 @@ impl SoundObject {
 fn quote(alloc: Global) -> Result<SoundObject, AllocError>
     ensures { IfOk result (λ x. x ≡ symbol (codes "COMMON-LISP") (codes "QUOTE")) }
 {
-    Ok(SoundObject {
-        datum: Datum::Symbol {
-            package: Bytes::from_slice(alloc, b"COMMON-LISP")?,
-            name: Bytes::from_slice(alloc, b"QUOTE")?,
-        },
-    })
+    let home = Bytes::from_slice(alloc, b"COMMON-LISP")?;
+    let name = Bytes::from_slice(alloc, b"QUOTE")?;
+    Ok(SoundObject::symbol(home, name))
 }
 
 /// Such data in order, which contracts see as their objects.

@@ -10,6 +10,7 @@ ghost use Rattle.plain_reader.specs.Tokens.{IsRun, IsToken, marks_of};
 use crate::context::Context;
 use crate::objects::Taken;
 use crate::sound::SoundObject;
+use crate::words::{decimal, is_word, word};
 use lisp_reading::{TellError, Told, tell};
 use readtable_core::{Readtable, Syntax, traits_of};
 use smallvec::SmallVec;
@@ -77,6 +78,14 @@ fn meaning(with: &Context<'_>, bytes: &[u8]) -> Result<Option<SoundObject>, Allo
     requires ascii { list_all is_ascii bytes.now ≡ true }
     ensures { IfOk result (λ found. IfSome found (IsToken with.now bytes.now)) }
 {
+    if with.standard {
+        if is_word(bytes) {
+            return word(with, bytes);
+        }
+        if let Some(n) = decimal(bytes) {
+            return Ok(Some(SoundObject::integer(n)));
+        }
+    }
     through_marks(with, bytes)
 }
 

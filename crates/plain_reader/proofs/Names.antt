@@ -1,0 +1,266 @@
+-- A token that is a word is a name.
+use Rattle.std.proofs.Common.{◌≡◌, ℕ, suc, ◌+◌, ◌-◌, ◌*◌, ◌^◌, ◌<◌, ◌≤◌, pos, length, take, get_or, lit≤, add-one, length-append, Bool, true, false, not, ◌&&◌, ◌||◌, List, [], ◌∷◌, ◌++◌, map, None, Some, Result, Ok, Err, IfSome, IfOk, IsTrue, refl, sym, ap, subst, ◌∙◌, inl, inr, arith}
+use Rattle.std.specs.Prelude.{◌==◌, if◌then◌else◌, nat_lt, nat_le, MatchResult}
+use Rattle.std.specs.List.{list_all, list_any, slice_split}
+use Rattle.std.specs.Char.{digit_value}
+use Rattle.std.proofs.lemmas.Bool.{and_parts, and_from, or_left, not-true, ltb-true, ltb-false, lt-ltb, le-ltb, leb-true, ne_eqb, both_ways}
+use Rattle.std.proofs.lemmas.Bool.Decides.{nat_tests}
+use Rattle.std.proofs.lemmas.List.{take_all, take_more}
+use Rattle.std.proofs.lemmas.List.Folds.{list_all_more}
+use Rattle.std.proofs.Math.Nat.{pow-suc, pow-zero}
+use Rattle.lisp_object.specs.Ascii.{is_ascii}
+use Rattle.lisp_object.specs.Object.{Object, integer, symbol}
+use Rattle.readtable_core.specs.Characters.{is_lower_case, upper_case, is_digit}
+use Rattle.readtable_core.specs.declared.table.Case.{Case}
+use Rattle.readtable_core.specs.declared.table.Case.TheVariants.{Upcase}
+use Rattle.token_scan.specs.declared.mark.Mark.{Mark}
+use Rattle.token_scan.specs.declared.mark.Mark.TheVariants.{Plain, Quoted, Bar}
+use Rattle.token_scan.specs.Marks.{characters}
+use Rattle.token_meaning.specs.declared.refusal.MeaningRefusal.{MeaningRefusal}
+use Rattle.token_meaning.specs.declared.refusal.MeaningRefusal.TheVariants.{NumberRange}
+use Rattle.token_meaning.specs.declared.token.TokenName.TheVariants.{Unqualified}
+use Rattle.token_meaning.specs.Folding.{on_plain, folded}
+use Rattle.token_meaning.specs.Numerals.{is_digit_in, is_sign, is_empty, is_numeral, are_digits, value}
+use Rattle.token_meaning.specs.Numbers.{is_point, integer_of, number_of}
+use Rattle.token_meaning.specs.Grammar.{Sign, absent, plus, minus, spelled, IsNumber}
+use Rattle.token_meaning.specs.Meanings.{Meaning, number, name, is_plain, is_package_marker, pattern, name_of, dots_of, number_or_name, meaning_of}
+use Rattle.token_meaning.proofs.Forms.{found}
+use Rattle.token_meaning.proofs.Spelled.{digits_given}
+use Rattle.package_table.specs.Resolving.{Resolution, home_of, resolution}
+use Rattle.lisp_reading.specs.Naming.{told_of, symbol_in}
+use Rattle.lisp_reading.specs.declared.told.Told.TheVariants.{Object as told_object}
+use Rattle.plain_reader.specs.declared.context.Context.{Context}
+use Rattle.plain_reader.specs.Tokens.{marks_of, IsToken}
+use Rattle.plain_reader.specs.Words.{is_word}
+
+-- ---- what begins no number is none
+
+abbrev pub begins_number : ℕ → Bool
+begins_number c = is_digit_in 10 c || (is_sign c || is_point c)
+
+abbrev begins : List ℕ → Bool
+begins [] = false
+begins (c ∷ cs) = begins_number c
+
+signed_begins : (sign : Sign) (body : List ℕ) → begins body ≡ true → begins (spelled sign ++ body) ≡ true
+signed_begins absent body e = e
+signed_begins plus body e = refl
+signed_begins minus body e = refl
+
+numeral_begins : (ds more : List ℕ) → is_numeral 10 ds ≡ true → begins (ds ++ more) ≡ true
+numeral_begins [] more e = absurd cc
+numeral_begins (d ∷ ds) more e = or_left (is_digit_in 10 d) _ (and_parts (is_digit_in 10 d) (are_digits 10 ds) e).0
+
+bare_numeral_begins : (ds : List ℕ) → is_numeral 10 ds ≡ true → begins ds ≡ true
+bare_numeral_begins [] e = absurd cc
+bare_numeral_begins (d ∷ ds) e = or_left (is_digit_in 10 d) _ (and_parts (is_digit_in 10 d) (are_digits 10 ds) e).0
+
+point_begins : (ds more : List ℕ) → are_digits 10 ds ≡ true → begins (ds ++ 46 ∷ more) ≡ true
+point_begins [] more e = refl
+point_begins (d ∷ ds) more e = or_left (is_digit_in 10 d) _ (and_parts (is_digit_in 10 d) (are_digits 10 ds) e).0
+
+number_begins : (text : List ℕ) (given : Result Object MeaningRefusal) → IsNumber 10 text given → begins text ≡ true
+number_begins text given (inl (negative, size, inl h, is)) = ap begins h.parts ∙ signed_begins h.sign h.digits (bare_numeral_begins h.digits h.numeral)
+number_begins text given (inl (negative, size, inr h, is)) = ap begins h.parts ∙ signed_begins h.sign _ (numeral_begins h.digits _ h.numeral)
+number_begins text given (inr (inl (negative, numerator, denominator, h, is))) = ap begins h.parts ∙ signed_begins h.sign _ (numeral_begins h.above _ h.numeral_above)
+number_begins text given (inr (inr (inl h, is))) = ap begins h.parts ∙ signed_begins h.sign _ (point_begins h.whole _ h.digits)
+number_begins text given (inr (inr (inr h, is))) = ap begins h.parts ∙ signed_begins h.sign _ (numeral_begins h.whole _ h.numeral)
+
+no_number : (text : List ℕ) → begins text ≡ false → number_of 10 text ≡ None
+no_number text e =
+    elim (number_of 10 text) as (λ o. IfSome o (IsNumber 10 text) → o ≡ None) [
+      | None ↦ λ _. refl
+      | Some given ↦ λ is. absurd (both_ways (begins text) e (number_begins text given is))
+    ] (found 10 text)
+
+-- ---- characters beyond the digits
+
+beyond_digits : (c : ℕ) → 58 ≤ c → 10 ≤ digit_value c
+beyond_digits c h = grind (arith, nat_tests)
+
+beyond : (c : ℕ) → 58 ≤ c → begins_number c ≡ false
+beyond c h =
+    let digit : is_digit_in 10 c ≡ false = le-ltb (digit_value c) 10 (beyond_digits c h) in
+    let plus_sign : (c == 43) ≡ false = ne_eqb c 43 (λ e. omega arith) in
+    let minus_sign : (c == 45) ≡ false = ne_eqb c 45 (λ e. omega arith) in
+    let point : (c == 46) ≡ false = ne_eqb c 46 (λ e. omega arith) in
+    rw (digit, plus_sign, minus_sign, point) refl
+
+upper_by : (c : ℕ) (b : Bool) → is_lower_case c ≡ b → 58 ≤ c → 58 ≤ (if b then c - 32 else c)
+upper_by c true e h =
+    let low : (nat_le 97 c ≡ true) × (nat_le c 122 ≡ true) = and_parts (nat_le 97 c) (nat_le c 122) e in
+    let more : 97 ≤ c = leb-true 97 c low.0 in
+    omega arith
+upper_by c false e h = h
+
+upper_beyond : (c : ℕ) → 58 ≤ c → 58 ≤ upper_case c
+upper_beyond c h = upper_by c (is_lower_case c) refl h
+
+-- ---- marks of plain characters
+
+pub plain_all : (cs : List ℕ) → list_all is_plain (marks_of cs) ≡ true
+plain_all [] = refl
+plain_all (c ∷ cs) = plain_all cs
+
+pub plain_characters : (cs : List ℕ) → characters (marks_of cs) ≡ cs
+plain_characters [] = refl
+plain_characters (c ∷ cs) = ap (λ (ds : List ℕ). c ∷ ds) (plain_characters cs)
+
+pub upcased : (cs : List ℕ) → folded Upcase (marks_of cs) ≡ marks_of (map upper_case cs)
+upcased [] = refl
+upcased (c ∷ cs) = ap (λ (ms : List Mark). Plain (upper_case c) ∷ ms) (upcased cs)
+
+no_colon_by : (c : ℕ) (b : Bool) → is_lower_case c ≡ b → (c == 58) ≡ false → ((if b then c - 32 else c) == 58) ≡ false
+no_colon_by c true e h =
+    let low : (nat_le 97 c ≡ true) × (nat_le c 122 ≡ true) = and_parts (nat_le 97 c) (nat_le c 122) e in
+    let more : 97 ≤ c = leb-true 97 c low.0 in
+    ne_eqb (c - 32) 58 (λ e. omega arith)
+no_colon_by c false e h = h
+
+none_of : (b d : Bool) → (b || d) ≡ false → (b ≡ false) × (d ≡ false)
+none_of false false e = (refl, refl)
+none_of true d e = absurd cc
+none_of false true e = absurd cc
+
+unmarked : (cs : List ℕ) → list_any (λ c. c == 58) cs ≡ false → list_any is_package_marker (marks_of (map upper_case cs)) ≡ false
+unmarked [] e = refl
+unmarked (c ∷ cs) e =
+    let both : ((c == 58) ≡ false) × (list_any (λ c. c == 58) cs ≡ false) = none_of (c == 58) (list_any (λ c. c == 58) cs) e in
+    rw (no_colon_by c (is_lower_case c) refl both.0, unmarked cs both.1) refl
+
+whole_part : (marks : List Mark) → list_any is_package_marker marks ≡ false → slice_split is_package_marker marks ≡ marks ∷ []
+whole_part [] h = refl
+whole_part (m ∷ ms) h =
+    let both : (is_package_marker m ≡ false) × (list_any is_package_marker ms ≡ false) = none_of (is_package_marker m) (list_any is_package_marker ms) h in
+    rw (both.0, whole_part ms both.1) refl
+
+-- ---- words
+
+by_first : (c : ℕ) (cs : List ℕ) → 58 ≤ c → meaning_of 10 (marks_of (c ∷ cs)) ≡ name_of (marks_of (c ∷ cs))
+by_first c cs h =
+    let fails : begins_number c ≡ false = beyond c h in
+    let no_point : (c == 46) ≡ false = ne_eqb c 46 (λ e. omega arith) in
+    let none : number_of 10 (c ∷ characters (marks_of cs)) ≡ None = no_number (c ∷ characters (marks_of cs)) fails in
+    rw (plain_all cs, no_point, none) refl
+
+pub word_means : (cs : List ℕ) → is_word cs ≡ true → meaning_of 10 (folded Upcase (marks_of cs)) ≡ Ok (name (Unqualified (map upper_case cs)))
+word_means [] e = absurd cc
+word_means (c ∷ cs) e =
+    let both : (nat_lt 57 c ≡ true) × (not (list_any (λ c. c == 58) (c ∷ cs)) ≡ true) = and_parts (nat_lt 57 c) (not (list_any (λ c. c == 58) (c ∷ cs))) e in
+    let above : 57 < c = ltb-true 57 c both.0 in
+    let none : list_any is_package_marker (marks_of (map upper_case (c ∷ cs))) ≡ false = unmarked (c ∷ cs) (not-true _ both.1) in
+    ap (meaning_of 10) (upcased (c ∷ cs))
+    ∙ by_first (upper_case c) (map upper_case cs) (upper_beyond c (omega arith))
+    ∙ ap pattern (whole_part (marks_of (map upper_case (c ∷ cs))) none)
+    ∙ ap (λ (own : List ℕ). Ok (name (Unqualified own))) (plain_characters (map upper_case (c ∷ cs)))
+
+upper_ascii_by : (c : ℕ) (b : Bool) → nat_lt c 128 ≡ true → nat_lt (if b then c - 32 else c) 128 ≡ true
+upper_ascii_by c true e = let below : c < 128 = ltb-true c 128 e in lt-ltb (c - 32) 128 (omega arith)
+upper_ascii_by c false e = e
+
+pub upper_ascii : (cs : List ℕ) → list_all is_ascii cs ≡ true → list_all is_ascii (map upper_case cs) ≡ true
+upper_ascii [] e = refl
+upper_ascii (c ∷ cs) e =
+    let both : (is_ascii c ≡ true) × (list_all is_ascii cs ≡ true) = and_parts (is_ascii c) (list_all is_ascii cs) e in
+    and_from (is_ascii (upper_case c)) (list_all is_ascii (map upper_case cs)) (upper_ascii_by c (is_lower_case c) both.0) (upper_ascii cs both.1)
+
+-- a word is the symbol that its name is resolved to
+pub word_token : (with : Context) (bytes own : List ℕ) (r : Resolution) (x : Object) → with.standard ≡ true → is_word bytes ≡ true → own ≡ map upper_case bytes
+    → resolution with.packages.now.0 with.current.now own ≡ Ok r → x ≡ symbol (home_of r) own → IsToken with bytes x
+word_token with bytes own r x standard word e found is =
+    let base : with.base ≡ 10 = with.numbers standard in
+    let case : with.readtable.now.letters ≡ Upcase = with.case standard in
+    (λ i. told_of with.packages.now.0 with.current.now (meaning_of (base i) (folded (case i) (marks_of bytes))))
+    ∙ ap (told_of with.packages.now.0 with.current.now) (word_means bytes word)
+    ∙ ap (λ (own : List ℕ). symbol_in own (resolution with.packages.now.0 with.current.now own)) (sym e)
+    ∙ ap (symbol_in own) found
+    ∙ ap (λ (x : Object). Ok (told_object x)) (sym is)
+
+-- ---- decimal integers
+
+digit_worth : (c : ℕ) → is_digit c ≡ true → digit_value c ≡ c - 48
+digit_worth c e =
+    let both : (nat_le 48 c ≡ true) × (nat_le c 57 ≡ true) = and_parts (nat_le 48 c) (nat_le c 57) e in
+    let low : 48 ≤ c = leb-true 48 c both.0 in
+    let high : c ≤ 57 = leb-true c 57 both.1 in
+    rw (le-ltb c 48 low, lt-ltb c 58 (omega arith)) refl
+
+digit_in : (c : ℕ) → is_digit c ≡ true → is_digit_in 10 c ≡ true
+digit_in c e =
+    let both : (nat_le 48 c ≡ true) × (nat_le c 57 ≡ true) = and_parts (nat_le 48 c) (nat_le c 57) e in
+    let low : 48 ≤ c = leb-true 48 c both.0 in
+    let high : c ≤ 57 = leb-true c 57 both.1 in
+    rw (digit_worth c e) (lt-ltb (c - 48) 10 (omega arith))
+
+pub digits_more : (text : List ℕ) (i : ℕ) → i < length text → are_digits 10 (take i text) ≡ true → is_digit (get_or text i 0) ≡ true
+    → are_digits 10 (take (i + 1) text) ≡ true
+digits_more text i lt before is =
+    list_all_more (is_digit_in 10) text i 0 lt ∙ and_from (are_digits 10 (take i text)) (is_digit_in 10 (get_or text i 0)) before (digit_in (get_or text i 0) is)
+
+shifted : (base d power sum c : ℕ) → d * (power * base) + (sum * base + c) ≡ (d * power + sum) * base + c
+shifted base d power sum c = omega arith
+
+value_more : (base : ℕ) (ds : List ℕ) (c : ℕ) → value base (ds ++ c ∷ []) ≡ value base ds * base + digit_value c
+unfolding value
+value_more base [] c = rw (pow-zero base) (omega arith)
+value_more base (d ∷ ds) c =
+    rw (length-append ds (c ∷ []), add-one (length ds), pow-suc base (length ds), value_more base ds c)
+    (shifted base (digit_value d) (base ^ length ds) (value base ds) (digit_value c))
+
+pub value_none : 0 ≡ value 10 []
+unfolding value
+value_none = refl
+
+pub worth_more : (text : List ℕ) (i n m : ℕ) → i < length text → n ≡ value 10 (take i text) → is_digit (get_or text i 0) ≡ true
+    → m ≡ n * 10 + (get_or text i 0 - 48) → m ≡ value 10 (take (i + 1) text)
+worth_more text i n m lt before is e =
+    let digit : digit_value (get_or text i 0) ≡ get_or text i 0 - 48 = digit_worth (get_or text i 0) is in
+    let more : value 10 (take (i + 1) text) ≡ value 10 (take i text) * 10 + digit_value (get_or text i 0) =
+    ap (value 10) (take_more text i 0 lt) ∙ value_more 10 (take i text) (get_or text i 0) in
+    omega (arith, digit, more, before, e)
+
+pub whole_numeral : (text : List ℕ) (i n : ℕ) → length text ≤ i → (length text ≡ 0 → ⊥) → are_digits 10 (take i text) ≡ true → n ≡ value 10 (take i text)
+    → (is_numeral 10 text ≡ true) × (n ≡ value 10 text)
+whole_numeral [] i n all some digits worth = absurd (some refl)
+whole_numeral (c ∷ cs) i n all some digits worth =
+    let same : take i (c ∷ cs) ≡ c ∷ cs = take_all i (c ∷ cs) all in
+    (ap (are_digits 10) (sym same) ∙ digits, worth ∙ ap (value 10) same)
+
+same_digit : (c : ℕ) → is_digit_in 10 c ≡ true → upper_case c ≡ c
+same_digit c e = grind (arith, nat_tests, e)
+
+same_digits : (cs : List ℕ) → are_digits 10 cs ≡ true → map upper_case cs ≡ cs
+same_digits [] e = refl
+same_digits (c ∷ cs) e =
+    let both : (is_digit_in 10 c ≡ true) × (are_digits 10 cs ≡ true) = and_parts (is_digit_in 10 c) (are_digits 10 cs) e in
+    λ i. same_digit c both.0 i ∷ same_digits cs both.1 i
+
+digit_no_point : (c : ℕ) → is_digit_in 10 c ≡ true → (c == 46) ≡ false
+digit_no_point c e = ne_eqb c 46 (λ same. let never : is_digit_in 10 46 ≡ true = ap (is_digit_in 10) (sym same) ∙ e in absurd cc)
+
+numeral_means : (cs : List ℕ) → is_numeral 10 cs ≡ true → value 10 cs < 2 ^ 127 → meaning_of 10 (marks_of cs) ≡ Ok (number (integer (pos (value 10 cs))))
+numeral_means [] e small = absurd cc
+numeral_means (c ∷ cs) e small =
+    let both : (is_digit_in 10 c ≡ true) × (are_digits 10 cs ≡ true) = and_parts (is_digit_in 10 c) (are_digits 10 cs) e in
+    let no_point : (c == 46) ≡ false = digit_no_point c both.0 in
+    let digits : number_of 10 (c ∷ cs) ≡ Some (integer_of false (value 10 (c ∷ cs))) =
+    digits_given 10 (c ∷ cs) false (value 10 (c ∷ cs)) (lit≤ tt)
+    (record { sign = absent; digits = c ∷ cs; numeral = e; parts = refl; below_zero = refl; worth = refl }) in
+    let in_range : nat_lt (value 10 (c ∷ cs)) (2 ^ 127) ≡ true = lt-ltb (value 10 (c ∷ cs)) (2 ^ 127) small in
+    let given : number_of 10 (c ∷ characters (marks_of cs)) ≡ Some (Ok (integer (pos (value 10 (c ∷ cs))))) =
+    ap (λ (ds : List ℕ). number_of 10 (c ∷ ds)) (plain_characters cs) ∙ digits
+    ∙ ap (λ (b : Bool). Some (if b then Ok (integer (pos (value 10 (c ∷ cs)))) else Err NumberRange)) in_range in
+    rw (plain_all cs, no_point, given) refl
+
+pub decimal_token : (with : Context) (bytes : List ℕ) (n : ℕ) (x : Object) → with.standard ≡ true → (is_numeral 10 bytes ≡ true) × (n ≡ value 10 bytes) → n < 2 ^ 64
+    → x ≡ integer (pos n) → IsToken with bytes x
+decimal_token with bytes n x standard is small e =
+    let base : with.base ≡ 10 = with.numbers standard in
+    let case : with.readtable.now.letters ≡ Upcase = with.case standard in
+    let digits : are_digits 10 bytes ≡ true = (and_parts (not (is_empty bytes)) (are_digits 10 bytes) is.0).1 in
+    let low : value 10 bytes < 2 ^ 127 = let worth = is.1 in omega arith in
+    (λ i. told_of with.packages.now.0 with.current.now (meaning_of (base i) (folded (case i) (marks_of bytes))))
+    ∙ ap (λ ms. told_of with.packages.now.0 with.current.now (meaning_of 10 ms)) (upcased bytes ∙ ap marks_of (same_digits bytes digits))
+    ∙ ap (told_of with.packages.now.0 with.current.now) (numeral_means bytes is.0 low)
+    ∙ ap (λ (n : ℕ). Ok (told_object (integer (pos n)))) (sym is.1)
+    ∙ ap (λ (x : Object). Ok (told_object x)) (sym e)

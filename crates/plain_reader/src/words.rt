@@ -1,0 +1,110 @@
+//! Names without a package prefix, and integers, seen from their bytes.
+ghost use Rattle.std.specs.Prelude.{◌≡◌, ◌+◌, ◌*◌, ◌^◌, ◌-◌, ◌<◌, ◌==◌, map, not, true, IfOk, IfSome, IsTrue};
+ghost use Rattle.std.specs.List.{list_all, list_any};
+ghost use Rattle.lisp_object.specs.Ascii.{is_ascii};
+ghost use Rattle.readtable_core.specs.Characters.{upper_case, is_digit};
+ghost use Rattle.token_meaning.specs.Numerals.{is_numeral, value};
+ghost use Rattle.plain_reader.specs.Tokens.{IsToken};
+ghost use Rattle.lisp_object.specs.Object.{symbol};
+ghost use Rattle.plain_reader.specs.Words.{is_word};
+
+use crate::context::Context;
+use crate::sound::SoundObject;
+use lisp_object::Bytes;
+use package_table::Resolved;
+use std::alloc::{AllocError, Global};
+
+/// Whether the first byte begins no number, and no byte is a colon.
+pub(crate) fn is_word(bytes: &[u8]) -> bool
+    ensures { result ≡ is_word bytes.now }
+{
+    match bytes {
+        [] => false,
+        [c, ..] => *c > b'9' && !has_colon(bytes),
+    }
+}
+
+fn has_colon(bytes: &[u8]) -> bool
+    ensures { result ≡ list_any (λ c. c == 58) bytes.now }
+{
+    bytes.iter().any(|c| *c == b':')
+}
+
+/// The symbol of such a token.
+pub(crate) fn word(with: &Context<'_>, bytes: &[u8]) -> Result<Option<SoundObject>, AllocError>
+    requires standard { IsTrue with.now.standard }
+    requires word { IsTrue (is_word bytes.now) }
+    requires ascii { list_all is_ascii bytes.now ≡ true }
+    ensures { IfOk result (λ found. IfSome found (IsToken with.now bytes.now)) }
+{
+    with.packages.soundness();
+    let name = upcased(with.alloc, bytes)?;
+    match with.packages.resolve(with.current, name.as_slice()) {
+        Ok(Resolved::Found(home)) => Ok(Some(symbol(with.alloc, home, name)?)),
+        Ok(Resolved::New(home)) => Ok(Some(symbol(with.alloc, home, name)?)),
+        Err(_) => Ok(None),
+    }
+}
+
+fn symbol(alloc: Global, home: &[u8], name: Bytes) -> Result<SoundObject, AllocError>
+    requires home { list_all is_ascii home.now ≡ true }
+    requires name { list_all is_ascii name ≡ true }
+    ensures { IfOk result (λ x. x ≡ symbol home.now name) }
+{
+    let home = Bytes::from_slice(alloc, home)?;
+    Ok(SoundObject::symbol(home, name))
+}
+
+fn upcased(alloc: Global, bytes: &[u8]) -> Result<Bytes, AllocError>
+    ensures { IfOk result (λ name. name ≡ map upper_case bytes.now) }
+{
+    let mut name = Vec::from_slice(alloc, bytes)?;
+    upcase(name.as_mut_slice());
+    Ok(Bytes::from_vec(name))
+}
+
+fn upcase(name: &mut [u8])
+    ensures { name.new ≡ map upper_case name.old }
+{
+    for c in name.iter_mut() {
+        *c = upper_case(*c);
+    }
+}
+
+fn upper_case(c: u8) -> u8
+    ensures { result ≡ upper_case c }
+{
+    if c.is_ascii_lowercase() { c - 32 } else { c }
+}
+
+/// The number that decimal digits write, where there are no others and it is below 2^64.
+pub(crate) fn decimal(bytes: &[u8]) -> Option<u64>
+    ensures value { IfSome result (λ n. (is_numeral 10 bytes.now ≡ true) × (n ≡ value 10 bytes.now)) }
+    ensures small { IfSome result (λ n. n < 2 ^ 64) }
+{
+    if bytes.is_empty() {
+        return None;
+    }
+    let mut n = 0;
+    for c in bytes {
+        if !is_digit(*c) {
+            return None;
+        }
+        n = with_digit(n, *c)?;
+    }
+    Some(n)
+}
+
+fn is_digit(c: u8) -> bool
+    ensures { result ≡ is_digit c }
+{
+    c.is_ascii_digit()
+}
+
+fn with_digit(n: u64, c: u8) -> Option<u64>
+    requires { IsTrue (is_digit c) }
+    ensures value { IfSome result (λ m. m ≡ n * 10 + (c - 48)) }
+    ensures small { IfSome result (λ m. m < 2 ^ 64) }
+{
+    n.checked_mul(10)?.checked_add(u64::from(c - b'0'))
+}
