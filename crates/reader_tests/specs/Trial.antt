@@ -6,7 +6,7 @@ use Rattle.user_macros.specs.declared.call.Gather.{Gather}
 use Rattle.user_macros.specs.declared.call.Gather.TheVariants.{Nothing, Next, Until, Text, TextSame, Line, Token}
 use Rattle.user_macros.specs.Calls.{Material, nothing, one, many, text, MacroCall, MacroAnswer, value, no_value, improper, refused}
 use Rattle.user_macros.specs.Functions.{Functions}
-use Rattle.reader_tests.specs.Large.{nested, ones, letters}
+use Rattle.reader_tests.specs.Large.{nested, ones, long_symbol}
 
 -- the ways of seven that count what they gather, and of others, in three parts
 abbrev pub last_rows : List (List ℕ × Gather)
@@ -52,7 +52,7 @@ count (text cs) = length cs
 abbrev pub large_answer : List ℕ → Option MacroAnswer
 large_answer name =
     if same_name (codes "DEEP") name then Some (value (nested 101))
-    else (if same_name (codes "LONG") name then Some (value (symbol (codes "COMMON-LISP-USER") (letters 4097)))
+    else (if same_name (codes "LONG") name then Some (value long_symbol)
     else (if same_name (codes "LARGE") name then Some (value (vector (list_of (ones 1000000)))) else None))
 
 -- what the others answer

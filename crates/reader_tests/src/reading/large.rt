@@ -1,8 +1,8 @@
 //! Answers past a limit: a list too deep, a name too long, a vector too large.
-ghost use Rattle.std.specs.Prelude.{◌≡◌, codes, IfOk};
-ghost use Rattle.lisp_object.specs.Object.{list_of, symbol, vector};
+ghost use Rattle.std.specs.Prelude.{◌≡◌, IfOk};
+ghost use Rattle.lisp_object.specs.Object.{list_of, vector};
 ghost use Rattle.user_macros.specs.Calls.{answer_of, value};
-ghost use Rattle.reader_tests.specs.Large.{letters, nested, ones};
+ghost use Rattle.reader_tests.specs.Large.{long_symbol, nested, ones};
 
 use super::trial::symbol;
 use lisp_object::{Datum, Items};
@@ -33,7 +33,7 @@ pub fn too_large(alloc: Global) -> Result<Answer, AllocError>
 
 /// A symbol of COMMON-LISP-USER whose name has 4,097 letters.
 pub fn too_long(alloc: Global) -> Result<Answer, AllocError>
-    ensures { IfOk result (λ a. answer_of a ≡ value (symbol (codes "COMMON-LISP-USER") (letters 4097))) }
+    ensures { IfOk result (λ a. answer_of a ≡ value long_symbol) }
 {
     symbol(alloc, b"COMMON-LISP-USER", &[b'A'; 4_097])
 }
