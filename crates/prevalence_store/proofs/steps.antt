@@ -11,6 +11,7 @@ pub mod Pacing
 pub mod Renewing
 pub mod Pieces
 pub mod Places
+pub mod PlainForms
 pub mod EndedAt
 pub mod Answering
 pub mod Inputs

@@ -6,7 +6,7 @@ use Rattle.lisp_object.specs.declared.refusal.TheConstants.{DEVICE, INPUT, NO_ME
 use Rattle.user_macros.specs.Functions.{Functions}
 use Rattle.prevalence_store.specs.declared.outcome.Ended.{Ended}
 use Rattle.prevalence_store.specs.declared.outcome.Wanted.{Wanted}
-use Rattle.store_commands.specs.Commands.{IsEarlyFault, IsUntouched, Performs, PerformsAtTerminal, PerformsInTurn, Sits, TellsUnopened}
+use Rattle.store_commands.specs.Commands.{IsEarlyFault, IsUntouched, Performs, PerformsAtTerminal, PerformsInTurn, TellsUnopened}
 use Rattle.store_commands.specs.Sessions.{AreSessions}
 use Rattle.store_commands.specs.Status.{HasFaultNumber, IsFaultNumber, status_of_ended}
 use Rattle.store_commands.specs.Told.{IsToldOf}
@@ -20,21 +20,16 @@ use Rattle.store_commands.proofs.Statuses.{end_at, taken_at_end}
 use Rattle.store_commands.proofs.Tasks.{performs_nothing}
 use Rattle.store_commands.proofs.Turns.{earlier_go}
 
-module _ (functions : Functions) {D R : Type 0} (state : D → State) (macros : R) (whole : Bool)
-    {I O : Type 0} (remaining : I → Option (List ℕ)) (contents : O → Option (List ℕ)) (input left : I) (held written : O) (told : Told) (folder : Text) where
+module _ (functions : Functions) {I O : Type 0} (remaining : I → Option (List ℕ)) (contents : O → Option (List ℕ)) (input left : I) (held written : O) (told : Told) (folder : Text) where
   -- ---- sessions in a row
 
   abbrev InARow : Wanted → Status → Type 0
-  InARow wanted status = PerformsInTurn functions state macros whole remaining contents input left held written folder wanted status told
-
-  abbrev Sitting : Wanted → Status → Type 0
-  Sitting wanted status = Sits functions state macros whole remaining contents input left held written wanted status told
+  InARow wanted status = PerformsInTurn functions remaining contents input left held written folder wanted status told
 
   -- a fault before anything was read or written
   row_untouched : (wanted : Wanted) (given : ℕ) → IsUntouched input left held written → IsFaultNumber given → (folder ≡ [] → IsEarlyFault (Fault given))
-      → Sitting wanted (Fault given) → InARow wanted (Fault given)
-  row_untouched wanted given same number nameless sits = record {
-    sits = sits;
+      → InARow wanted (Fault given)
+  row_untouched wanted given same number nameless = record {
     taken = tt;
     nameless = λ none. (nameless none, same);
     unopened = λ other is of. same;
@@ -46,25 +41,58 @@ module _ (functions : Functions) {D R : Type 0} (state : D → State) (macros : 
   -- there is no memory, no seed, or the folder is not opened
   pub row_nothing : (wanted : Wanted) (status : Status) → IsEarlyFault status → IsUntouched input left held written → InARow wanted status
   row_nothing wanted status (inl is) same =
-      subst (InARow wanted) (sym is) (row_untouched wanted NO_MEMORY same (inr (inr refl)) (λ none. inl refl) (inl (inl refl, same)))
+      subst (InARow wanted) (sym is) (row_untouched wanted NO_MEMORY same (inr (inr refl)) (λ none. inl refl))
   row_nothing wanted status (inr (inl is)) same =
-      subst (InARow wanted) (sym is) (row_untouched wanted INPUT same (inr (inl (omega arith, omega arith))) (λ none. inr (inl refl)) (inl (inr (inl refl), same)))
+      subst (InARow wanted) (sym is) (row_untouched wanted INPUT same (inr (inl (omega arith, omega arith))) (λ none. inr (inl refl)))
   row_nothing wanted status (inr (inr is)) same =
-      subst (InARow wanted) (sym is) (row_untouched wanted DEVICE same (inl refl) (λ none. inr (inr refl)) (inl (inr (inr refl), same)))
+      subst (InARow wanted) (sym is) (row_untouched wanted DEVICE same (inl refl) (λ none. inr (inr refl)))
 
+  -- ---- each task
+
+  abbrev Performed : Task → Status → Type 0
+  Performed task status = PerformsAtTerminal functions remaining contents input left held written folder task status told
+
+  pub row_there : (task : Task) (status : Status) (wanted : Wanted) → task ≡ Run wanted → InARow wanted status → Performed task status
+  row_there task status wanted is row = subst (λ (t : Task). Performed t status) (sym is) row
+
+  -- each task but `run`
+  pub performs_there : (task : Task) (status : Status) → ((wanted : Wanted) → task ≡ Run wanted → ⊥)
+      → Performs functions remaining contents input left held written folder task status told → Performed task status
+  performs_there (Run wanted) status other given = absurd (other wanted refl)
+  performs_there Snapshot status other given = given
+  performs_there Upgrade status other given = given
+  performs_there (Export content) status other given = given
+  performs_there (Tell report) status other given = given
+
+  -- there is no memory, no seed, or the folder is not opened
+  pub nothing_there : (task : Task) (status : Status) → IsEarlyFault status → IsUntouched input left held written → Performed task status
+  nothing_there (Run wanted) status early same = row_nothing wanted status early same
+  nothing_there Snapshot status early same = performs_nothing functions remaining contents input left held written told folder Snapshot status early same
+  nothing_there Upgrade status early same = performs_nothing functions remaining contents input left held written told folder Upgrade status early same
+  nothing_there (Export content) status early same =
+      performs_nothing functions remaining contents input left held written told folder (Export content) status early same
+  nothing_there (Tell report) status early same =
+      performs_nothing functions remaining contents input left held written told folder (Tell report) status early same
+
+-- ---- over a disk
+
+module _ (functions : Functions) {D : Type 0} (state : D → State) (whole : Bool)
+    {I O : Type 0} (remaining : I → Option (List ℕ)) (contents : O → Option (List ℕ)) (input left : I) (held written : O) (told : Told) (folder : Text) where
   -- the store is not opened
   pub row_unopened : (disk back : D) (wanted : Wanted) (status : Status) → (folder ≡ [] → ⊥) → TellsUnopened functions state disk back whole status
-      → IsUntouched input left held written → InARow wanted status
+      → IsUntouched input left held written → PerformsInTurn functions remaining contents input left held written folder wanted status told
   row_unopened disk back wanted status named (number, is, unopened) same =
-      subst (InARow wanted) (sym is) (row_untouched wanted number same (number_of_opening number unopened.fault unopened.number_is)
-      (λ none. absurd (named none)) (inr (disk, back, inr ((number, refl, unopened), same))))
+      subst (λ (s : Status). PerformsInTurn functions remaining contents input left held written folder wanted s told) (sym is)
+      (row_untouched functions remaining contents input left held written told folder wanted number same (number_of_opening number unopened.fault unopened.number_is)
+      (λ none. absurd (named none)))
 
+module _ (functions : Functions) {D R : Type 0} (state : D → State) (macros : R)
+    {I O : Type 0} (remaining : I → Option (List ℕ)) (contents : O → Option (List ℕ)) (input left : I) (held written : O) (told : Told) (folder : Text) where
   pub row_of_sessions : (disk back : D) (wanted : Wanted) (status : Status) (ended : Ended) → (folder ≡ [] → ⊥) → status ≡ status_of_ended ended → IsToldOf ended told
-      → AreSessions functions wanted state disk macros (remaining input) (remaining left) (contents held) (contents written) ended back → InARow wanted status
+      → AreSessions functions wanted state disk macros (remaining input) (remaining left) (contents held) (contents written) ended back → PerformsInTurn functions remaining contents input left held written folder wanted status told
   row_of_sessions disk back wanted status ended named is tells sessions =
       let (others, mid, between, begun, there, before, earlier, last, dropped) = sessions.serves in
       record {
-        sits = inr (disk, back, inl (ended, is, tells, sessions));
         taken = taken_at_end status status ended refl is;
         nameless = λ none. absurd (named none);
         unopened = λ number fault of. absurd (no_opening_at functions wanted state mid sessions.closed between begun there before (contents written) ended number
@@ -79,37 +107,10 @@ module _ (functions : Functions) {D R : Type 0} (state : D → State) (macros : 
             );
       }
 
-  -- ---- each task
-
-  abbrev Performed : Task → Status → Type 0
-  Performed task status = PerformsAtTerminal functions state macros whole remaining contents input left held written folder task status told
-
-  pub row_there : (task : Task) (status : Status) (wanted : Wanted) → task ≡ Run wanted → InARow wanted status → Performed task status
-  row_there task status wanted is row = subst (λ (t : Task). Performed t status) (sym is) row
-
-  -- each task but `run`
-  pub performs_there : (task : Task) (status : Status) → ((wanted : Wanted) → task ≡ Run wanted → ⊥)
-      → Performs functions state macros whole remaining contents input left held written folder task status told → Performed task status
-  performs_there (Run wanted) status other given = absurd (other wanted refl)
-  performs_there Snapshot status other given = given
-  performs_there Upgrade status other given = given
-  performs_there (Export content) status other given = given
-  performs_there (Tell report) status other given = given
-
-  -- there is no memory, no seed, or the folder is not opened
-  pub nothing_there : (task : Task) (status : Status) → IsEarlyFault status → IsUntouched input left held written → Performed task status
-  nothing_there (Run wanted) status early same = row_nothing wanted status early same
-  nothing_there Snapshot status early same = performs_nothing functions state macros whole remaining contents input left held written told folder Snapshot status early same
-  nothing_there Upgrade status early same = performs_nothing functions state macros whole remaining contents input left held written told folder Upgrade status early same
-  nothing_there (Export content) status early same =
-      performs_nothing functions state macros whole remaining contents input left held written told folder (Export content) status early same
-  nothing_there (Tell report) status early same =
-      performs_nothing functions state macros whole remaining contents input left held written told folder (Tell report) status early same
-
 -- the same of what is equal
-pub moved_there : (functions : Functions) {D R I O : Type 0} (state : D → State) (macros : R) (whole : Bool) (remaining : I → Option (List ℕ)) (contents : O → Option (List ℕ))
+pub moved_there : (functions : Functions) {I O : Type 0} (remaining : I → Option (List ℕ)) (contents : O → Option (List ℕ))
     (input left : I) (held written : O) (told : Told) (e f : Text) (t u : Task) (s r : Status) → e ≡ f → t ≡ u → s ≡ r
-    → PerformsAtTerminal functions state macros whole remaining contents input left held written f u r told
-    → PerformsAtTerminal functions state macros whole remaining contents input left held written e t s told
-moved_there functions state macros whole remaining contents input left held written told e f t u s r same_folder same_task same_status given =
+    → PerformsAtTerminal functions remaining contents input left held written f u r told
+    → PerformsAtTerminal functions remaining contents input left held written e t s told
+moved_there functions remaining contents input left held written told e f t u s r same_folder same_task same_status given =
     rw (same_folder, same_task, same_status) given

@@ -1,14 +1,15 @@
 -- From what the opening of a folder gave to what is promised of it.
-use Rattle.std.proofs.Common.{◌≡◌, ◌≢◌, ◌⊎◌, ◌∙◌, Bool, List, Option, ℕ, [], Result, Ok, Err, refl, sym, ap, subst, inl, inr}
+use Rattle.std.proofs.Common.{◌≡◌, ◌≢◌, ◌⊎◌, ◌∙◌, Bool, IsTrue, true, List, Option, ℕ, [], Result, Ok, Err, refl, sym, ap, subst, inl, inr}
 use Rattle.clap.specs.Words.{Text}
 use Rattle.disk_trait.specs.declared.disk.DeviceFault.{DeviceFault}
 use Rattle.disk_trait.specs.declared.host.HostError.{HostError}
 use Rattle.disk_trait.specs.declared.host.HostError.TheVariants.{NoName}
-use Rattle.disk_trait.specs.Disk.{State}
+use Rattle.disk_trait.specs.declared.host.IfMissing.{IfMissing}
+use Rattle.disk_trait.specs.Disk.{IsHonest, State}
 use Rattle.prevalence_store.specs.declared.outcome.Wanted.{Wanted}
 use Rattle.user_macros.specs.Functions.{Functions}
 use Rattle.store_commands.specs.Commands.{DoesAfter, IsUntouched, OpensFolder, SitsAfter}
-use Rattle.store_commands.specs.Folders.{HoldsStore, LooksWhether}
+use Rattle.store_commands.specs.Folders.{HoldsStore, LooksWhether, OpensStore}
 use Rattle.store_commands.specs.declared.words.Task.{Task}
 use Rattle.store_commands.specs.declared.words.Task.TheVariants.{Export, Run, Snapshot, Tell, Upgrade}
 use Rattle.store_commands.specs.Status.{status_of_host}
@@ -44,6 +45,13 @@ module _ {D I O : Type 0} (input left : I) (held written : O) (opens : Text → 
 -- a look with this answer
 pub looked_so : (old new : State) (result other : Result Bool DeviceFault) → result ≡ other → LooksWhether HoldsStore old new result → LooksWhether HoldsStore old new other
 looked_so old new result other is looks = subst (LooksWhether HoldsStore old new) is looks
+
+-- where a store has to exist and the disk is honest, one of both files is an open half
+pub existing_is_open : {D : Type 0} (state : D → State) (tells : D → Option HostError → Type 0) (opens : Text → IfMissing → Result D HostError → Type 0) (folder : Text) (disk : D)
+    → OpensStore state tells opens folder true (Ok disk) → IsHonest (state disk) → HoldsStore (state disk).reads
+existing_is_open state tells opens folder disk (first, opened, looks) honest =
+    let was : IsHonest (state first) = subst IsTrue looks.counts.honest honest in
+    subst HoldsStore (sym (looks.rests was).reads) ((looks.answer was).0 refl)
 
 -- the same of what is equal
 module _ (functions : Functions) {D R : Type 0} (state : D → State) (macros : R) (whole : Bool) {I O : Type 0} (remaining : I → Option (List ℕ)) (contents : O → Option (List ℕ))

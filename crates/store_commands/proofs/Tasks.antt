@@ -10,7 +10,7 @@ use Rattle.user_macros.specs.Functions.{Functions}
 use Rattle.prevalence_store.specs.declared.outcome.Ended.{Ended}
 use Rattle.prevalence_store.specs.declared.outcome.Ended.TheVariants.{End, Store, Unaccepted, Unreadable}
 use Rattle.prevalence_store.specs.declared.outcome.Wanted.{Wanted}
-use Rattle.store_commands.specs.Commands.{CarriesOut, Does, DoesOn, IsEarlyFault, IsUntouched, Performs, TaskBreaksOff, TaskReads, TaskWrites, TellsUnopened}
+use Rattle.store_commands.specs.Commands.{CarriesOut, DoesOn, IsEarlyFault, IsUntouched, Performs, TaskBreaksOff, TaskReads, TaskWrites, TellsUnopened}
 use Rattle.store_commands.specs.Report.{IsExport, IsReport, IsSnapshot, IsUpgrade, half_line, version_line}
 use Rattle.prevalence_store.specs.calls.Open.{IsUnopened}
 use Rattle.store_commands.specs.Session.{AnswersInput, IsSession, ReadsToEnd, half_limit}
@@ -56,17 +56,14 @@ module _ (functions : Functions) (input had : List ℕ) (left written : Option (
   writes_nothing (Tell Dump) number told = tt
   writes_nothing (Tell Verify) number told = tt
 
-module _ (functions : Functions) {D R : Type 0} (state : D → State) (macros : R) (whole : Bool)
-    {I O : Type 0} (remaining : I → Option (List ℕ)) (contents : O → Option (List ℕ)) (input left : I) (held written : O) (told : Told) where
+module _ (functions : Functions) {I O : Type 0} (remaining : I → Option (List ℕ)) (contents : O → Option (List ℕ)) (input left : I) (held written : O) (told : Told) where
   abbrev Performed : Text → Task → Status → Type 0
-  Performed folder task status = Performs functions state macros whole remaining contents input left held written folder task status told
+  Performed folder task status = Performs functions remaining contents input left held written folder task status told
 
   -- a fault before anything was read or written
   untouched : (folder : Text) (task : Task) (given : ℕ) → IsUntouched input left held written → IsFaultNumber given
-      → (folder ≡ [] → IsEarlyFault (Fault given))
-      → Does functions state macros whole remaining contents input left held written task (Fault given) told → Performed folder task (Fault given)
-  untouched folder task given same number nameless does = record {
-    does = does;
+      → (folder ≡ [] → IsEarlyFault (Fault given)) → Performed folder task (Fault given)
+  untouched folder task given same number nameless = record {
     taken = tt;
     nameless = λ none. (nameless none, same);
     unread = λ none. same.0;
@@ -82,26 +79,30 @@ module _ (functions : Functions) {D R : Type 0} (state : D → State) (macros : 
       → IsUntouched input left held written → Performed folder task status
   performs_nothing folder task status (inl is) same =
       subst (Performed folder task) (sym is)
-      (untouched folder task NO_MEMORY same (inr (inr refl)) (λ none. inl refl) (inl (inl refl, same)))
+      (untouched folder task NO_MEMORY same (inr (inr refl)) (λ none. inl refl))
   performs_nothing folder task status (inr (inl is)) same =
       subst (Performed folder task) (sym is)
-      (untouched folder task INPUT same (inr (inl (omega arith, omega arith))) (λ none. inr (inl refl)) (inl (inr (inl refl), same)))
+      (untouched folder task INPUT same (inr (inl (omega arith, omega arith))) (λ none. inr (inl refl)))
   performs_nothing folder task status (inr (inr is)) same =
       subst (Performed folder task) (sym is)
-      (untouched folder task DEVICE same (inl refl) (λ none. inr (inr refl)) (inl (inr (inr refl), same)))
+      (untouched folder task DEVICE same (inl refl) (λ none. inr (inr refl)))
+
+module _ (functions : Functions) {D R : Type 0} (state : D → State) (macros : R) (whole : Bool)
+    {I O : Type 0} (remaining : I → Option (List ℕ)) (contents : O → Option (List ℕ)) (input left : I) (held written : O) (told : Told) where
+  abbrev PerformedHere : Text → Task → Status → Type 0
+  PerformedHere folder task status = Performs functions remaining contents input left held written folder task status told
 
   -- the store is not opened
   performs_unopened : (disk back : D) (folder : Text) (task : Task) (status : Status) → (folder ≡ [] → ⊥)
-      → TellsUnopened functions state disk back whole status → IsUntouched input left held written → Performed folder task status
+      → TellsUnopened functions state disk back whole status → IsUntouched input left held written → PerformedHere folder task status
   performs_unopened disk back folder task status named (number, is, unopened) same =
-      subst (Performed folder task) (sym is) (untouched folder task number same (number_of_opening number unopened.fault unopened.number_is)
-      (λ none. absurd (named none)) (inr (disk, back, inr ((number, refl, unopened), same))))
+      subst (PerformedHere folder task) (sym is) (untouched functions remaining contents input left held written told folder task number same (number_of_opening number unopened.fault unopened.number_is)
+      (λ none. absurd (named none)))
 
   performs_session : (disk back : D) (folder : Text) (wanted : Wanted) (status : Status) → (folder ≡ [] → ⊥)
       → CarriesOut functions state macros whole remaining contents input left held written disk back (Run wanted) status told
-      → Performed folder (Run wanted) status
+      → PerformedHere folder (Run wanted) status
   performs_session disk back folder wanted status named (ended, is, tells, session) = record {
-    does = inr (disk, back, inl (ended, is, tells, session));
     taken = taken_at_end status status ended refl is;
     nameless = λ none. absurd (named none);
     unread = λ none. absurd (true≢false none);
@@ -120,13 +121,12 @@ module _ (functions : Functions) {D R : Type 0} (state : D → State) (macros : 
 
   performs_snapshot : (disk back : D) (folder : Text) (status : Status) → (folder ≡ [] → ⊥)
       → CarriesOut functions state macros whole remaining contents input left held written disk back Snapshot status told
-      → Performed folder Snapshot status
+      → PerformedHere folder Snapshot status
   performs_snapshot disk back folder status named (done, same) =
       let old = done.opened in
       let new = done.closed in
       let world = done.is_opened.world in
       record {
-        does = inr (disk, back, inl (done, same));
         taken = snapshot_taken functions state old new world _ _ done.outcome status done.tells;
         nameless = λ none. absurd (named none);
         unread = λ none. same;
@@ -140,13 +140,12 @@ module _ (functions : Functions) {D R : Type 0} (state : D → State) (macros : 
 
   performs_upgrade : (disk back : D) (folder : Text) (status : Status) → (folder ≡ [] → ⊥)
       → CarriesOut functions state macros whole remaining contents input left held written disk back Upgrade status told
-      → Performed folder Upgrade status
+      → PerformedHere folder Upgrade status
   performs_upgrade disk back folder status named (done, same) =
       let old = done.opened in
       let new = done.closed in
       let world = done.is_opened.world in
       record {
-        does = inr (disk, back, inl (done, same));
         taken = upgrade_taken functions state old new world _ _ done.outcome status done.tells;
         nameless = λ none. absurd (named none);
         unread = λ none. same;
@@ -160,9 +159,8 @@ module _ (functions : Functions) {D R : Type 0} (state : D → State) (macros : 
 
   performs_export : (disk back : D) (folder : Text) (content : Content) (status : Status) → (folder ≡ [] → ⊥)
       → CarriesOut functions state macros whole remaining contents input left held written disk back (Export content) status told
-      → Performed folder (Export content) status
+      → PerformedHere folder (Export content) status
   performs_export disk back folder content status named (done, same) = record {
-    does = inr (disk, back, inl (done, same));
     taken = forms_taken _ _ done.forms _ status done.tells;
     nameless = λ none. absurd (named none);
     unread = λ none. same;
@@ -176,9 +174,8 @@ module _ (functions : Functions) {D R : Type 0} (state : D → State) (macros : 
 
   performs_report : (disk back : D) (folder : Text) (report : Report) (status : Status) → (folder ≡ [] → ⊥)
       → CarriesOut functions state macros whole remaining contents input left held written disk back (Tell report) status told
-      → Performed folder (Tell report) status
+      → PerformedHere folder (Tell report) status
   performs_report disk back folder report status named (done, same) = record {
-    does = inr (disk, back, inl (done, same));
     taken = text_taken _ _ _ status done.tells;
     nameless = λ none. absurd (named none);
     unread = λ none. same;
@@ -192,7 +189,7 @@ module _ (functions : Functions) {D R : Type 0} (state : D → State) (macros : 
 
   -- it was done over a disk
   pub performs_on : (disk back : D) (folder : Text) (task : Task) (status : Status) → (folder ≡ [] → ⊥)
-      → DoesOn functions state macros whole remaining contents input left held written disk back task status told → Performed folder task status
+      → DoesOn functions state macros whole remaining contents input left held written disk back task status told → PerformedHere folder task status
   performs_on disk back folder (Run wanted) status named (inl done) = performs_session disk back folder wanted status named done
   performs_on disk back folder Snapshot status named (inl done) = performs_snapshot disk back folder status named done
   performs_on disk back folder Upgrade status named (inl done) = performs_upgrade disk back folder status named done
@@ -245,10 +242,10 @@ module _ (functions : Functions) {D R : Type 0} (state : D → State) (macros : 
       (inl (done, same))
 
 -- the same of what is equal
-pub moved_performs : (functions : Functions) {D R I O : Type 0} (state : D → State) (macros : R) (whole : Bool) (remaining : I → Option (List ℕ)) (contents : O → Option (List ℕ))
+pub moved_performs : (functions : Functions) {I O : Type 0} (remaining : I → Option (List ℕ)) (contents : O → Option (List ℕ))
     (input v w : I) (held x y : O) (told : Told) (e f : Text) (t u : Task) (s r : Status) → e ≡ f → t ≡ u → s ≡ r → v ≡ w → x ≡ y
-    → Performs functions state macros whole remaining contents input w held y f u r told → Performs functions state macros whole remaining contents input v held x e t s told
-moved_performs functions state macros whole remaining contents input v w held x y told e f t u s r same_folder same_task same_status same_left same_written given =
+    → Performs functions remaining contents input w held y f u r told → Performs functions remaining contents input v held x e t s told
+moved_performs functions remaining contents input v w held x y told e f t u s r same_folder same_task same_status same_left same_written given =
     rw (same_folder, same_task, same_status, same_left, same_written) given
 
 -- what is told of a session, or of what was left out, is told after it too

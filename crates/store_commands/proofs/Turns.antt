@@ -1,7 +1,8 @@
 -- Sessions in a row, one more.
-use Rattle.std.proofs.Common.{◌≡◌, ◌∙◌, List, ℕ, [], ◌∷◌, ◌++◌, Option, None, Some, Result, Ok, Err, take, refl, ap, sym, append-nil, append_assoc}
-use Rattle.std.proofs.KnownBytes.{Consumes-kept, Consumes-nil, Consumes-trans}
-use Rattle.std.specs.Io.KnownBytes.{Consumes, ReadConsumes}
+use Rattle.std.proofs.Common.{◌≡◌, ◌≢◌, ◌∙◌, Bool, List, ℕ, true, false, [], ◌∷◌, ◌++◌, Option, None, Some, refl, ap, subst, sym, inl, inr, append-nil, append_assoc}
+use Rattle.std.proofs.KnownBytes.{Consumes-nil, Consumes-trans}
+use Rattle.std.specs.Io.KnownBytes.{Consumes}
+use Rattle.std.specs.List.{AllByRecursion}
 use Rattle.disk_trait.specs.Disk.{State}
 use Rattle.plist_state.specs.State.{WorldState}
 use Rattle.prevalence_store.specs.declared.outcome.Ended.{Ended}
@@ -11,7 +12,7 @@ use Rattle.prevalence_store.specs.calls.Store.{StoreView}
 use Rattle.user_macros.specs.Functions.{Functions}
 use Rattle.store_commands.specs.Refusals.{IsRefusalOf}
 use Rattle.prevalence_store.specs.calls.Serve.{ServesWanted}
-use Rattle.store_commands.specs.Sessions.{Drops, Earlier, EndsRefused, InTurn}
+use Rattle.store_commands.specs.Sessions.{Drops, DropsByte, Earlier, EndsRefused, InTurn, IsOfLine}
 use Rattle.store_commands.specs.declared.refusal.Refusal.{Refusal}
 
 -- where there is a refusal the session ended with it
@@ -21,21 +22,49 @@ ends_refused (Unreadable number place) given refusal some is = tt
 ends_refused (Unaccepted number place) given refusal some is = tt
 ends_refused (Store number) given refusal some none = absurd (cc)
 
--- a read drops what it gives
-pub read_drops : {E : Type 0} (there has : Option (List ℕ)) (result : Result ℕ E) (bytes : List ℕ) → ReadConsumes there has result bytes → Drops there has
-read_drops there has (Ok count) bytes reads = (take count bytes, reads.0)
-read_drops there has (Err error) bytes keeps = ([], Consumes-kept there there has [] (Consumes-nil there) keeps)
+-- ---- bytes that are dropped
 
-pub drops_more : (there mid has : Option (List ℕ)) → Drops there mid → Drops mid has → Drops there has
-drops_more there mid has one other = (one.0 ++ other.0, Consumes-trans there mid has one.0 other.0 one.1 other.1)
+drops_nothing : (has : Option (List ℕ)) → Drops has has
+drops_nothing has = ([], inl refl, Consumes-nil has)
+
+no_newline_but : (line : List ℕ) (byte : ℕ) → AllByRecursion (λ b. b ≢ 10) line → byte ≢ 10 → AllByRecursion (λ b. b ≢ 10) (line ++ byte ∷ [])
+no_newline_but [] byte each other = (other, tt)
+no_newline_but (b ∷ bs) byte each other = (each.0, no_newline_but bs byte each.1 other)
+
+-- Of a line these bytes were dropped, the last byte that was given is this one, and if it is no newline, none of them is.
+abbrev pub DropsTo : ℕ → Option (List ℕ) → Option (List ℕ) → Type 0
+DropsTo last there has = (bytes : List ℕ) × IsOfLine bytes × Consumes there has bytes × (last ≢ 10 → AllByRecursion (λ b. b ≢ 10) bytes)
+
+pub drops_from : (last : ℕ) (has : Option (List ℕ)) → DropsTo last has has
+drops_from last has = ([], inl refl, Consumes-nil has, λ other. tt)
+
+pub drops_one : (last byte : ℕ) (there mid has : Option (List ℕ)) (result : Bool) → DropsTo last there mid → last ≢ 10 → result ≡ true → DropsByte result byte mid has
+    → DropsTo byte there has
+drops_one last byte there mid has false dropped other is one = absurd (cc)
+drops_one last byte there mid has true (bytes, of, before, none) other is one = (
+  bytes ++ byte ∷ [],
+  inr (bytes, byte, refl, none other),
+  Consumes-trans there mid has bytes (byte ∷ []) before one,
+  λ no_newline. no_newline_but bytes byte (none other) no_newline,
+)
+
+-- no byte was there
+pub drops_none : (last byte : ℕ) (there mid has : Option (List ℕ)) (result : Bool) → DropsTo last there mid → result ≡ false → DropsByte result byte mid has → Drops there has
+drops_none last byte there mid has true dropped is no_more = absurd (cc)
+drops_none last byte there mid has false (bytes, of, before, none) is no_more =
+    (bytes, of, subst (Consumes there has) (append-nil bytes) (Consumes-trans there mid has bytes [] before no_more))
 
 module _ (functions : Functions) (wanted : Wanted) {D R : Type 0} (state : D → State) (old : StoreView D R) (world : WorldState) (had held : Option (List ℕ)) where
-  abbrev Row : (new : StoreView D R) (has written : Option (List ℕ)) → Ended → Type 0
-  Row new has written ended = InTurn functions wanted state old new world had has held written ended
+  -- the sessions so far, the last of which ended so
+  abbrev pub Row : (new : StoreView D R) (has written : Option (List ℕ)) → Ended → Type 0
+  Row new has written ended =
+      (others : List Ended) × (mid : StoreView D R) × (between : WorldState) × (begun : Option (List ℕ)) × (before : Option (List ℕ))
+      × Earlier functions wanted state others old mid world between had begun held before
+      × ServesWanted functions state wanted mid new between begun has before written ended
 
   pub first_turn : (new : StoreView D R) (has written : Option (List ℕ)) (ended : Ended) → ServesWanted functions state wanted old new world had has held written ended
       → Row new has written ended
-  first_turn new has written ended session = ([], old, world, had, has, held, (refl, refl, refl, refl), session, ([], Consumes-nil has))
+  first_turn new has written ended session = ([], old, world, had, held, (refl, refl, refl, refl), session)
 
   -- the world that a session left which a refusal ended
   abbrev Left : StoreView D R → Type 0
@@ -53,23 +82,27 @@ module _ (functions : Functions) (wanted : Wanted) {D R : Type 0} (state : D →
       → Row mid rest between ended → Drops rest next_rest
       → ((left : WorldState) → mid.world ≡ Some left → ServesWanted functions state wanted mid new left next_rest has between written next)
       → Row new has written next
-  turn_after mid new rest next_rest has between written ended next refused (others, start, first, begun, there, before, earlier, session, dropped) more one_more =
-      let left = left_by start mid first begun there before between ended refused session in (
+  turn_after mid new rest next_rest has between written ended next refused (others, start, first, begun, before, earlier, session) dropped one_more =
+      let left = left_by start mid first begun rest before between ended refused session in (
         ended ∷ others,
         mid,
         left.0,
         next_rest,
-        has,
         between,
-        (start, first, begun, there, before, earlier, refused, session, left.1, (dropped.0 ++ more.0, Consumes-trans there rest next_rest dropped.0 more.0 dropped.1 more.1)),
+        (start, first, begun, rest, before, earlier, refused, session, left.1, dropped),
         one_more left.0 left.1,
-        ([], Consumes-nil has),
       )
 
   -- no session follows, and some bytes more were lost
-  pub last_turn : (new : StoreView D R) (rest has written : Option (List ℕ)) (ended : Ended) → Row new rest written ended → Drops rest has → Row new has written ended
-  last_turn new rest has written ended (others, start, first, begun, there, before, earlier, session, dropped) more =
-      (others, start, first, begun, there, before, earlier, session, (dropped.0 ++ more.0, Consumes-trans there rest has dropped.0 more.0 dropped.1 more.1))
+  pub last_turn : (new : StoreView D R) (rest has written : Option (List ℕ)) (ended : Ended) → Row new rest written ended → Drops rest has
+      → InTurn functions wanted state old new world had has held written ended
+  last_turn new rest has written ended (others, start, first, begun, before, earlier, session) dropped =
+      (others, start, first, begun, rest, before, earlier, session, dropped)
+
+  -- or none
+  pub no_more_turns : (new : StoreView D R) (has written : Option (List ℕ)) (ended : Ended) → Row new has written ended
+      → InTurn functions wanted state old new world had has held written ended
+  no_more_turns new has written ended row = last_turn new has has written ended row (drops_nothing has)
 
 -- ---- what is known as the last one of them begins
 
@@ -100,5 +133,5 @@ module _ (functions : Functions) (wanted : Wanted) {D R : Type 0} (state : D →
   earlier_go (ended ∷ others) old new world left had has held written (mid, between, begun, there, before, earlier, refused, session, leaves, dropped) = λ text bytes known holds.
       let far = earlier_go others old mid world between had begun held before earlier text bytes known holds in
       let more = session_goes mid new between begun there before written ended refused session far.0 (bytes ++ far.1) far.2 far.3 in
-      let last = dropped_to there has more.0 dropped.0 more.2 dropped.1 in
+      let last = dropped_to there has more.0 dropped.0 more.2 dropped.2 in
       (last.0, far.1 ++ more.1, last.1, more.3 ∙ ap (λ l. Some l) (append_assoc bytes far.1 more.1))

@@ -105,16 +105,9 @@ module _ (functions : Functions) {D R : Type 0} (state : D → State) (macros : 
   DoesOn disk back task status told =
       CarriesOut disk back task status told ⊎ (TellsUnopened functions state disk back whole status × IsUntouched input left held written)
 
-  -- There is no memory, no seed, or the folder is not opened, and nothing is read or written; or it is done over some disk of this
-  -- type. That the files of this disk are those of the folder is not said here.
-  abbrev pub Does : Task → Status → Told → Type 0
-  Does task status told =
-      (IsEarlyFault status × IsUntouched input left held written)
-      ⊎ ((disk : D) × (back : D) × DoesOn disk back task status told)
-
-  -- A task, for the store in a folder, was done, this is the status, and this is to be told.
+module _ (functions : Functions) {I O : Type 0} (remaining : I → Option (List ℕ)) (contents : O → Option (List ℕ)) (input left : I) (held written : O) where
+  -- A task, for the store in a folder, was done, whatever that holds: this is the status, and this is to be told.
   pub record Performs (folder : Text) (task : Task) (status : Status) (told : Told) : Type 0 where
-    pub does : Does task status told
     -- neither is help written nor are the words refused
     pub taken : TakesWords status
     -- no folder has an empty name
@@ -162,12 +155,6 @@ module _ (functions : Functions) {D R : Type 0} (state : D → State) (macros : 
       × AreSessions functions wanted state disk macros (remaining input) (remaining left) (contents held) (contents written) ended back)
       ⊎ (TellsUnopened functions state disk back whole status × IsUntouched input left held written)
 
-  -- There is no memory, no seed, or the folder is not opened, and nothing is read or written; or they went so over some disk of this
-  -- type.
-  abbrev pub Sits : Wanted → Status → Told → Type 0
-  Sits wanted status told =
-      (IsEarlyFault status × IsUntouched input left held written) ⊎ ((disk : D) × (back : D) × SitsOn disk back wanted status told)
-
   -- sessions in a row went so over the disk that the opening gave; each other task is as anywhere
   abbrev pub SitsAfter : Task → Status → Told → D → Type 0
   SitsAfter (Run wanted) status told disk = (back : D) × SitsOn disk back wanted status told
@@ -176,9 +163,9 @@ module _ (functions : Functions) {D R : Type 0} (state : D → State) (macros : 
   SitsAfter (Export content) status told disk = DoesAfter functions state macros whole remaining contents input left held written (Export content) status told disk
   SitsAfter (Tell report) status told disk = DoesAfter functions state macros whole remaining contents input left held written (Tell report) status told disk
 
+module _ (functions : Functions) {I O : Type 0} (remaining : I → Option (List ℕ)) (contents : O → Option (List ℕ)) (input left : I) (held written : O) where
   -- `run` was sessions in a row, for the store in a folder: this is the status, and this is to be told.
   pub record PerformsInTurn (folder : Text) (wanted : Wanted) (status : Status) (told : Told) : Type 0 where
-    pub sits : Sits wanted status told
     pub taken : TakesWords status
     pub nameless : folder ≡ [] → IsEarlyFault status × IsUntouched input left held written
     pub unopened : (number : ℕ) → status ≡ Fault number → is_of_opening number ≡ true → IsUntouched input left held written
@@ -190,10 +177,10 @@ module _ (functions : Functions) {D R : Type 0} (state : D → State) (macros : 
   -- `run` is sessions in a row there; each other task is as anywhere
   abbrev pub PerformsAtTerminal : Text → Task → Status → Told → Type 0
   PerformsAtTerminal folder (Run wanted) status told = PerformsInTurn folder wanted status told
-  PerformsAtTerminal folder Snapshot status told = Performs functions state macros whole remaining contents input left held written folder Snapshot status told
-  PerformsAtTerminal folder Upgrade status told = Performs functions state macros whole remaining contents input left held written folder Upgrade status told
-  PerformsAtTerminal folder (Export content) status told = Performs functions state macros whole remaining contents input left held written folder (Export content) status told
-  PerformsAtTerminal folder (Tell report) status told = Performs functions state macros whole remaining contents input left held written folder (Tell report) status told
+  PerformsAtTerminal folder Snapshot status told = Performs functions remaining contents input left held written folder Snapshot status told
+  PerformsAtTerminal folder Upgrade status told = Performs functions remaining contents input left held written folder Upgrade status told
+  PerformsAtTerminal folder (Export content) status told = Performs functions remaining contents input left held written folder (Export content) status told
+  PerformsAtTerminal folder (Tell report) status told = Performs functions remaining contents input left held written folder (Tell report) status told
 
 -- The words have a mistake, or ask for help: no task is done, and nothing is read. Where they are refused, or memory ran out, nothing
 -- goes to the output.

@@ -1,6 +1,7 @@
 -- Sessions in a row over one open store.
-use Rattle.std.specs.Prelude.{◌≡◌, ℕ, List, [], ◌∷◌, Option, Some}
+use Rattle.std.specs.Prelude.{◌≡◌, ◌≢◌, ◌⊎◌, ℕ, Bool, true, false, List, [], ◌∷◌, ◌++◌, Option, Some}
 use Rattle.std.specs.Io.KnownBytes.{Consumes}
+use Rattle.std.specs.List.{AllByRecursion}
 use Rattle.disk_trait.specs.Disk.{State}
 use Rattle.plist_state.specs.State.{WorldState}
 use Rattle.prevalence_store.specs.declared.outcome.Ended.{Ended}
@@ -19,9 +20,18 @@ EndsRefused (Unreadable number place) = Unit {0}
 EndsRefused (Unaccepted number place) = Unit {0}
 EndsRefused (Store number) = ⊥
 
--- After a session the input may have lost some bytes more.
+-- Bytes of one line: none of them is a newline, but perhaps the last one.
+abbrev pub IsOfLine : List ℕ → Type 0
+IsOfLine bytes = (bytes ≡ []) ⊎ ((line : List ℕ) × (last : ℕ) × (bytes ≡ line ++ last ∷ []) × AllByRecursion (λ byte. byte ≢ 10) line)
+
+-- After a session the input may have lost some bytes more, of one line.
 abbrev pub Drops : Option (List ℕ) → Option (List ℕ) → Type 0
-Drops there has = (line : List ℕ) × Consumes there has line
+Drops there has = (bytes : List ℕ) × IsOfLine bytes × Consumes there has bytes
+
+-- a byte was dropped, which was this one; or there was none
+abbrev pub DropsByte : Bool → ℕ → Option (List ℕ) → Option (List ℕ) → Type 0
+DropsByte true byte there has = Consumes there has (byte ∷ [])
+DropsByte false byte there has = Consumes there has []
 
 module _ (functions : Functions) (wanted : Wanted) {D R : Type 0} (state : D → State) where
   -- Sessions that refusals ended so, the last one first; each begins in the world and the store that the one before it left, and with

@@ -11,7 +11,7 @@ ghost use Rattle.store_commands.specs.Told.{TellsFault, left_out_of};
 ghost use Rattle.store_commands.specs.declared.told.Told.{Told};
 
 use crate::export::export_on;
-use crate::folders::{Folders, open_folder};
+use crate::folders::{Folders, TellsCause, open_folder};
 use crate::places::Places;
 use crate::report::report_on;
 use crate::session::serve_on;
@@ -23,7 +23,7 @@ use crate::told::{Told, end_with, end_with_told};
 use crate::upgrade::upgrade_on;
 use crate::words::{Asked, Task, asked_in};
 use clap::Error;
-use disk_trait::{Disk, HostDisk, HostError};
+use disk_trait::{Disk, HostError};
 use lisp_object::refusal::{INPUT, NO_MEMORY, OUTPUT};
 use plist_state::Seed;
 use prevalence_store::{Unopened, Wanted};
@@ -70,12 +70,12 @@ where
     ensures ends { EndsAfter (faults_of (map S.text words.now)) result }
     ensures taken { (folder : Text) (existing : Bool) (task : Task)
         → IsTaken (map S.text words.now) folder existing task
-        → (told : Told) × Performs M.Meaning.functions ⟦<HostDisk as Disk>⟧.state macros
-        (are_registered M.Meaning.functions (M.functions macros)) I.remaining O.contents
+        → (told : Told) × Performs M.Meaning.functions I.remaining O.contents
         input.old input.new output.old output.new folder task result told
         × TellsFault result told (F.contents faults.old) (F.contents faults.new)
-        × OpensFolder input.old input.new output.old output.new (OpensStore ⟦<HostDisk as Disk>⟧.state (R.opens rt.now))
-        (DoesAfter M.Meaning.functions ⟦<HostDisk as Disk>⟧.state macros
+        × OpensFolder input.old input.new output.old output.new
+        (OpensStore R.Disk.state R.Disk.tells (R.opens rt.now))
+        (DoesAfter M.Meaning.functions R.Disk.state macros
         (are_registered M.Meaning.functions (M.functions macros)) I.remaining O.contents
         input.old input.new output.old output.new task result told)
         folder existing result told }
@@ -119,12 +119,12 @@ where
     ensures ends { EndsAfter (faults_of (map S.text words.now)) result }
     ensures taken { (folder : Text) (existing : Bool) (task : Task)
         → IsTaken (map S.text words.now) folder existing task
-        → (told : Told) × PerformsAtTerminal M.Meaning.functions ⟦<HostDisk as Disk>⟧.state macros
-        (are_registered M.Meaning.functions (M.functions macros)) I.remaining O.contents
+        → (told : Told) × PerformsAtTerminal M.Meaning.functions I.remaining O.contents
         input.old input.new output.old output.new folder task result told
         × TellsFault result told (F.contents faults.old) (F.contents faults.new)
-        × OpensFolder input.old input.new output.old output.new (OpensStore ⟦<HostDisk as Disk>⟧.state (R.opens rt.now))
-        (SitsAfter M.Meaning.functions ⟦<HostDisk as Disk>⟧.state macros
+        × OpensFolder input.old input.new output.old output.new
+        (OpensStore R.Disk.state R.Disk.tells (R.opens rt.now))
+        (SitsAfter M.Meaning.functions R.Disk.state macros
         (are_registered M.Meaning.functions (M.functions macros)) I.remaining O.contents
         input.old input.new output.old output.new task result told)
         folder existing result told }
@@ -160,13 +160,13 @@ where
     O: Write,
     requires answers { M.answers macros }
     ensures taken { TakesWords result.0 }
-    ensures opened { OpensFolder input.old input.new output.old output.new (OpensStore ⟦<HostDisk as Disk>⟧.state (R.opens rt.now))
-        (SitsAfter M.Meaning.functions ⟦<HostDisk as Disk>⟧.state macros
+    ensures opened { OpensFolder input.old input.new output.old output.new
+        (OpensStore R.Disk.state R.Disk.tells (R.opens rt.now))
+        (SitsAfter M.Meaning.functions R.Disk.state macros
         (are_registered M.Meaning.functions (M.functions macros)) I.remaining O.contents
         input.old input.new output.old output.new asked.entry.task result.0 result.1)
         asked.entry.folder.now asked.entry.existing result.0 result.1 }
-    ensures performs { PerformsAtTerminal M.Meaning.functions ⟦<HostDisk as Disk>⟧.state macros
-        (are_registered M.Meaning.functions (M.functions macros)) I.remaining O.contents
+    ensures performs { PerformsAtTerminal M.Meaning.functions I.remaining O.contents
         input.old input.new output.old output.new asked.entry.folder.now asked.entry.task result.0 result.1 }
 {
     match asked.task {
@@ -190,11 +190,11 @@ where
     I: Sessions,
     O: Write,
     requires answers { M.answers macros }
-    ensures performs { PerformsInTurn M.Meaning.functions ⟦<HostDisk as Disk>⟧.state macros
-        (are_registered M.Meaning.functions (M.functions macros)) I.remaining O.contents
+    ensures performs { PerformsInTurn M.Meaning.functions I.remaining O.contents
         input.old input.new output.old output.new asked.entry.folder.now wanted result.0 result.1 }
-    ensures opened { OpensFolder input.old input.new output.old output.new (OpensStore ⟦<HostDisk as Disk>⟧.state (R.opens rt.now))
-        (SitsAfter M.Meaning.functions ⟦<HostDisk as Disk>⟧.state macros
+    ensures opened { OpensFolder input.old input.new output.old output.new
+        (OpensStore R.Disk.state R.Disk.tells (R.opens rt.now))
+        (SitsAfter M.Meaning.functions R.Disk.state macros
         (are_registered M.Meaning.functions (M.functions macros)) I.remaining O.contents
         input.old input.new output.old output.new (Task.Run wanted) result.0 result.1)
         asked.entry.folder.now asked.entry.existing result.0 result.1 }
@@ -263,11 +263,11 @@ where
     I: Places,
     O: Write,
     requires answers { M.answers macros }
-    ensures performs { Performs M.Meaning.functions ⟦<HostDisk as Disk>⟧.state macros
-        (are_registered M.Meaning.functions (M.functions macros)) I.remaining O.contents
+    ensures performs { Performs M.Meaning.functions I.remaining O.contents
         input.old input.new output.old output.new asked.entry.folder.now asked.entry.task result.0 result.1 }
-    ensures opened { OpensFolder input.old input.new output.old output.new (OpensStore ⟦<HostDisk as Disk>⟧.state (R.opens rt.now))
-        (DoesAfter M.Meaning.functions ⟦<HostDisk as Disk>⟧.state macros
+    ensures opened { OpensFolder input.old input.new output.old output.new
+        (OpensStore R.Disk.state R.Disk.tells (R.opens rt.now))
+        (DoesAfter M.Meaning.functions R.Disk.state macros
         (are_registered M.Meaning.functions (M.functions macros)) I.remaining O.contents
         input.old input.new output.old output.new asked.entry.task result.0 result.1)
         asked.entry.folder.now asked.entry.existing result.0 result.1 }
@@ -293,7 +293,7 @@ where
 }
 
 // What is to be told on standard error after a task; if that is nothing, the cause of a fault of the device.
-fn told_after(told: Told, disk: &HostDisk) -> Told
+fn told_after<D: TellsCause>(told: Told, disk: &D) -> Told
     ensures { ((told ≡ Told.Nothing) × (left_out_of result ≡ [])) ⊎ (result ≡ told) }
 {
     match told {
@@ -303,7 +303,7 @@ fn told_after(told: Told, disk: &HostDisk) -> Told
 }
 
 // The cause of a fault of the device, if there was one.
-fn cause_of(disk: &HostDisk) -> Told
+fn cause_of<D: TellsCause>(disk: &D) -> Told
     ensures { left_out_of result ≡ [] }
 {
     match disk.cause() {

@@ -1,34 +1,53 @@
 // What opens the files of a store in a folder.
-ghost use Rattle.std.specs.Prelude.{◌≡◌, ◌≢◌, ◌⊎◌, ◌<◌, ◌-◌, ◌^◌, [], true, Decides, Err, IfOk, Result};
+ghost use Rattle.std.specs.Prelude.{◌≡◌, ◌≢◌, ◌⊎◌, ◌<◌, ◌-◌, ◌^◌, ⊤, [], true, Decides, Err, IfOk, Option, Result, option_map};
 ghost use Rattle.clap.specs.Words.{Text};
 ghost use Rattle.disk_trait.specs.Disk.{file_of};
-ghost use Rattle.disk_trait.specs.declared.host.HostDisk.{HostDisk};
 ghost use Rattle.disk_trait.specs.declared.host.HostError.{HostError};
 ghost use Rattle.disk_trait.specs.declared.host.IfMissing.{IfMissing};
 ghost use Rattle.gate_log.specs.Layout.{IsOpen};
-ghost use Rattle.store_commands.specs.Folders.{HoldsStore, LooksWhether, OpensStore};
-ghost use Rattle.store_commands.specs.Status.{status_of_host};
+ghost use Rattle.store_commands.specs.Folders.{HoldsStore, IsFailureOf, LooksWhether, OpensStore};
 
-use crate::status::Status;
 use disk_trait::{DeviceFault, Disk, Half, HostDisk, HostError, IfMissing};
-use lisp_object::refusal::DEVICE;
 use std::io;
 
 /// The byte that a half in use begins with.
 const OPEN: u8 = 0xA5;
 
+/// A disk that tells why a call of it failed.
+pub trait TellsCause: Disk {
+    // what it may tell
+    ghost tells: { Self → Option HostError → Type 0 };
+
+    /// The system's error of the last call that failed, if there is one.
+    fn cause(&self) -> Option<io::Error>
+        ensures { tells self.now (option_map HostError.System result) };
+}
+
+impl TellsCause for HostDisk {
+    ghost tells = { λ disk cause. ⊤ };
+
+    fn cause(&self) -> Option<io::Error> {
+        HostDisk::cause(self)
+    }
+}
+
 /// What opens the files of a store in a folder: the system.
 pub trait Folders {
+    /// The disk that the two files are.
+    type Disk: TellsCause + Drop;
+
     // what an opening of this folder may give, by what is to become of a store that is missing
-    ghost opens: { Self → Text → IfMissing → Result HostDisk HostError → Type 0 };
+    ghost opens: { Self → Text → IfMissing → Result Self.Disk HostError → Type 0 };
 
     /// Opens the files of a store in a folder; what is missing is made, or the opening is refused and nothing is made.
-    fn open_files(&self, folder: &str, if_missing: IfMissing) -> Result<HostDisk, HostError>
-        ensures room { IfOk result (λ disk. (⟦<HostDisk as Disk>⟧.state disk).failures ≡ 0) }
+    fn open_files(&self, folder: &str, if_missing: IfMissing) -> Result<Self::Disk, HostError>
+        ensures room { IfOk result (λ disk. (Self.Disk.state disk).failures ≡ 0) }
         ensures opens { opens self.now folder.now if_missing result };
 }
 
 impl Folders for HostRuntime {
+    type Disk = HostDisk;
+
     ghost opens = { λ host folder if_missing result. IfOk result (λ disk. (⟦<HostDisk as Disk>⟧.state disk).failures ≡ 0) };
 
     fn open_files(&self, folder: &str, if_missing: IfMissing) -> Result<HostDisk, HostError> {
@@ -41,10 +60,11 @@ pub(crate) fn open_folder<R: Folders>(
     rt: &R,
     folder: &str,
     existing: bool,
-) -> Result<HostDisk, HostError>
-    ensures room { IfOk result (λ disk. (⟦<HostDisk as Disk>⟧.state disk).failures ≡ 0) }
+) -> Result<R::Disk, HostError>
+    ensures room { IfOk result (λ disk. (R.Disk.state disk).failures ≡ 0) }
     ensures opens { ((folder.now ≡ []) × (result ≡ Err HostError.NoName))
-        ⊎ ((folder.now ≢ []) × OpensStore ⟦<HostDisk as Disk>⟧.state (R.opens rt.now) folder.now existing result) }
+        ⊎ ((folder.now ≢ [])
+        × OpensStore R.Disk.state R.Disk.tells (R.opens rt.now) folder.now existing result) }
 {
     // no folder has an empty name, and files under it would be those of the present folder
     if folder.is_empty() {
@@ -58,9 +78,9 @@ pub(crate) fn open_folder<R: Folders>(
 }
 
 // Opens the files of a folder, of which one is a half in use.
-fn open_existing<R: Folders>(rt: &R, folder: &str) -> Result<HostDisk, HostError>
-    ensures room { IfOk result (λ disk. (⟦<HostDisk as Disk>⟧.state disk).failures ≡ 0) }
-    ensures opens { OpensStore ⟦<HostDisk as Disk>⟧.state (R.opens rt.now) folder.now true result }
+fn open_existing<R: Folders>(rt: &R, folder: &str) -> Result<R::Disk, HostError>
+    ensures room { IfOk result (λ disk. (R.Disk.state disk).failures ≡ 0) }
+    ensures opens { OpensStore R.Disk.state R.Disk.tells (R.opens rt.now) folder.now true result }
 {
     let mut disk = match rt.open_files(folder, IfMissing::Refuse) {
         Ok(disk) => disk,
@@ -105,8 +125,8 @@ fn begins_open(head: &[u8]) -> bool
 }
 
 // The system's error of the call that failed.
-fn failure_of(disk: &HostDisk) -> HostError
-    ensures { status_of_host result ≡ Status.Fault DEVICE }
+fn failure_of<D: TellsCause>(disk: &D) -> HostError
+    ensures { IsFailureOf D.tells disk.now result }
 {
     match disk.cause() {
         Some(error) => HostError::System(error),

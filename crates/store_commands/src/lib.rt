@@ -11,7 +11,8 @@
 //!   `dump DIR` and `verify DIR`, each with `--existing`; `help` has the texts of its help.
 //! - `fault` writes the line of a fault, and that with its cause; `refusal` that on the refusal that ended a session; `half_line` that
 //!   on the half in use.
-//! - `places` has the input that tells lines and columns, and `folders` what opens the files of a folder.
+//! - `places` has the input that tells lines and columns, and `folders` what opens the files of a folder, and the disk that they are.
+//! - `existing_stores_are_open` (module `laws`): with `--existing` one of both files of an honest disk is a half in use.
 //! - `meaning` says what the macro functions of the program mean, and `macro_functions` has those that compute an object.
 #![tactic(auto)]
 
@@ -21,6 +22,7 @@ mod fault;
 mod folders;
 mod half_line;
 mod help;
+mod laws;
 pub mod macro_functions;
 mod meaning;
 mod places;
@@ -38,8 +40,9 @@ mod words;
 pub use commands::{program, program_at_terminal};
 pub use export::export_on;
 pub use fault::{Unwritten, write_fault, write_fault_with_cause};
-pub use folders::Folders;
+pub use folders::{Folders, TellsCause};
 pub use half_line::write_half_line;
+pub use laws::existing_stores_are_open;
 pub use meaning::SixFunctions;
 pub use places::{Lines, Places, Spot};
 pub use refusal::{Refusal, Spots, write_refusal};

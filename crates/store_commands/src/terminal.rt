@@ -1,6 +1,6 @@
 // A terminal: prompts before its lines, and sessions in a row.
 ghost use Rattle.std.specs.Prelude.{◌≡◌};
-ghost use Rattle.store_commands.specs.Sessions.{Drops};
+ghost use Rattle.store_commands.specs.Sessions.{Drops, DropsByte};
 
 use crate::fault::write_text;
 use crate::places::{Places, Spot};
@@ -95,7 +95,8 @@ impl<I, P: Write> Terminal<'_, I, P> {
 
     // Takes note of a byte that is given.
     fn give(&mut self, byte: u8)
-        ensures { self.new.input ≡ self.old.input }
+        ensures input { self.new.input ≡ self.old.input }
+        ensures last { self.new.last ≡ byte }
     {
         self.given = self.given.saturating_add(1);
         self.last = byte;
@@ -148,7 +149,8 @@ impl<I: Read, P: Write> Read for Terminal<'_, I, P> {
 impl<I: Read, P: Write> Terminal<'_, I, P> {
     // Drops a byte, and tells whether there was one.
     fn drop_byte(&mut self) -> bool
-        ensures { Drops (I.remaining self.old.input) (I.remaining self.new.input) }
+        ensures { DropsByte result self.new.last
+            (I.remaining self.old.input) (I.remaining self.new.input) }
     {
         let mut byte = [0u8];
         match self.input.read(&mut byte) {

@@ -15,6 +15,8 @@ use readtable_core::Readtable;
 use std::alloc::{AllocError, Global};
 use user_macros::MacroFunctions;
 
+mod plain;
+
 /// What was read and is not answered yet: a reader that was fed it, and the bytes since what the reader has open began.
 #[derive(Drop)]
 pub(crate) struct Pending {
@@ -102,6 +104,16 @@ impl Pending {
         let readtable = readtable_in(world, mode);
         let mut count = 0;
         'bytes: for byte in piece {
+            match self.feed_plain(alloc, readtable, world, mode, &piece[count..])? {
+                Some(form) => {
+                    let count = count + form.own.len();
+                    return Ok(FedPiece {
+                        fed: Fed::Form { form, left: false },
+                        count,
+                    });
+                }
+                None => {}
+            }
             count += 1;
             match self.feed_byte(alloc, readtable, world, macros, mode, *byte)? {
                 Fed::Nothing => {}

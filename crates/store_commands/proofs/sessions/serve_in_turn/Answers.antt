@@ -1,5 +1,5 @@
 use Rattle.std.proofs.Common.{◌∙◌}
-use Rattle.store_commands.proofs.Turns.{ends_refused, first_turn, last_turn, turn_after}
+use Rattle.store_commands.proofs.Turns.{ends_refused, first_turn, last_turn, no_more_turns, turn_after}
 use Rattle.store_commands.proofs.sessions.serve_in_turn.Goals as goal
 
 pub sessions-init : goal.sessions-init
@@ -18,3 +18,9 @@ sessions-preserved g c = (
 
 pub returns-then-not-next_session-clause-serves : goal.returns-then-not-next_session-clause-serves
 returns-then-not-next_session-clause-serves g c = λ world known. last_turn _ _ _ _ world _ _ _ _ _ _ c.sessions.ended (c.sessions.invariant.1 world known) c.next_session.ensures.drops
+
+pub returns-in_default-clause-serves : goal.returns-in_default-clause-serves
+returns-in_default-clause-serves g c = λ world known. no_more_turns _ _ _ _ world _ _ _ _ _ c.sessions.ended (c.sessions.invariant.1 world known)
+
+pub returns-after-sessions-clause-serves : goal.returns-after-sessions-clause-serves
+returns-after-sessions-clause-serves g c = λ world known. no_more_turns _ _ _ _ world _ _ _ _ _ c.sessions.ended (c.sessions.invariant.1 world known)

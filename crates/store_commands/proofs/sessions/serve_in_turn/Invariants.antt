@@ -1,6 +1,6 @@
 use Rattle.std.proofs.Common.{◌≡◌, Some}
 use Rattle.plist_state.specs.State.{WorldState}
-use Rattle.store_commands.specs.Sessions.{InTurn}
+use Rattle.store_commands.proofs.Turns.{Row}
 use Rattle.store_commands.proofs.sessions.serve_in_turn.Given as goal
 
 -- the sessions so far, the last of which ended so
@@ -8,5 +8,5 @@ abbrev pub invariant-sessions : goal.invariant-sessions
 invariant-sessions g l =
     (l.store.macros ≡ l.fn.store.macros)
     × ((world : WorldState) → l.fn.store.world ≡ Some world
-    → InTurn g.M.Meaning.Meaning.functions l.fn.wanted g.D.Disk.state l.fn.store l.store world
-    (g.I.Read.remaining l.fn.input) (g.I.Read.remaining l.input) (g.O.Write.contents l.fn.output) (g.O.Write.contents l.output) l.ended)
+    → Row g.M.Meaning.Meaning.functions l.fn.wanted g.D.Disk.state l.fn.store world
+    (g.I.Read.remaining l.fn.input) (g.O.Write.contents l.fn.output) l.store (g.I.Read.remaining l.input) (g.O.Write.contents l.output) l.ended)

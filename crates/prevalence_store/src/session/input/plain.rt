@@ -1,0 +1,108 @@
+// A form that stands whole and plain in a piece.
+ghost use Rattle.std.specs.Prelude.{◌≡◌, ◌+◌, ◌<◌, ◌≤◌, ◌^◌, ℕ, List, None, ◌++◌, length, take, true, false, IfOk, IfSome};
+ghost use Rattle.lisp_object.specs.Object.{IsSound};
+ghost use Rattle.lisp_object.specs.Datum.{is_proper, object_of};
+ghost use Rattle.form_reader.specs.Reader.{fed};
+ghost use Rattle.prevalence_store.specs.declared.session.input.Fed.{Fed};
+ghost use Rattle.prevalence_store.specs.meaning.Acceptance.{table_in};
+ghost use Rattle.prevalence_store.specs.steps.Input.{Feeds, IsPending};
+ghost use Rattle.user_macros.specs.Functions.{Functions};
+
+use super::{Pending, ReadForm};
+use crate::mode::Mode;
+use crate::setting::{base_in, package_in};
+use form_reader::Limits;
+use plain_reader::read_plain;
+use plist_state::World;
+use readtable_core::Readtable;
+use std::alloc::{AllocError, Global};
+
+impl Pending {
+    /// The plain form that a piece begins with, if nothing is open and there is one. It takes no way through the reader of
+    /// bytes. Else nothing has changed.
+    pub(crate) fn feed_plain(
+        &mut self,
+        alloc: Global,
+        readtable: &Readtable,
+        world: &World,
+        mode: Mode,
+        piece: &[u8],
+    ) -> Result<Option<ReadForm>, AllocError>
+        requires table { readtable.now ≡ table_in world.now.0 mode }
+        requires dropped { self.old.dropped ≤ fed self.old.reader }
+        requires count { fed self.old.reader + length piece.now ≤ 2 ^ 63 }
+        ensures feeds { (functions : Functions) (bytes : List ℕ) → IsPending functions world.now.0 mode self.old bytes
+            → IfOk result (λ found. IfSome found (λ form. Feeds functions world.now.0 mode self.new
+            (bytes ++ take (length form.own.items) piece.now) (Fed.Form form false))) }
+        ensures sound { IfOk result (λ found. IfSome found
+            (λ form. (is_proper form.datum ≡ true) × IsSound (object_of form.datum))) }
+        ensures places { IfOk result (λ found. IfSome found
+            (λ form. (form.start ≡ self.old.dropped) × (form.next ≡ form.start + length form.own.items))) }
+        ensures some { IfOk result (λ found. IfSome found
+            (λ form. (0 < length form.own.items) × (length form.own.items ≤ length piece.now))) }
+        ensures none { IfOk result (λ found. found ≡ None → self.new ≡ self.old) }
+        ensures count { fed self.new.reader ≤ fed self.old.reader }
+    {
+        if !self.text.is_empty() {
+            return Ok(None);
+        }
+        let Some(front) = first_list(piece) else {
+            return Ok(None);
+        };
+        let (base, package) = (base_in(world, mode), package_in(world, mode));
+        let limits = Limits::form();
+        let Some(plain) = read_plain(
+            alloc,
+            limits,
+            readtable,
+            base,
+            world.packages(),
+            package,
+            front,
+        )?
+        else {
+            return Ok(None);
+        };
+        if plain.end != front.len() {
+            return Ok(None);
+        }
+        let own = Vec::from_slice(alloc, front)?;
+        let start = self.dropped;
+        *self = Pending::new(alloc);
+        Ok(Some(ReadForm {
+            datum: plain.datum,
+            own,
+            start,
+            next: start + front.len(),
+        }))
+    }
+}
+
+// The front of a piece to the parenthesis that closes the first one, outside of texts, if it begins with one. This is where a
+// form may end; whether it does, the reader says.
+fn first_list(piece: &[u8]) -> Option<&[u8]>
+    ensures some { IfSome result (λ front. 0 < length front.now) }
+    ensures front { IfSome result (λ front. front.now ≡ take (length front.now) piece.now) }
+    ensures within { IfSome result (λ front. length front.now ≤ length piece.now) }
+{
+    let mut depth = 0usize;
+    let mut in_text = false;
+    let mut count = 0;
+    'bytes: for byte in piece {
+        count += 1;
+        match *byte {
+            b'"' => in_text = !in_text,
+            b'(' if !in_text => depth = depth.saturating_add(1),
+            b')' if !in_text => depth = depth.saturating_sub(1),
+            _ => {}
+        }
+        if depth == 0 {
+            return if count > 1 {
+                Some(&piece[..count])
+            } else {
+                None
+            };
+        }
+    }
+    None
+}
