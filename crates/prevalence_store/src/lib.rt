@@ -46,6 +46,7 @@
 
 mod commit;
 mod failure;
+mod group;
 mod laws;
 mod mode;
 mod open_fault;
