@@ -2,6 +2,7 @@
 pub mod Fitting
 pub mod Committing
 pub mod Grouping
+pub mod Together
 pub mod Loading
 pub mod Replays
 pub mod Refusing
