@@ -1,6 +1,8 @@
 -- From what the functions below the calls do to what the calls answer.
 pub mod Fitting
 pub mod Committing
+pub mod Grouping
+pub mod Together
 pub mod Loading
 pub mod Replays
 pub mod Refusing

@@ -3,6 +3,7 @@ pub mod Store
 pub mod Execute
 pub mod Snapshot
 pub mod Run
+pub mod ExecuteAll
 pub mod Open
 -- of a session: its streams, when it takes snapshots, and how it ends
 pub mod Streams

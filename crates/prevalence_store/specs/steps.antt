@@ -1,6 +1,7 @@
 -- What the functions below the calls do, each file beside the source file of its name.
 pub mod Failure
 pub mod Commit
+pub mod Group
 pub mod Open
 pub mod Input
 pub mod Output

@@ -26,6 +26,7 @@
 //! - `Store::snapshot` starts the half that is not in use with the text of the world (`snapshot_text`), and changes neither
 //!   the world nor what the files mean (`Snapshots`).
 //! - `Store::run` gives per step what these two answer in the state that the steps before it left (`TakesSteps`).
+//! - `Store::execute_all` gives per text what these texts give in turn, and logs what they wrote together (`ExecutesAll`).
 //! - `Store::serve` is told by one relation (`Serves`): how many forms were taken and answered, in which mode, what of the
 //!   lines was written, what the log holds then (`IsAfter`), and a case for each ending with its cause.
 //! - `Store::serve_wanted` is `serve` with the place of a refusal, counted in the input (`IsPlace`), and where what is refused
@@ -34,7 +35,8 @@
 //!
 //! # Modules
 //!
-//! - `store` with `open`, `execute`, `snapshot` and `run`: the store, on the log of `gate_log`. `commit` evaluates a form and logs it;
+//! - `store` with `open`, `execute`, `execute_all`, `snapshot` and `run`: the store, on the log of `gate_log`. `commit` evaluates a
+//!   form and logs it, `group` those of many texts;
 //!   `replay` makes the world again from the records of a log; `setting` says under what a text is read, by the mode, and what it
 //!   begins with (`form_reader`).
 //! - `session`: `serve`, and its parts: `input` and `output`, the streams; `answer`, what becomes of a form that was read;
@@ -46,6 +48,7 @@
 
 mod commit;
 mod failure;
+mod group;
 mod laws;
 mod mode;
 mod open_fault;

@@ -20,6 +20,8 @@ pub enum Ask<'a> {
     Wanted(bool, Serving<'a>),
     /// A form in this mode: `accepted 7` for an integer, `accepted` for another value, or `refused N`.
     Form(Mode, &'a [u8]),
+    /// Forms in this mode that are executed together, each with a line as above; or `unrun 90`.
+    All(Mode, &'a [&'a [u8]]),
     /// A snapshot: `snapshotted`, or `refused N`.
     Snapshot,
     /// Steps, each with a line as above; or `unrun 90`.
@@ -156,6 +158,19 @@ fn form_line<D: Disk>(
     outcome_line(text, &execute(store, mode, form))
 }
 
+/// The lines of forms that are executed together.
+fn all_lines<D: Disk>(
+    store: &mut Store<D, ByName>,
+    mode: Mode,
+    forms: &[&[u8]],
+    text: &mut Vec<u8>,
+) -> Result<(), Trouble> {
+    match store.execute_all(mode, forms) {
+        Ok(outcomes) => outcome_lines(text, outcomes.as_slice()),
+        Err(AllocError) => Ok(text.extend_from_slice(b"unrun 90\n")?),
+    }
+}
+
 fn snapshot<D: Disk>(store: &mut Store<D, ByName>) -> Outcome {
     store.snapshot()
 }
@@ -211,6 +226,7 @@ pub fn ask_one<D: Disk>(
         Ask::Serve(session) => session_lines(alloc, store, session, text),
         Ask::Wanted(strict, session) => wanted_lines(alloc, store, strict, session, text),
         Ask::Form(mode, form) => form_line(store, mode, form, text),
+        Ask::All(mode, forms) => all_lines(store, mode, forms, text),
         Ask::Snapshot => snapshot_line(store, text),
         Ask::Run(steps) => run(store, steps, text),
         Ask::Half => half_line(store, text),
