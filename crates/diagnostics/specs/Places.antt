@@ -1,5 +1,5 @@
 -- Lines and columns of a text, and what an input keeps of what it gave.
-use Rattle.std.specs.Prelude.{◌≡◌, ◌==◌, ◌+◌, ℕ, if◌then◌else◌, List, [], ◌∷◌, ◌++◌, Option, length, IfSome}
+use Rattle.std.specs.Prelude.{◌≡◌, ◌==◌, ◌+◌, ℕ, if◌then◌else◌, List, [], ◌∷◌, ◌++◌, Option, Some, length, IfSome}
 use Rattle.diagnostics.specs.declared.places.Given.{Given}
 use Rattle.diagnostics.specs.declared.places.Spot.{Spot}
 
@@ -31,6 +31,10 @@ pub record IsMoved (spot : Spot) (text : List ℕ) (later : Spot) : Type 0 where
   pub bytes : later.bytes ≡ spot.bytes + length text
   pub line : later.line ≡ line_from spot.line text
   pub column : later.column ≡ column_from spot.column text
+
+-- the same of a place that is known
+abbrev pub IsMovedFrom : Option Spot → List ℕ → Spot → Type 0
+IsMovedFrom before text later = (spot : Spot) × (before ≡ Some spot) × IsMoved spot text later
 
 -- These bytes were given: the last ones are kept, and it is known which place is before them. Nothing is said if that is lost.
 abbrev pub KeepsIn : Option Spot → (older newer : List ℕ) → List ℕ → Type 0

@@ -1,7 +1,6 @@
 // Lines and columns of an input.
-ghost use Rattle.std.specs.Prelude.{◌≡◌, ◌+◌, ◌≤◌, ℕ, List, [], ◌∷◌, ◌++◌, Some, length, take, IfSome};
-ghost use Rattle.diagnostics.specs.Places.{IsMoved, IsSpotAfter, Keeps};
-ghost use Rattle.diagnostics.specs.declared.places.Spot.{Spot};
+ghost use Rattle.std.specs.Prelude.{◌≡◌, ◌+◌, ◌≤◌, ℕ, List, [], ◌∷◌, ◌++◌, length, take, IfSome};
+ghost use Rattle.diagnostics.specs.Places.{IsMoved, IsMovedFrom, IsSpotAfter, Keeps};
 
 use std::alloc::{AllocError, Global};
 use std::io::Read;
@@ -159,7 +158,7 @@ fn bytes_between(from: u64, to: u64) -> Option<usize>
 
 // The place after a text more, if it is known.
 fn passed(before: Option<Spot>, text: &[u8]) -> Option<Spot>
-    ensures { IfSome result (λ later. (spot : Spot) × (before ≡ Some spot) × IsMoved spot text.now later) }
+    ensures { IfSome result (IsMovedFrom before text.now) }
 {
     before?.through(text)
 }
