@@ -5,6 +5,7 @@ ghost use Rattle.package_table.specs.Table.{IsPackage};
 mod bases;
 mod calls;
 mod hostile;
+mod large;
 mod trial;
 
 use form_reader::{
