@@ -13,8 +13,8 @@ use Rattle.store_commands.specs.Told.{IsToldOf}
 use Rattle.store_commands.specs.declared.status.Status.{Status}
 use Rattle.store_commands.specs.declared.status.Status.TheVariants.{Fault}
 use Rattle.store_commands.specs.declared.told.Told.{Told}
-use Rattle.store_commands.specs.declared.words.Task.{Task}
-use Rattle.store_commands.specs.declared.words.Task.TheVariants.{Export, Run, Snapshot, Tell, Upgrade}
+use Rattle.command_words.specs.declared.words.Task.{Task}
+use Rattle.command_words.specs.declared.words.Task.TheVariants.{Export, Run, Snapshot, Tell, Upgrade}
 use Rattle.store_commands.proofs.SessionLaws.{broken_at, fault_of_session, no_opening_at, nothing_written, number_of_opening}
 use Rattle.store_commands.proofs.Statuses.{end_at, taken_at_end}
 use Rattle.store_commands.proofs.Tasks.{performs_nothing}

@@ -10,8 +10,8 @@ use Rattle.prevalence_store.specs.declared.outcome.Wanted.{Wanted}
 use Rattle.user_macros.specs.Functions.{Functions}
 use Rattle.store_commands.specs.Commands.{DoesAfter, IsUntouched, OpensFolder, SitsAfter}
 use Rattle.store_commands.specs.Folders.{HoldsStore, LooksWhether, OpensStore}
-use Rattle.store_commands.specs.declared.words.Task.{Task}
-use Rattle.store_commands.specs.declared.words.Task.TheVariants.{Export, Run, Snapshot, Tell, Upgrade}
+use Rattle.command_words.specs.declared.words.Task.{Task}
+use Rattle.command_words.specs.declared.words.Task.TheVariants.{Export, Run, Snapshot, Tell, Upgrade}
 use Rattle.store_commands.specs.Status.{status_of_host}
 use Rattle.store_commands.specs.declared.status.Status.{Status}
 use Rattle.store_commands.specs.declared.told.Told.{Told}

@@ -9,14 +9,15 @@ use Rattle.user_macros.specs.Functions.{Functions}
 use Rattle.store_commands.specs.Commands.{TaskBreaksOff, TaskWrites, is_of_opening}
 use Rattle.store_commands.specs.Report.{DumpsWorld, IsReport, TellsHalf}
 use Rattle.store_commands.specs.Status.{HasFaultNumber, IsFaultNumber, TakesWords, status_of_output}
-use Rattle.store_commands.specs.Texts.{TellsText, WritesOut}
-use Rattle.store_commands.specs.declared.fault.Unwritten.{Unwritten}
+use Rattle.diagnostics.specs.Texts.{WritesOut}
+use Rattle.store_commands.specs.Texts.{TellsText}
+use Rattle.diagnostics.specs.declared.fault.Unwritten.{Unwritten}
 use Rattle.store_commands.specs.declared.status.Status.{Status}
 use Rattle.store_commands.specs.declared.status.Status.TheVariants.{Done, Helped, FormRefused, WordsRefused, LeftOut, Fault}
 use Rattle.store_commands.specs.declared.told.Told.{Told}
-use Rattle.store_commands.specs.declared.words.Report.{Report}
-use Rattle.store_commands.specs.declared.words.Report.TheVariants.{Dump, Verify}
-use Rattle.store_commands.specs.declared.words.Task.TheVariants.{Tell}
+use Rattle.command_words.specs.declared.words.Report.{Report}
+use Rattle.command_words.specs.declared.words.Report.TheVariants.{Dump, Verify}
+use Rattle.command_words.specs.declared.words.Task.TheVariants.{Tell}
 use Rattle.store_commands.proofs.Statuses.{other_number}
 
 -- what was written is the text of this world

@@ -26,7 +26,7 @@ use Rattle.store_commands.specs.Commands.{is_of_opening}
 use Rattle.store_commands.specs.Session.{AnswersInput, AnswersToRefusal, IsBrokenOff, IsWritten, ReadsToEnd}
 use Rattle.store_commands.specs.Status.{HasFaultNumber, IsFaultNumber, status_of_ended}
 use Rattle.store_commands.specs.Told.{IsToldOf}
-use Rattle.store_commands.specs.declared.refusal.Refusal.{Refusal}
+use Rattle.diagnostics.specs.declared.refusal.Refusal.{Refusal}
 use Rattle.store_commands.specs.declared.told.Told.{Told}
 use Rattle.store_commands.proofs.Statuses.{other_number}
 

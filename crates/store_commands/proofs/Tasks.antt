@@ -20,10 +20,10 @@ use Rattle.store_commands.specs.declared.told.Told.{Told}
 use Rattle.store_commands.specs.declared.told.Told.TheVariants.{Nothing}
 use Rattle.store_commands.specs.declared.status.Status.{Status}
 use Rattle.store_commands.specs.declared.status.Status.TheVariants.{Fault}
-use Rattle.store_commands.specs.declared.words.Report.{Report}
-use Rattle.store_commands.specs.declared.words.Report.TheVariants.{Dump, Verify}
-use Rattle.store_commands.specs.declared.words.Task.{Task}
-use Rattle.store_commands.specs.declared.words.Task.TheVariants.{Export, Run, Snapshot, Tell, Upgrade}
+use Rattle.command_words.specs.declared.words.Report.{Report}
+use Rattle.command_words.specs.declared.words.Report.TheVariants.{Dump, Verify}
+use Rattle.command_words.specs.declared.words.Task.{Task}
+use Rattle.command_words.specs.declared.words.Task.TheVariants.{Export, Run, Snapshot, Tell, Upgrade}
 use Rattle.store_commands.proofs.Reports.{report_breaks, report_writes, text_fault, text_of_no_opening, text_taken}
 use Rattle.store_commands.proofs.SessionLaws.{answers_input, broken_at, fault_of_session, no_opening_at, nothing_written, number_of_opening, reads_to_end}
 use Rattle.store_commands.proofs.Snapshots.{snapshot_breaks, snapshot_fault, snapshot_of_no_opening, snapshot_taken, snapshot_writes}

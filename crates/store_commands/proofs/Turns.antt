@@ -10,10 +10,10 @@ use Rattle.prevalence_store.specs.declared.outcome.Ended.TheVariants.{End, Store
 use Rattle.prevalence_store.specs.declared.outcome.Wanted.{Wanted}
 use Rattle.prevalence_store.specs.calls.Store.{StoreView}
 use Rattle.user_macros.specs.Functions.{Functions}
-use Rattle.store_commands.specs.Refusals.{IsRefusalOf}
+use Rattle.diagnostics.specs.Refusals.{IsRefusalOf}
 use Rattle.prevalence_store.specs.calls.Serve.{ServesWanted}
 use Rattle.store_commands.specs.Sessions.{Drops, DropsByte, Earlier, EndsRefused, InTurn, IsOfLine}
-use Rattle.store_commands.specs.declared.refusal.Refusal.{Refusal}
+use Rattle.diagnostics.specs.declared.refusal.Refusal.{Refusal}
 
 -- where there is a refusal the session ended with it
 pub ends_refused : (ended : Ended) (given : Option Refusal) (refusal : Refusal) → given ≡ Some refusal → IsRefusalOf ended given → EndsRefused ended

@@ -15,7 +15,7 @@ use Rattle.store_commands.specs.Status.{HasFaultNumber, TakesWords}
 use Rattle.store_commands.specs.Texts.{TellsText}
 use Rattle.store_commands.specs.declared.status.Status.{Status}
 use Rattle.store_commands.specs.declared.status.Status.TheVariants.{Done, Helped, FormRefused, WordsRefused, LeftOut, Fault}
-use Rattle.store_commands.specs.declared.words.Task.TheVariants.{Export, Upgrade}
+use Rattle.command_words.specs.declared.words.Task.TheVariants.{Export, Upgrade}
 use Rattle.store_commands.proofs.Reports.{text_fault, text_front, text_of_no_opening, text_taken}
 use Rattle.store_commands.proofs.Snapshots.{no_value, refused_fault, refused_opening}
 

@@ -15,15 +15,15 @@ use Rattle.store_commands.specs.Report.{DumpsWorld, IsExport, IsReport, IsSnapsh
 use Rattle.store_commands.specs.Session.{AnswersInput, IsBrokenOff, IsSession, ReadsToEnd, half_limit}
 use Rattle.store_commands.specs.Sessions.{AreSessions}
 use Rattle.store_commands.specs.Status.{HasFaultNumber, IsCarriedOut, TakesWords, status_of_ended, status_of_host}
-use Rattle.store_commands.specs.Texts.{IsFront}
+use Rattle.diagnostics.specs.Texts.{IsFront}
 use Rattle.store_commands.specs.Told.{IsToldOf, left_out_of}
 use Rattle.store_commands.specs.declared.status.Status.{Status}
 use Rattle.store_commands.specs.declared.status.Status.TheVariants.{Fault, WordsRefused}
 use Rattle.store_commands.specs.declared.told.Told.{Told}
 use Rattle.store_commands.specs.declared.told.Told.TheVariants.{Cause}
-use Rattle.store_commands.specs.declared.words.Report.TheVariants.{Dump, Verify}
-use Rattle.store_commands.specs.declared.words.Task.{Task}
-use Rattle.store_commands.specs.declared.words.Task.TheVariants.{Export, Run, Snapshot, Tell, Upgrade}
+use Rattle.command_words.specs.declared.words.Report.TheVariants.{Dump, Verify}
+use Rattle.command_words.specs.declared.words.Task.{Task}
+use Rattle.command_words.specs.declared.words.Task.TheVariants.{Export, Run, Snapshot, Tell, Upgrade}
 
 -- nothing was read, and nothing written
 abbrev pub IsUntouched : {I O : Type 0} → I → I → O → O → Type 0

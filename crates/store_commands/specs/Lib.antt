@@ -1,9 +1,6 @@
-pub mod CommandLine
 pub mod Commands
 pub mod Folders
 pub mod MacroFunctions
-pub mod Places
-pub mod Refusals
 pub mod Report
 pub mod Session
 pub mod Sessions

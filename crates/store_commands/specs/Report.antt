@@ -16,8 +16,8 @@ use Rattle.store_commands.specs.Texts.{TellsText}
 use Rattle.store_commands.specs.Session.{half_limit}
 use Rattle.store_commands.specs.declared.status.Status.{Status}
 use Rattle.store_commands.specs.declared.status.Status.TheVariants.{Done, Helped, FormRefused, WordsRefused, LeftOut, Fault}
-use Rattle.store_commands.specs.declared.words.Report.{Report}
-use Rattle.store_commands.specs.declared.words.Report.TheVariants.{Dump, Verify}
+use Rattle.command_words.specs.declared.words.Report.{Report}
+use Rattle.command_words.specs.declared.words.Report.TheVariants.{Dump, Verify}
 
 -- the letter of a half
 abbrev pub letter_of : Half → List ℕ

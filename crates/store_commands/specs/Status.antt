@@ -8,7 +8,7 @@ use Rattle.disk_trait.specs.declared.host.HostError.TheVariants as host
 use Rattle.lisp_object.specs.declared.refusal.TheConstants.{DEVICE, DAMAGED, OUTPUT, NO_MEMORY}
 use Rattle.prevalence_store.specs.declared.outcome.Ended.{Ended}
 use Rattle.prevalence_store.specs.declared.outcome.Ended.TheVariants.{End, Store, Unaccepted, Unreadable}
-use Rattle.store_commands.specs.declared.fault.Unwritten.{Unwritten}
+use Rattle.diagnostics.specs.declared.fault.Unwritten.{Unwritten}
 use Rattle.store_commands.specs.declared.status.Status.{Status}
 use Rattle.store_commands.specs.declared.status.Status.TheVariants.{Done, Helped, FormRefused, WordsRefused, LeftOut, Fault}
 

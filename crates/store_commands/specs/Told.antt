@@ -1,22 +1,15 @@
 -- What is told on standard error as the program ends.
-use Rattle.std.specs.Prelude.{◌≡◌, ◌≢◌, ◌⊎◌, ℕ, List, [], ◌∷◌, ◌++◌, All, Option}
-use Rattle.lisp_object.specs.declared.refusal.TheConstants.{DEVICE}
+use Rattle.std.specs.Prelude.{◌≡◌, ◌⊎◌, ℕ, List, [], Option}
 use Rattle.prevalence_store.specs.declared.outcome.Ended.{Ended}
 use Rattle.prevalence_store.specs.declared.outcome.Ended.TheVariants as ways
-use Rattle.prevalence_store.specs.meaning.Answers.{refusal_line}
+use Rattle.diagnostics.specs.Faults.{IsFaultText}
 use Rattle.prevalence_store.specs.calls.Streams.{Writes, WritesPart}
-use Rattle.store_commands.specs.Refusals.{line_of}
-use Rattle.store_commands.specs.declared.refusal.Refusal.{Refusal}
+use Rattle.diagnostics.specs.Refusals.{line_of}
+use Rattle.diagnostics.specs.declared.refusal.Refusal.{Refusal}
 use Rattle.store_commands.specs.declared.status.Status.{Status}
 use Rattle.store_commands.specs.declared.status.Status.TheVariants as statuses
 use Rattle.store_commands.specs.declared.told.Told.{Told}
 use Rattle.store_commands.specs.declared.told.Told.TheVariants.{Nothing, Cause, LeftOut, Refused}
-
--- What is told of a fault: its line, and after that of the device perhaps one more, with the cause.
-abbrev pub IsFaultText : ℕ → List ℕ → Type 0
-IsFaultText number text =
-    (text ≡ refusal_line number)
-    ⊎ ((number ≡ DEVICE) × (cause : List ℕ) × All (λ byte. byte ≢ 10) cause × (text ≡ refusal_line number ++ (cause ++ 10 ∷ [])))
 
 -- the text, or, if that failed, a part of it from its front
 abbrev pub WritesSome : Option (List ℕ) → Option (List ℕ) → List ℕ → Type 0

@@ -5,9 +5,9 @@ ghost use Rattle.user_macros.specs.Functions.{are_registered};
 ghost use Rattle.store_commands.specs.Report.{IsExport, TellsForms};
 ghost use Rattle.store_commands.specs.Session.{half_limit};
 
-use crate::fault::write_out;
 use crate::session::HALF_LIMIT;
 use crate::status::Status;
+use diagnostics::write_out;
 use disk_trait::Disk;
 use lisp_object::refusal::{NO_MEMORY, OUTPUT, REOPEN};
 use plist_state::Seed;

@@ -1,10 +1,10 @@
 // The line on the half in use.
 ghost use Rattle.std.specs.Prelude.{◌≡◌};
 ghost use Rattle.store_commands.specs.Report.{half_line, letter_of};
-ghost use Rattle.store_commands.specs.Texts.{WritesOut};
+ghost use Rattle.diagnostics.specs.Texts.{WritesOut};
 
-use crate::fault::{Unwritten, write_out};
 use arrayvec::ArrayString;
+use diagnostics::{Unwritten, write_out};
 use disk_trait::Half;
 use std::fmt::Write as WriteText;
 use std::io::Write;

@@ -7,26 +7,20 @@
 //!   writes the forms that make the world, and `report_on` writes what is told of a store (modules `session`, `snapshot`, `upgrade`,
 //!   `export` and `report`).
 //! - `sessions_on` serves sessions in a row (module `sessions`), and `terminal` has the input that asks for them, with its prompts.
-//! - `words` has the command line: `run DIR [--rescue] [--strict] [--snapshot-every N]`, `snapshot DIR`, `upgrade DIR`, `export DIR [--data]`,
-//!   `dump DIR` and `verify DIR`, each with `--existing`; `help` has the texts of its help.
-//! - `fault` writes the line of a fault, and that with its cause; `refusal` that on the refusal that ended a session; `half_line` that
-//!   on the half in use.
-//! - `places` has the input that tells lines and columns, and `folders` what opens the files of a folder, and the disk that they are.
-//! - `existing_stores_are_open` (module `laws`): with `--existing` one of both files of an honest disk is a half in use.
+//! - `command_words` has the command line; `diagnostics` writes the line of a fault, and that on the refusal that ended a session, and
+//!   has the input that tells lines and columns; `half_line` writes that on the half in use.
+//! - `folders` has what opens the files of a folder, and the disk that they are. `existing_stores_are_open` (module `laws`): with
+//!   `--existing` one of both files of an honest disk is a half in use.
 //! - `meaning` says what the macro functions of the program mean, and `macro_functions` has those that compute an object.
 #![tactic(auto)]
 
 mod commands;
 mod export;
-mod fault;
 mod folders;
 mod half_line;
-mod help;
 mod laws;
 pub mod macro_functions;
 mod meaning;
-mod places;
-mod refusal;
 mod report;
 mod session;
 mod sessions;
@@ -35,17 +29,18 @@ mod status;
 mod terminal;
 mod told;
 mod upgrade;
-mod words;
 
+pub use command_words::{Report, Task};
 pub use commands::{program, program_at_terminal};
+pub use diagnostics::{
+    Lines, Places, Refusal, Spot, Spots, Unwritten, write_fault, write_fault_with_cause,
+    write_refusal,
+};
 pub use export::export_on;
-pub use fault::{Unwritten, write_fault, write_fault_with_cause};
 pub use folders::{Folders, TellsCause};
 pub use half_line::write_half_line;
 pub use laws::existing_stores_are_open;
 pub use meaning::SixFunctions;
-pub use places::{Lines, Places, Spot};
-pub use refusal::{Refusal, Spots, write_refusal};
 pub use report::report_on;
 pub use session::{HALF_LIMIT, serve_on};
 pub use sessions::sessions_on;
@@ -54,4 +49,3 @@ pub use status::Status;
 pub use terminal::{Answers, Sessions, Terminal};
 pub use told::end_with;
 pub use upgrade::upgrade_on;
-pub use words::{Report, Task};

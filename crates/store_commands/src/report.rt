@@ -8,11 +8,11 @@ ghost use Rattle.store_commands.specs.Session.{half_limit};
 ghost use Rattle.store_commands.specs.Status.{status_of_output};
 ghost use Rattle.store_commands.specs.Texts.{TellsText};
 
-use crate::fault::{Unwritten, write_out};
 use crate::half_line::write_half_line;
 use crate::session::HALF_LIMIT;
 use crate::status::Status;
-use crate::words::Report;
+use command_words::Report;
+use diagnostics::{Unwritten, write_out};
 use disk_trait::Disk;
 use lisp_object::refusal::{NO_MEMORY, OUTPUT, REOPEN};
 use plist_state::Seed;

@@ -7,9 +7,9 @@ ghost use Rattle.store_commands.specs.Commands.{IsUntouched};
 ghost use Rattle.store_commands.specs.Session.{half_limit};
 ghost use Rattle.store_commands.specs.Sessions.{AreSessions, InTurn};
 
-use crate::refusal::Refusal;
 use crate::session::HALF_LIMIT;
 use crate::terminal::Sessions;
+use diagnostics::Refusal;
 use disk_trait::Disk;
 use plist_state::Seed;
 use prevalence_store::{Ended, Store, Unopened, Wanted};

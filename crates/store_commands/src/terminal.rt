@@ -2,9 +2,7 @@
 ghost use Rattle.std.specs.Prelude.{◌≡◌};
 ghost use Rattle.store_commands.specs.Sessions.{Drops, DropsByte};
 
-use crate::fault::write_text;
-use crate::places::{Places, Spot};
-use crate::refusal::{Refusal, write_refusal};
+use diagnostics::{Places, Refusal, Spot, write_refusal, write_text};
 use std::cell::Cell;
 use std::io;
 use std::io::{Read, Write};

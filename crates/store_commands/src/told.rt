@@ -3,10 +3,8 @@ ghost use Rattle.std.specs.Prelude.{◌≡◌, ◌⊎◌};
 ghost use Rattle.store_commands.specs.Told.{IsToldOf, TellsFault, TellsRefusal, left_out_of};
 ghost use Rattle.store_commands.specs.Status.{IsQuiet};
 
-use crate::fault::{write_fault_with_cause, write_text};
-use crate::places::Places;
-use crate::refusal::{Refusal, write_refusal};
 use crate::status::Status;
+use diagnostics::{Places, Refusal, write_fault_with_cause, write_refusal, write_text};
 use disk_trait::HostError;
 use prevalence_store::Ended;
 use std::io::Write;

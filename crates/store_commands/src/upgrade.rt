@@ -5,13 +5,13 @@ ghost use Rattle.prevalence_store.specs.calls.Open.{IsUnopened};
 ghost use Rattle.user_macros.specs.Functions.{are_registered};
 ghost use Rattle.store_commands.specs.Report.{HasNoValue, IsUpgrade, TellsUpgrade, Upgrades, version_line};
 ghost use Rattle.store_commands.specs.Session.{half_limit};
-ghost use Rattle.store_commands.specs.Texts.{WritesOut};
+ghost use Rattle.diagnostics.specs.Texts.{WritesOut};
 
-use crate::fault::{Unwritten, write_out};
 use crate::report::status_of_output;
 use crate::session::HALF_LIMIT;
 use crate::status::Status;
 use arrayvec::ArrayString;
+use diagnostics::{Unwritten, write_out};
 use disk_trait::Disk;
 use plist_state::Seed;
 use prevalence_store::{Outcome, Store, Unopened};

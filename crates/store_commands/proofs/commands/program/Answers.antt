@@ -1,10 +1,10 @@
 use Rattle.std.proofs.Common.{◌∙◌, ap, inl, map, refl, subst, sym}
 use Rattle.clap.specs.Words.{Kinds, kind_of}
 use Rattle.store_commands.specs.Folders.{OpensStore}
-use Rattle.store_commands.specs.CommandLine.{asked_in, faults_of}
+use Rattle.command_words.specs.CommandLine.{asked_in, faults_of}
 use Rattle.store_commands.specs.Status.{EndsAfter, HasFaultNumber, IsAfterWords, IsCarriedOut, TakesWords}
-use Rattle.store_commands.proofs.CommandLineLaws.{line_is_taken}
-use Rattle.store_commands.proofs.FoundWords.{same_existing, same_folder, same_task}
+use Rattle.command_words.proofs.CommandLineLaws.{line_is_taken}
+use Rattle.command_words.proofs.FoundWords.{same_existing, same_folder, same_task}
 use Rattle.store_commands.proofs.FolderLaws.{moved_opening}
 use Rattle.store_commands.specs.Told.{TellsFault}
 use Rattle.store_commands.specs.declared.status.Status.{Status}

@@ -2,7 +2,7 @@ use Rattle.std.proofs.Common.{◌≡◌, ◌∙◌, ◌++◌, ◌∷◌, [], Lis
 use Rattle.std.proofs.lemmas.Fmt.{contents_after_writes}
 use Rattle.std.specs.Prelude.{decimal}
 use Rattle.store_commands.specs.Report.{half_line}
-use Rattle.store_commands.specs.Texts.{WritesOut}
+use Rattle.diagnostics.specs.Texts.{WritesOut}
 use Rattle.store_commands.proofs.half_line.write_half_line.Given as given
 use Rattle.store_commands.proofs.half_line.write_half_line.Goals as goal
 

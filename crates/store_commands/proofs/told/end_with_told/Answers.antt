@@ -1,7 +1,7 @@
 use Rattle.std.proofs.Common.{subst, sym}
 use Rattle.store_commands.specs.Told.{TellsFault, WritesSome}
 use Rattle.store_commands.specs.declared.status.Status.{Status}
-use Rattle.store_commands.proofs.Fronts.{either_part}
+use Rattle.diagnostics.proofs.Fronts.{either_part}
 use Rattle.store_commands.proofs.told.end_with_told.Goals as goal
 
 pub returns-in-Fault-clause-told : goal.returns-in-Fault-clause-told

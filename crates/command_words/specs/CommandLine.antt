@@ -1,0 +1,201 @@
+-- The command line of the program, as clap reads it: `run DIR [--rescue] [--strict] [--snapshot-every N]`, `snapshot DIR`, `upgrade DIR`,
+-- `export DIR [--data]`, `dump DIR` and `verify DIR`, each with `--existing`.
+use Rattle.std.specs.Prelude.{◌≡◌, ◌≢◌, ◌≤◌, ◌^◌, ◌-◌, ◌⊎◌, ℕ, Bool, true, false, if◌then◌else◌, List, [], ◌∷◌, ◌++◌, Option, Some, None, codes, option_map, option_and_then}
+use Rattle.std.specs.Option.{option_map_or}
+use Rattle.std.specs.Str.{bytes_eq}
+use Rattle.std.specs.Str.Parse.{IsNumeral, digits_value, without_leading_plus}
+use Rattle.clap.specs.ValueTests.{is_unsigned_in}
+use Rattle.clap.specs.Kinds.{Kinds, or_else}
+use Rattle.clap.specs.Words.{App, Row, Rule, Text, fault_of, first_of, new_app, new_rule, one_of, subcommand_of, with_rule, with_subcommand}
+use Rattle.clap.specs.Simple.{on_top}
+use Rattle.clap.specs.declared.builder.action.ArgAction.TheVariants.{Set, SetTrue}
+use Rattle.clap.specs.declared.builder.value_parser.ValueParser.TheVariants.{Unsigned}
+use Rattle.clap.specs.declared.error.kind.ErrorKind.TheVariants.{MissingRequiredArgument}
+use Rattle.prevalence_store.specs.declared.mode.Mode.{Mode}
+use Rattle.prevalence_store.specs.declared.mode.Mode.TheVariants.{Current, Rescue}
+use Rattle.prevalence_store.specs.declared.outcome.Wanted.{Wanted}
+use Rattle.world_forms.specs.declared.export.Content.{Content}
+use Rattle.world_forms.specs.declared.export.Content.TheVariants.{Data, World}
+use Rattle.command_words.specs.declared.words.Task.{Task}
+use Rattle.command_words.specs.declared.words.Report.TheVariants.{Dump, Verify}
+use Rattle.command_words.specs.declared.words.Task.TheVariants.{Export, Run, Snapshot, Tell, Upgrade}
+
+-- DIR: one value, required
+abbrev pub directory_rule : Rule
+directory_rule = record (new_rule (codes "DIR")) {
+  required = true;
+  action = Some Set;
+}
+
+-- --rescue: a flag
+abbrev pub rescue_rule : Rule
+rescue_rule = record (new_rule (codes "rescue")) {
+  long = Some (codes "rescue");
+  action = Some SetTrue;
+}
+
+-- --strict: a flag
+abbrev pub strict_rule : Rule
+strict_rule = record (new_rule (codes "strict")) {
+  long = Some (codes "strict");
+  action = Some SetTrue;
+}
+
+-- --snapshot-every N: one value, a number from 1 to 1,000,000
+abbrev pub every_rule : Rule
+every_rule = record (new_rule (codes "snapshot-every")) {
+  long = Some (codes "snapshot-every");
+  action = Some Set;
+  value_names = 1;
+  parser = Some (Unsigned 1 1000000);
+}
+
+-- --existing: a flag
+abbrev pub existing_rule : Rule
+existing_rule = record (new_rule (codes "existing")) {
+  long = Some (codes "existing");
+  action = Some SetTrue;
+}
+
+-- a command of this name, with its folder
+abbrev pub folder_line : Text → App
+folder_line name = with_rule (with_rule (new_app name) directory_rule) existing_rule
+
+abbrev pub run_line : App
+run_line = with_rule (with_rule (with_rule (folder_line (codes "run")) rescue_rule) strict_rule) every_rule
+
+-- --data: a flag
+abbrev pub data_rule : Rule
+data_rule = record (new_rule (codes "data")) {
+  long = Some (codes "data");
+  action = Some SetTrue;
+}
+
+abbrev pub export_line : App
+export_line = with_rule (folder_line (codes "export")) data_rule
+
+-- the program, with its commands and its version
+abbrev pub program_line : App
+program_line = on_top (λ s. record s { subcommand_required = true; has_version = true }) (new_app (codes "store_program"))
+
+abbrev pub command_line : App
+command_line =
+    with_subcommand (with_subcommand (with_subcommand (with_subcommand (with_subcommand (with_subcommand program_line
+    run_line.top) (folder_line (codes "snapshot")).top) (folder_line (codes "upgrade")).top) export_line.top)
+    (folder_line (codes "dump")).top) (folder_line (codes "verify")).top
+
+-- whether a flag is there, which has the value true
+abbrev pub is_set : Option Text → Bool
+is_set flag = option_map_or (bytes_eq (codes "true")) flag false
+
+-- the mode of a flag
+abbrev pub mode_of_flag : Option Text → Mode
+mode_of_flag flag = if is_set flag then Rescue else Current
+
+-- what is exported, by the flag
+abbrev pub content_of_flag : Option Text → Content
+content_of_flag flag = if is_set flag then Data else World
+
+-- after how many forms a snapshot is taken: 0, which is never, where no number is given
+abbrev pub every_of_number : Option Text → ℕ
+every_of_number None = 0
+every_of_number (Some text) = if is_unsigned_in 0 (2 ^ 64 - 1) text then digits_value 10 (without_leading_plus text) else 0
+
+-- the same of the rows that were found
+abbrev pub every_in : List Row → ℕ
+every_in rows = every_of_number (one_of (codes "snapshot-every") rows)
+
+-- what is wanted of a session, by the rows that were found
+abbrev pub wanted_of : List Row → Wanted
+wanted_of rows = record {
+  mode = mode_of_flag (first_of (codes "rescue") rows);
+  snapshot_every = every_in rows;
+  strict = is_set (first_of (codes "strict") rows);
+}
+
+-- what a command is to do
+abbrev pub task_of : Text × List Row → Option Task
+task_of found =
+    if bytes_eq found.0 (codes "run") then Some (Run (wanted_of found.1))
+    else (if bytes_eq found.0 (codes "snapshot") then Some Snapshot
+    else (if bytes_eq found.0 (codes "upgrade") then Some Upgrade
+    else (if bytes_eq found.0 (codes "export") then Some (Export (content_of_flag (first_of (codes "data") found.1)))
+    else (if bytes_eq found.0 (codes "dump") then Some (Tell Dump)
+    else (if bytes_eq found.0 (codes "verify") then Some (Tell Verify)
+    else None)))))
+
+-- A folder, whether its store has to be there already, and what is to be done with it.
+abbrev pub Asked : Type 0
+Asked = Text × Bool × Task
+
+-- what was found asks for
+abbrev pub asked_of : Text × List Row → Option Asked
+asked_of found =
+    option_and_then (λ folder. option_map (λ task. (folder, is_set (first_of (codes "existing") found.1), task)) (task_of found))
+    (first_of (codes "DIR") found.1)
+
+-- what the words ask for
+abbrev pub asked_in : List Text → Option Asked
+asked_in words = option_and_then asked_of (subcommand_of command_line words)
+
+-- no command with its folder was found
+abbrev pub missing_command : Option Asked → Kinds
+missing_command None = MissingRequiredArgument ∷ []
+missing_command (Some asked) = []
+
+-- The mistakes that the words are refused for, or the help that they ask for: by the statement of clap, and then that no command
+-- with its folder is there. None where the command line has the words.
+abbrev pub faults_of : List Text → Kinds
+faults_of words = or_else (fault_of command_line words) (missing_command (asked_in words))
+
+-- the command line has the words, and they ask for this
+abbrev pub IsTaken : List Text → Text → Bool → Task → Type 0
+IsTaken words folder existing task = (faults_of words ≡ []) × (asked_in words ≡ Some (folder, existing, task))
+
+-- the word does not begin with a hyphen, and has a character
+abbrev pub IsNoOption : Text → Type 0
+IsNoOption [] = ⊥
+IsNoOption (x ∷ xs) = x ≢ 45
+
+-- the flag of a mode
+abbrev pub flag_for : Mode → List Text
+flag_for Current = []
+flag_for Rescue = codes "--rescue" ∷ []
+
+-- the flag of a strict session
+abbrev pub strict_for : Bool → List Text
+strict_for false = []
+strict_for true = codes "--strict" ∷ []
+
+-- the flag of what is exported
+abbrev pub data_for : Content → List Text
+data_for World = []
+data_for Data = codes "--data" ∷ []
+
+-- the flag for a store that has to be there
+abbrev pub existing_for : Bool → List Text
+existing_for false = []
+existing_for true = codes "--existing" ∷ []
+
+-- the option on snapshots: a decimal number from 1 to 1,000,000
+abbrev pub IsEvery : ℕ → Text → Type 0
+IsEvery every number = IsNumeral 10 number × (digits_value 10 number ≡ every) × (1 ≤ every) × (every ≤ 1000000)
+
+-- The words of a command on this folder that asks for this. A number of snapshots beside `--existing` or `--strict` is not among them.
+abbrev pub IsLine : List Text → Text → Bool → Task → Type 0
+IsLine words folder false (Run wanted) =
+    ((wanted.snapshot_every ≡ 0) × (words ≡ codes "run" ∷ folder ∷ (flag_for wanted.mode ++ (strict_for wanted.strict ++ []))))
+    ⊎ ((wanted.strict ≡ false) × (number : Text) × (words ≡ codes "run" ∷ folder ∷ (flag_for wanted.mode ++ codes "--snapshot-every" ∷ number ∷ []))
+    × IsEvery wanted.snapshot_every number)
+IsLine words folder true (Run wanted) =
+    (wanted.snapshot_every ≡ 0) × (words ≡ codes "run" ∷ folder ∷ (flag_for wanted.mode ++ (strict_for wanted.strict ++ existing_for true)))
+IsLine words folder existing Snapshot = words ≡ codes "snapshot" ∷ folder ∷ existing_for existing
+IsLine words folder existing Upgrade = words ≡ codes "upgrade" ∷ folder ∷ existing_for existing
+IsLine words folder existing (Export content) = words ≡ codes "export" ∷ folder ∷ (data_for content ++ existing_for existing)
+IsLine words folder existing (Tell Dump) = words ≡ codes "dump" ∷ folder ∷ existing_for existing
+IsLine words folder existing (Tell Verify) = words ≡ codes "verify" ∷ folder ∷ existing_for existing
+
+-- the words are the program's name, and a command on this folder that asks for this
+abbrev pub AsksFor : List Text → Text → Bool → Task → Type 0
+AsksFor words folder existing task =
+    (program : Text) × (line : List Text) × (words ≡ program ∷ line) × IsLine line folder existing task × IsNoOption folder

@@ -1,0 +1,4 @@
+pub mod Faults
+pub mod Places
+pub mod Refusals
+pub mod Texts

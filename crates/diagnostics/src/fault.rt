@@ -1,0 +1,99 @@
+// The line of a fault, that with its cause, and how a text is written.
+ghost use Rattle.std.specs.Prelude.{◌≢◌, ℕ, List, [], ◌∷◌, ◌++◌, All};
+ghost use Rattle.prevalence_store.specs.meaning.Answers.{refusal_line};
+ghost use Rattle.diagnostics.specs.Faults.{IsFaultText};
+ghost use Rattle.diagnostics.specs.Texts.{WritesOut, WritesText};
+
+use arrayvec::{ArrayString, ArrayVec};
+use disk_trait::HostError;
+use lisp_object::refusal::{DEVICE, name_of};
+use std::fmt::Write as WriteText;
+use std::io::Write;
+
+/// A text was not written whole.
+#[derive(Clone, Copy, Debug, PartialEq, Eq)]
+pub struct Unwritten;
+
+/// Writes the line of a fault: an exclamation mark, its number and its name. It takes no memory; where a write fails or takes
+/// nothing, a part of the line was written, from its front.
+pub fn write_fault<W: Write>(faults: &mut W, number: u16) -> Result<(), Unwritten>
+    ensures { WritesText result (W.contents faults.old) (W.contents faults.new)
+        (refusal_line number) }
+{
+    let name = name_of(number);
+    let mut line = ArrayString::<48>::new();
+    // the line has room for each number and name
+    let Ok(()) = writeln!(line, "! {number} {name}") else {
+        return Err(Unwritten);
+    };
+    write_text(faults, line.as_bytes())
+}
+
+/// Writes what is told of a fault: its line, and after that of the device a line with the cause, if it is known.
+pub fn write_fault_with_cause<W: Write>(
+    faults: &mut W,
+    number: u16,
+    cause: Option<&HostError>,
+) -> Result<(), Unwritten>
+    ensures { (text : List ℕ) × IsFaultText number text
+        × WritesText result (W.contents faults.old) (W.contents faults.new) text }
+{
+    if write_fault(faults, number).is_err() {
+        return Err(Unwritten);
+    }
+    match cause {
+        Some(cause) if number == DEVICE => write_cause(faults, cause),
+        _ => Ok(()),
+    }
+}
+
+// Writes a line with a cause. It takes no memory; a cause that is too long is cut.
+fn write_cause<W: Write>(faults: &mut W, cause: &HostError) -> Result<(), Unwritten>
+    ensures { (line : List ℕ) × All (λ byte. byte ≢ 10) line
+        × WritesText result (W.contents faults.old) (W.contents faults.new) (line ++ 10 ∷ []) }
+{
+    let mut text = ArrayString::<400>::new();
+    let _ = write!(text, "{cause}");
+    let mut line = ArrayVec::<u8, 401>::new();
+    'bytes: for byte in text.as_bytes() {
+        if line.len() == 400 {
+            break;
+        }
+        // the cause is one line, whatever the system's words are
+        line.push(if *byte == b'\n' { b' ' } else { *byte });
+    }
+    line.push(b'\n');
+    write_text(faults, line.as_slice())
+}
+
+/// Writes a text whole, or a part of it from its front.
+pub fn write_text<W: Write>(writer: &mut W, text: &[u8]) -> Result<(), Unwritten>
+    ensures { WritesText result (W.contents writer.old) (W.contents writer.new) text.now }
+{
+    let mut rest = text;
+    'pieces: while !rest.is_empty() {
+        let Ok(count) = writer.write(rest) else {
+            return Err(Unwritten);
+        };
+        // a writer that takes nothing would be asked again for ever
+        if count == 0 {
+            return Err(Unwritten);
+        }
+        rest = &rest[count..];
+    }
+    Ok(())
+}
+
+/// Writes a text whole and flushes it. Else a part of it was written, from its front, or all of it and the flush failed.
+pub fn write_out<W: Write>(writer: &mut W, text: &[u8]) -> Result<(), Unwritten>
+    ensures { WritesOut result (W.contents writer.old) (W.contents writer.new) text.now }
+{
+    if write_text(writer, text).is_err() {
+        return Err(Unwritten);
+    }
+    // the text may still be held back, and a flush is the last call that tells so
+    match writer.flush() {
+        Ok(()) => Ok(()),
+        Err(_) => Err(Unwritten),
+    }
+}

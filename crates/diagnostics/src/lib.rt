@@ -1,0 +1,16 @@
+//! What is told of an input and of a fault, in one line or two: where a refusal came, in lines and columns, and the number, the name
+//! and the cause of a fault.
+//!
+//! - `Places` is an input that tells the line and the column after so many of its bytes; `Lines` is one over any reader (module `places`).
+//! - `write_refusal` writes the line on the refusal that ended a session (module `refusal`).
+//! - `write_fault` and `write_fault_with_cause` write that of a fault, and `write_text` and `write_out` a text, whole or a part of it
+//!   from its front (module `fault`). None of them takes memory.
+#![tactic(auto)]
+
+mod fault;
+mod places;
+mod refusal;
+
+pub use fault::{Unwritten, write_fault, write_fault_with_cause, write_out, write_text};
+pub use places::{Lines, Places, Spot};
+pub use refusal::{Refusal, Spots, write_refusal};

@@ -1,0 +1,192 @@
+// Lines and columns of an input.
+ghost use Rattle.std.specs.Prelude.{◌≡◌, ◌+◌, ◌≤◌, ℕ, List, [], ◌∷◌, ◌++◌, length, take, IfSome};
+ghost use Rattle.diagnostics.specs.Places.{IsMoved, IsMovedFrom, IsSpotAfter, Keeps};
+
+use std::alloc::{AllocError, Global};
+use std::io::Read;
+use std::{io, mem};
+
+/// Of what was given so many bytes are kept at least: those of a form, and of the read in which it ended.
+const KEPT: usize = 1_064_960;
+
+/// A place in a text.
+#[derive(Clone, Copy, Debug, PartialEq, Eq)]
+pub struct Spot {
+    /// How many bytes come before it.
+    pub bytes: u64,
+    /// Its line, counted from 1.
+    pub line: u64,
+    /// Its column, in bytes, counted from 1.
+    pub column: u64,
+}
+
+/// An input whose lines can be told.
+pub trait Places: Read {
+    /// The place after so many bytes of it, if that is known.
+    fn spot_at(&self, bytes: u64) -> Option<Spot>;
+}
+
+/// An input, with the last bytes that it gave.
+#[derive(Drop)]
+pub struct Lines<I> {
+    input: I,
+    given: Given,
+}
+
+/// What was given: the place before the bytes that are kept, unless it is lost, and these in two parts.
+#[derive(Drop)]
+pub(crate) struct Given {
+    before: Option<Spot>,
+    older: Vec<u8>,
+    newer: Vec<u8>,
+}
+
+impl Spot {
+    // The beginning of a text.
+    fn first() -> Spot
+        ensures { IsSpotAfter result [] }
+    {
+        Spot {
+            bytes: 0,
+            line: 1,
+            column: 1,
+        }
+    }
+
+    // After one byte more.
+    fn after(self, byte: u8) -> Option<Spot>
+        ensures { IfSome result (IsMoved self (byte ∷ [])) }
+    {
+        let bytes = self.bytes.checked_add(1)?;
+        let (line, column) = if byte == b'\n' {
+            (self.line.checked_add(1)?, 1)
+        } else {
+            (self.line, self.column.checked_add(1)?)
+        };
+        Some(Spot {
+            bytes,
+            line,
+            column,
+        })
+    }
+
+    // After the bytes of a text more.
+    fn through(self, text: &[u8]) -> Option<Spot>
+        ensures { IfSome result (IsMoved self text.now) }
+    {
+        let mut spot = self;
+        'bytes: for byte in text {
+            spot = spot.after(*byte)?;
+        }
+        Some(spot)
+    }
+
+    // After so many bytes of two texts more, if they have so many.
+    fn through_two(self, one: &[u8], other: &[u8], count: usize) -> Option<Spot>
+        ensures { IfSome result (λ spot. (count ≤ length (one.now ++ other.now))
+            × IsMoved self (take count (one.now ++ other.now)) spot) }
+    {
+        if count <= one.len() {
+            return self.through(&one[..count]);
+        }
+        let rest = count - one.len();
+        if rest > other.len() {
+            return None;
+        }
+        self.through(one)?.through(&other[..rest])
+    }
+}
+
+impl Given {
+    /// Nothing yet.
+    pub(crate) fn new(alloc: Global) -> Given
+        ensures { Keeps result [] }
+    {
+        Given {
+            before: Some(Spot::first()),
+            older: Vec::new(alloc),
+            newer: Vec::new(alloc),
+        }
+    }
+
+    /// A piece more. If there is no memory for it, no place is known any more.
+    pub(crate) fn note(&mut self, piece: &[u8])
+        ensures { (bytes : List ℕ) → Keeps self.old bytes → Keeps self.new (bytes ++ piece.now) }
+    {
+        if self.newer.len() >= KEPT {
+            self.let_go();
+        }
+        self.add(piece);
+    }
+
+    // Lets the older bytes go.
+    fn let_go(&mut self)
+        ensures { (bytes : List ℕ) → Keeps self.old bytes → Keeps self.new bytes }
+    {
+        self.before = passed(self.before, self.older.as_slice());
+        mem::swap(&mut self.older, &mut self.newer);
+        self.newer.clear();
+    }
+
+    // Keeps a piece more; without memory for it nothing is known.
+    fn add(&mut self, piece: &[u8])
+        ensures { (bytes : List ℕ) → Keeps self.old bytes → Keeps self.new (bytes ++ piece.now) }
+    {
+        match self.newer.extend_from_slice(piece) {
+            Ok(()) => {}
+            Err(AllocError) => self.before = None,
+        }
+    }
+
+    /// The place after so many bytes of what was given, if it is known.
+    pub(crate) fn spot_at(&self, bytes: u64) -> Option<Spot>
+        ensures { (given : List ℕ) → Keeps self.now given
+            → IfSome result (λ spot. (bytes ≤ length given) × IsSpotAfter spot (take bytes given)) }
+    {
+        let before = self.before?;
+        let count = bytes_between(before.bytes, bytes)?;
+        before.through_two(self.older.as_slice(), self.newer.as_slice(), count)
+    }
+}
+
+// How many bytes lie between these two places.
+fn bytes_between(from: u64, to: u64) -> Option<usize>
+    ensures { IfSome result (λ count. to ≡ from + count) }
+{
+    usize::try_from(to.checked_sub(from)?).ok()
+}
+
+// The place after a text more, if it is known.
+fn passed(before: Option<Spot>, text: &[u8]) -> Option<Spot>
+    ensures { IfSome result (IsMovedFrom before text.now) }
+{
+    before?.through(text)
+}
+
+impl<I> Lines<I> {
+    /// Before the first byte.
+    pub fn new(alloc: Global, input: I) -> Lines<I>
+        ensures { result.input ≡ input }
+    {
+        Lines {
+            input,
+            given: Given::new(alloc),
+        }
+    }
+}
+
+impl<I: Read> Read for Lines<I> {
+    ghost remaining = { λ lines. I.remaining lines.input };
+
+    fn read(&mut self, buf: &mut [u8]) -> io::Result<usize> {
+        let count = self.input.read(buf)?;
+        self.given.note(&buf[..count]);
+        Ok(count)
+    }
+}
+
+impl<I: Read> Places for Lines<I> {
+    fn spot_at(&self, bytes: u64) -> Option<Spot> {
+        self.given.spot_at(bytes)
+    }
+}

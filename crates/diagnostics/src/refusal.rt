@@ -1,0 +1,169 @@
+// The refusal that ended a session, and the line on it.
+ghost use Rattle.std.specs.Prelude.{◌≡◌, ◌++◌, OnOk};
+ghost use Rattle.diagnostics.specs.Refusals.{IsRefusalOf, byte_line, byte_text, form_of, line_of, place_line, refused_text, spot_text, start_byte_text, start_text};
+ghost use Rattle.diagnostics.specs.Texts.{WritesText};
+
+use crate::fault::{Unwritten, write_text};
+use crate::places::{Places, Spot};
+use arrayvec::ArrayString;
+use lisp_object::refusal::name_of;
+use prevalence_store::{Ended, Place};
+use std::fmt;
+use std::fmt::Write as WriteText;
+use std::io::Write;
+
+/// The refusal that ended a session.
+#[derive(Clone, Copy, Debug, PartialEq, Eq)]
+pub struct Refusal {
+    pub number: u16,
+    /// Its place in the input of the session.
+    pub place: Place,
+    /// The lines of that, if they are known.
+    pub spots: Option<Spots>,
+}
+
+/// The places of a refusal.
+#[derive(Clone, Copy, Debug, PartialEq, Eq)]
+pub struct Spots {
+    /// Where its form began.
+    pub start: Spot,
+    /// Where it was refused.
+    pub at: Spot,
+}
+
+impl Refusal {
+    /// The refusal with which a session over this input ended, if it ended with one.
+    pub fn of<I: Places>(ended: Ended, input: &I) -> Option<Refusal>
+        ensures { IsRefusalOf ended result }
+    {
+        match ended {
+            Ended::Unreadable(number, place) | Ended::Unaccepted(number, place) => Some(Refusal {
+                number,
+                place,
+                spots: spots_of(place, input),
+            }),
+            Ended::End | Ended::Store(_) => None,
+        }
+    }
+
+    // Which form was refused, counted from 1.
+    fn form(&self) -> u64
+        ensures { result ≡ form_of self.now }
+    {
+        self.place.forms.saturating_add(1)
+    }
+}
+
+// The lines of a place of an input, if they are known.
+fn spots_of<I: Places>(place: Place, input: &I) -> Option<Spots> {
+    let start = input.spot_at(place.start)?;
+    let at = input.spot_at(place.at)?;
+    Some(Spots { start, at })
+}
+
+/// Writes the line on a refusal: where it came, its number and its name, which form it was, and where that began. It takes no memory.
+pub fn write_refusal<W: Write>(faults: &mut W, refusal: &Refusal) -> Result<(), Unwritten>
+    ensures { WritesText result (W.contents faults.old) (W.contents faults.new) (line_of refusal.now) }
+{
+    match refusal.spots {
+        Some(spots) => write_lines(faults, refusal.number, refusal.form(), spots),
+        None => write_bytes(faults, refusal.number, refusal.form(), refusal.place),
+    }
+}
+
+// The line on a refusal whose lines are known.
+fn write_lines<W: Write>(
+    faults: &mut W,
+    number: u16,
+    form: u64,
+    spots: Spots,
+) -> Result<(), Unwritten>
+    ensures { WritesText result (W.contents faults.old) (W.contents faults.new)
+        (place_line number form spots) }
+{
+    let mut line = ArrayString::<256>::new();
+    // the line has room for all numbers and names
+    let Ok(()) = push_lines(&mut line, number, form, spots) else {
+        return Err(Unwritten);
+    };
+    write_text(faults, line.as_bytes())
+}
+
+// The line on a refusal whose lines are not known.
+fn write_bytes<W: Write>(
+    faults: &mut W,
+    number: u16,
+    form: u64,
+    place: Place,
+) -> Result<(), Unwritten>
+    ensures { WritesText result (W.contents faults.old) (W.contents faults.new)
+        (byte_line number form place) }
+{
+    let mut line = ArrayString::<256>::new();
+    let Ok(()) = push_bytes(&mut line, number, form, place) else {
+        return Err(Unwritten);
+    };
+    write_text(faults, line.as_bytes())
+}
+
+fn push_lines(line: &mut ArrayString<256>, number: u16, form: u64, spots: Spots) -> fmt::Result
+    ensures { OnOk result (line.new.bytes ≡ line.old.bytes ++ place_line number form spots) }
+{
+    push_spot(line, spots.at.line, spots.at.column)?;
+    push_refused(line, number, form)?;
+    push_start(line, spots.start.line, spots.start.column)
+}
+
+fn push_bytes(line: &mut ArrayString<256>, number: u16, form: u64, place: Place) -> fmt::Result
+    ensures { OnOk result (line.new.bytes ≡ line.old.bytes ++ byte_line number form place) }
+{
+    push_byte(line, place.at)?;
+    push_refused(line, number, form)?;
+    push_start_byte(line, place.start)
+}
+
+fn push_spot(text: &mut ArrayString<256>, line: u64, column: u64) -> fmt::Result
+    ensures { OnOk result (text.new.bytes ≡ text.old.bytes ++ spot_text line column) }
+{
+    let Ok(()) = write!(text, "line {line}, column {column}: ") else {
+        return Err(fmt::Error);
+    };
+    Ok(())
+}
+
+fn push_byte(text: &mut ArrayString<256>, bytes: u64) -> fmt::Result
+    ensures { OnOk result (text.new.bytes ≡ text.old.bytes ++ byte_text bytes) }
+{
+    let Ok(()) = write!(text, "after {bytes} bytes: ") else {
+        return Err(fmt::Error);
+    };
+    Ok(())
+}
+
+fn push_refused(text: &mut ArrayString<256>, number: u16, form: u64) -> fmt::Result
+    ensures { OnOk result (text.new.bytes ≡ text.old.bytes ++ refused_text number form) }
+{
+    let name = name_of(number);
+    let Ok(()) = write!(text, "refused with {number} {name} in form {form}, ") else {
+        return Err(fmt::Error);
+    };
+    Ok(())
+}
+
+fn push_start(text: &mut ArrayString<256>, line: u64, column: u64) -> fmt::Result
+    ensures { OnOk result (text.new.bytes ≡ text.old.bytes ++ start_text line column) }
+{
+    let Ok(()) = writeln!(text, "which began at line {line}, column {column}") else {
+        return Err(fmt::Error);
+    };
+    Ok(())
+}
+
+fn push_start_byte(text: &mut ArrayString<256>, bytes: u64) -> fmt::Result
+    ensures { OnOk result (text.new.bytes ≡ text.old.bytes ++ start_byte_text bytes) }
+{
+    let Ok(()) = writeln!(text, "which began after {bytes} bytes") else {
+        return Err(fmt::Error);
+    };
+    Ok(())
+}

@@ -1,7 +1,0 @@
-use Rattle.std.proofs.Common.{take}
-use Rattle.store_commands.specs.Places.{IsMoved}
-use Rattle.store_commands.proofs.places.Spot.through.Given as goal
-
--- so far it has come
-abbrev pub invariant-bytes : goal.invariant-bytes
-invariant-bytes l = IsMoved l.fn.self (take l.byte-index l.text) l.spot

@@ -1,8 +1,0 @@
-use Rattle.clap.specs.Words.{found_of}
-use Rattle.store_commands.proofs.FoundWords.{wanted_found}
-use Rattle.store_commands.proofs.words.wanted_in.Goals as goal
-
-pub returns : goal.returns
-returns c =
-    wanted_found (found_of c.args.found.now) _ _ c.mode_for.result c.every_in.result c.flag_is_set.result c.mode_for.ensures c.get_str.ensures c.every_in.ensures
-    c.flag_is_set.ensures c.get_str-2.ensures
