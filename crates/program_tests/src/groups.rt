@@ -19,7 +19,7 @@ const FORMS: [&[u8]; 6] = [
 ];
 
 const OUTCOMES: &[u8] =
-    b"accepted 7\naccepted\naccepted 7\nrefused 30\nrefused 1\naccepted 8\nhalf A generation 1 records 3\n";
+    b"accepted 7\naccepted\naccepted 7\nrefused 31\nrefused 1\naccepted 8\nhalf A generation 1 records 3\n";
 
 /// Whether these calls have this text over fresh files, and leave the bytes that forms leave which are executed one by one.
 fn are_alike(alloc: Global, calls: &[Ask<'_>], wanted: &[u8]) -> Result<bool, Trouble> {
@@ -90,7 +90,8 @@ fn all_are_there_from_the_last_write_on(rt: HostRuntime) -> Result<(), Fail> {
     Ok(())
 }
 
-/// Two forms of which a half of this limit has room for one, and what is there then.
+/// Whether two forms have this text over fresh files of this limit, with what is there then. Where the second one has no room, the
+/// form that looks is the first with 'C: it writes, and has none either.
 fn fills(alloc: Global, limit: u64, wanted: &[u8]) -> Result<bool, Trouble> {
     let calls = [Ask::All(Mode::Current, PAIR), form(GET), Ask::Half];
     let (text, _disk) = asked_in_memory(alloc, MemoryDisk::new(alloc), limit, &calls)?;
@@ -104,7 +105,7 @@ fn what_has_no_room_together_is_executed_one_by_one(rt: HostRuntime) -> Result<(
         fills(
             alloc,
             202,
-            b"accepted 8\nrefused 64\naccepted\nhalf A generation 1 records 1\n"
+            b"accepted 8\nrefused 64\nrefused 64\nhalf A generation 1 records 1\n"
         )?
     );
     assert!(rt;
