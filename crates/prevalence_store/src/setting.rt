@@ -7,7 +7,6 @@ ghost use Rattle.user_macros.specs.Functions.{are_registered};
 
 use crate::mode::Mode;
 use form_reader::{Limits, ReadOutcome, read_one};
-use plain_reader::read_plain;
 use plist_state::World;
 use readtable_core::Readtable;
 use std::alloc::{AllocError, Global};
@@ -61,19 +60,16 @@ pub(crate) fn begins<R: MacroFunctions>(
     ensures { IfOk result (λ outcome. IsOutcome outcome
         (read_in R.Meaning.functions world.now.0 mode text.now)) }
 {
-    let (readtable, base) = (readtable_in(world, mode), base_in(world, mode));
-    let (packages, package) = (world.packages(), package_in(world, mode));
-    let limits = Limits::form();
-    // most forms are plain, and need no reader of bytes
-    if let Some(plain) = read_plain(alloc, limits, readtable, base, packages, package, text)? {
-        return Ok(ReadOutcome::Form {
-            datum: plain.datum,
-            start: 0,
-            end: plain.end,
-            next: plain.end,
-        });
-    }
+    let readtable = readtable_in(world, mode);
+    let package = package_in(world, mode);
     read_one(
-        alloc, limits, readtable, base, packages, package, macros, text,
+        alloc,
+        Limits::form(),
+        readtable,
+        base_in(world, mode),
+        world.packages(),
+        package,
+        macros,
+        text,
     )
 }

@@ -1,13 +1,8 @@
-use Rattle.std.proofs.Common.{◌≡◌, ℕ, true, List, [], Option, IfOk, IfSome, append-nil, subst}
-use Rattle.lisp_object.specs.Object.{IsSound}
-use Rattle.lisp_object.specs.Datum.{is_proper, object_of}
+use Rattle.std.proofs.Common.{subst, IfOk}
 use Rattle.form_reader.specs.Reader.{IsOutcome}
-use Rattle.lisp_reading.specs.Reading.{form, reads}
+use Rattle.lisp_reading.specs.Reading.{reads}
 use Rattle.lisp_reading.specs.Setting.{Setting}
-use Rattle.plain_reader.specs.declared.plain.PlainForm.{PlainForm}
-use Rattle.prevalence_store.specs.meaning.Acceptance.{setting_in}
 use Rattle.prevalence_store.proofs.steps.Pendings.{called_setting}
-use Rattle.prevalence_store.proofs.steps.PlainForms.{plain_reads}
 use Rattle.prevalence_store.proofs.setting.begins.Goals as goal
 
 pub returns : goal.returns
@@ -15,17 +10,4 @@ returns g c =
     subst (λ (s : Setting). IfOk c.read_one.result (λ outcome. IsOutcome outcome (reads s c.args.text.now)))
     (called_setting c.args.world.now.0 c.args.mode g.R.Meaning.Meaning.functions (g.R.MacroFunctions.functions c.args.macros.now)
     _ _ _ _ _ (g.met.R.MacroFunctions.as_meant c.args.macros.now) c.requires.whole (g.met.R.MacroFunctions.known c.args.macros.now c.requires.answers)
-    c.form-limits.ensures c.readtable_in-readtable.ensures c.base_in-base.ensures.base c.packages-packages.ensures c.package_in-package.ensures.name) c.read_one.ensures.outcome
-
-pub returns-in-Some : goal.returns-in-Some
-returns-in-Some g c =
-    let functions = g.R.Meaning.Meaning.functions in
-    let w = c.args.world.now.0 in
-    let f = c.in-Some.plain in
-    let found = c.in_ok-plain.field-0 in (
-      subst (λ (t : List ℕ). reads (setting_in functions w c.args.mode) t ≡ form (object_of f.datum) 0 f.end f.end) (append-nil c.args.text.now)
-          (plain_reads functions w c.args.mode _ _ _ _ _ c.args.text.now found f c.form-limits.ensures c.readtable_in-readtable.ensures c.base_in-base.ensures.base c.packages-packages.ensures
-          c.package_in-package.ensures.name c.in-Some.is c.in_ok-plain.ensures.form []),
-      subst (λ (o : Option PlainForm). IfSome o (λ f. is_proper f.datum ≡ true)) c.in-Some.is c.in_ok-plain.ensures.proper,
-      subst (λ (o : Option PlainForm). IfSome o (λ f. IsSound (object_of f.datum))) c.in-Some.is c.in_ok-plain.ensures.sound,
-    )
+    c.form.ensures c.readtable_in-readtable.ensures c.base_in.ensures.base c.packages.ensures c.package_in-package.ensures.name) c.read_one.ensures.outcome
