@@ -1,5 +1,5 @@
 //! What reading is handed.
-ghost use Rattle.std.specs.Prelude.{◌≡◌, ◌≤◌, true, false, Some, refl};
+ghost use Rattle.std.specs.Prelude.{◌≡◌, ◌≤◌, true, false, Some};
 ghost use Rattle.readtable_core.specs.declared.table.Case.TheVariants.{Upcase};
 ghost use Rattle.readtable_core.specs.Tables.{entry_at};
 ghost use Rattle.readtable_core.specs.Names.{std_list, std_quote, std_string};
@@ -9,7 +9,7 @@ ghost use Rattle.lisp_reading.specs.Reading.{is_whitespace};
 
 use lisp_reading::Limits;
 use package_table::Packages;
-use readtable_core::Readtable;
+use readtable_core::{Readtable, Syntax};
 use std::alloc::Global;
 
 /// The limits, the readtable in force, where a parenthesis begins a list, the base of numbers, which is 2 to 36, the packages and
@@ -36,4 +36,12 @@ pub(crate) struct Context<'a> {
     ghost closes: { is_whitespace readtable.now 41 ≡ false },
     ghost quoting: { quotes ≡ true → (entry_at readtable.now 39).function ≡ Some std_quote },
     ghost spelling: { texts ≡ true → (entry_at readtable.now 34).function ≡ Some std_string },
+}
+
+/// Whether it is whitespace.
+#[inline(always)]
+pub(crate) fn is_blank(readtable: &Readtable, c: u8) -> bool
+    ensures { result ≡ is_whitespace readtable.now c }
+{
+    matches!(readtable.syntax(c), Syntax::Whitespace)
 }

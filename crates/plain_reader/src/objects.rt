@@ -1,11 +1,10 @@
 //! Lists, quoted objects and texts.
 ghost use Rattle.std.specs.Prelude.{◌≡◌, ◌<◌, ℕ, ◌∷◌, length, false, None, IfOk, IfSome, IsTrue};
 ghost use Rattle.lisp_reading.specs.Gathering.{is_escape};
-ghost use Rattle.lisp_reading.specs.Reading.{is_whitespace};
 ghost use Rattle.plain_reader.specs.Plain.{Takes, Gathers, Closes};
 ghost use Rattle.plain_reader.specs.Texts.{is_letter, IsText};
 
-use crate::context::Context;
+use crate::context::{Context, is_blank};
 use crate::sound::{SoundObject, SoundObjects};
 use crate::tokens::token;
 use lisp_object::Bytes;
@@ -176,11 +175,4 @@ fn is_escape(syntax: Syntax) -> bool
     ensures { result ≡ is_escape syntax }
 {
     matches!(syntax, Syntax::SingleEscape)
-}
-
-#[inline(always)]
-fn is_blank(readtable: &Readtable, c: u8) -> bool
-    ensures { result ≡ is_whitespace readtable.now c }
-{
-    matches!(readtable.syntax(c), Syntax::Whitespace)
 }

@@ -1,8 +1,7 @@
 //! Tokens without escapes.
-ghost use Rattle.std.specs.Prelude.{◌≡◌, ◌≤◌, ◌<◌, ℕ, ◌∷◌, map, length, true, false, IfOk, IfSome, IsTrue};
+ghost use Rattle.std.specs.Prelude.{◌≡◌, ◌<◌, ℕ, length, true, IfOk, IfSome};
 ghost use Rattle.std.specs.List.{list_all};
 ghost use Rattle.lisp_object.specs.Ascii.{is_ascii};
-ghost use Rattle.token_scan.specs.Marks.{are_ascii};
 ghost use Rattle.token_scan.specs.Tokens.{typed, kind};
 ghost use Rattle.plain_reader.specs.Plain.{Takes};
 ghost use Rattle.plain_reader.specs.Tokens.{IsRun, IsToken, marks_of};

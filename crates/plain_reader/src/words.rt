@@ -1,5 +1,5 @@
 //! Names without a package prefix, and integers, seen from their bytes.
-ghost use Rattle.std.specs.Prelude.{◌≡◌, ◌+◌, ◌*◌, ◌^◌, ◌-◌, ◌<◌, ◌==◌, map, not, true, IfOk, IfSome, IsTrue};
+ghost use Rattle.std.specs.Prelude.{◌≡◌, ◌+◌, ◌*◌, ◌^◌, ◌-◌, ◌<◌, ◌==◌, map, true, IfOk, IfSome, IsTrue};
 ghost use Rattle.std.specs.List.{list_all, list_any};
 ghost use Rattle.lisp_object.specs.Ascii.{is_ascii};
 ghost use Rattle.readtable_core.specs.Characters.{upper_case, is_digit};
