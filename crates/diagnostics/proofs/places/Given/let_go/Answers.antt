@@ -1,4 +1,4 @@
-use Rattle.std.proofs.Common.{◌≡◌, Option, Some, subst}
+use Rattle.std.proofs.Common.{◌≡◌, Some, subst}
 use Rattle.std.specs.Prelude.{IfSome}
 use Rattle.diagnostics.specs.Places.{IsMoved}
 use Rattle.diagnostics.specs.declared.places.Spot.{Spot}

@@ -1,4 +1,4 @@
-use Rattle.std.proofs.Common.{◌≡◌, ◌≤◌, ◌++◌, length, take, subst, ◌∙◌, sym, ap₂, List, ℕ}
+use Rattle.std.proofs.Common.{◌≡◌, ◌≤◌, ◌++◌, length, take, subst, ap₂, List, ℕ}
 use Rattle.std.specs.Prelude.{IfSome}
 use Rattle.diagnostics.specs.Places.{IsMoved}
 use Rattle.diagnostics.proofs.PlaceLaws.{spot_found}
