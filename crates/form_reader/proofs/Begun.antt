@@ -11,25 +11,23 @@ use Rattle.lisp_reading.specs.Plans.{Read, run}
 use Rattle.lisp_reading.specs.Setting.{Setting}
 use Rattle.lisp_reading.specs.Reading.{Outcome, form, empty, refused, attempt, is_whitespace, outcome, reads_in, reads_at, reads, space_at}
 use Rattle.lisp_reading.proofs.Forms.{reads_is, the_end_there}
-use Rattle.form_reader.specs.declared.frame.Frame.{Frame}
+use Rattle.form_reader.specs.declared.stack.Frame.{Frame}
 use Rattle.form_reader.specs.declared.reader.FormReader.{FormReader}
 use Rattle.form_reader.specs.declared.reader.ReaderState.{ReaderState}
 use Rattle.form_reader.specs.declared.reader.ReaderState.TheVariants.{Open}
 use Rattle.form_reader.specs.declared.reader.Advance.{Advance}
 use Rattle.form_reader.specs.declared.reader.Advance.TheVariants.{More as AdvanceMore, Form as AdvanceForm, Refused as AdvanceRefused}
-use Rattle.form_reader.specs.declared.position.Position.{Position}
-use Rattle.form_reader.specs.declared.position.Position.TheVariants.{Object as AtObject}
-use Rattle.form_reader.specs.declared.change.Change.{Change}
-use Rattle.form_reader.specs.declared.change.Change.TheVariants.{Goes, Form as ChangeForm, Refused as ChangeRefused}
-use Rattle.form_reader.specs.declared.in_place.InPlace.{InPlace}
-use Rattle.form_reader.specs.declared.in_place.InPlace.TheVariants.{Passed as IsPassed}
+use Rattle.form_reader.specs.declared.state.Position.{Position}
+use Rattle.form_reader.specs.declared.state.Position.TheVariants.{Object as AtObject}
+use Rattle.form_reader.specs.declared.step.Change.{Change}
+use Rattle.form_reader.specs.declared.step.Change.TheVariants.{Goes, Form as ChangeForm, Refused as ChangeRefused}
+use Rattle.form_reader.specs.declared.step.in_place.InPlace.{InPlace}
+use Rattle.form_reader.specs.declared.step.in_place.InPlace.TheVariants.{Passed as IsPassed}
 use Rattle.std.specs.declared.alloc.AllocError.{AllocError}
-use Rattle.form_reader.specs.InPlace.{is_space}
-use Rattle.form_reader.specs.Changing.{outcome_of, BeginsAnew}
-use Rattle.form_reader.specs.Starting.{EndsBefore, Starts}
+use Rattle.form_reader.specs.Step.{is_space, outcome_of, BeginsAnew, EndsBefore, Starts}
 use Rattle.form_reader.specs.Reader.{fed, begun, further, BeginsAt, HasBegun, StepsBegun, IsNew, IsOpen, IsBetween, IsAfter, IsAfterIn, Steps, Becomes}
-use Rattle.form_reader.proofs.Between.{anew_between, between_reads, between_empty}
-use Rattle.form_reader.proofs.Ended.{ended_there}
+use Rattle.form_reader.proofs.Readers.{anew_between, between_reads, between_empty}
+use Rattle.form_reader.proofs.EndOfText.{ended_there}
 
 -- ---- offsets
 

@@ -15,26 +15,26 @@ use Rattle.token_scan.specs.Scans.{Scan, from_stage}
 use Rattle.readtable_core.specs.declared.characters.Syntax.TheVariants.{Invalid}
 use Rattle.token_scan.proofs.Steps.{outside_invalid, inside_invalid}
 use Rattle.lisp_reading.specs.declared.found.Found.{Found}
-use Rattle.form_reader.specs.declared.frame.Frame.{Frame}
+use Rattle.form_reader.specs.declared.stack.Frame.{Frame}
 use Rattle.lisp_reading.specs.declared.limits.Limits.{Limits}
-use Rattle.form_reader.specs.declared.position.Position.{Position}
-use Rattle.form_reader.specs.declared.position.Position.TheVariants.{Object as AtObject, Token as AtToken, CallToken as AtCallToken, Text as AtText, Escaped as AtEscaped, Line as AtLine, Block as AtBlock, Number as AtNumber}
+use Rattle.form_reader.specs.declared.state.Position.{Position}
+use Rattle.form_reader.specs.declared.state.Position.TheVariants.{Object as AtObject, Token as AtToken, CallToken as AtCallToken, Text as AtText, Escaped as AtEscaped, Line as AtLine, Block as AtBlock, Number as AtNumber}
 use Rattle.lisp_reading.specs.declared.way.Keep.{Keep}
 use Rattle.lisp_reading.specs.Plans.{Plan, gives, refuses, takes, then_plan, character, next_byte, loop, Read, fault, within, run}
 use Rattle.lisp_reading.specs.Calls.{keep_of}
 use Rattle.lisp_reading.specs.Setting.{Setting}
-use Rattle.form_reader.specs.Feeding.{is_going, token_read, refused_number}
-use Rattle.form_reader.specs.Frames.{close_of, close_of_frames, next_item_in, call_in, given, between, token_goes_on}
+use Rattle.form_reader.specs.Token.{is_going, token_read, refused_number}
+use Rattle.form_reader.specs.Stack.{close_of, close_of_frames, next_item_in, call_in, given, between, token_goes_on}
 use Rattle.lisp_reading.specs.Gathering.{text_turn, kept, line_turn, block_turn}
 use Rattle.lisp_reading.specs.Reading.{Piece, Outcome, form, empty, refused, piece_of, closed, or_closed, next_item_turn, next_item, stands_alone, alone, inner, attempt, reads, number_after, sub_there, dispatched}
-use Rattle.form_reader.specs.Resuming.{IsPositionAt, inner_at, position_gives}
+use Rattle.form_reader.specs.State.{IsPositionAt, inner_at, position_gives}
 use Rattle.form_reader.specs.Reader.{MayGoOn, DecideNothing}
-use Rattle.form_reader.specs.Changing.{outcome_of, rest_of}
-use Rattle.form_reader.proofs.FedTokens.{cut, refused_cut}
+use Rattle.form_reader.specs.Step.{outcome_of, rest_of}
+use Rattle.form_reader.proofs.Tokens.{cut, refused_cut}
 use Rattle.lisp_reading.proofs.Fed.{number_ends}
 use Rattle.lisp_reading.proofs.Following.{form_follows}
 use Rattle.lisp_reading.proofs.Forms.{form_framed}
-use Rattle.form_reader.proofs.Opened.{given_fault, gathering_ends, gathering_fails}
+use Rattle.form_reader.proofs.Stacks.{given_fault, gathering_ends, gathering_fails}
 use Rattle.lisp_reading.proofs.Refusals.{refusal_stays}
 use Rattle.lisp_reading.proofs.Steps.{and_then, run_then}
 use Rattle.form_reader.proofs.PlanEnds.{blames_byte}
@@ -201,9 +201,9 @@ position_fails setting frames (AtNumber character number) at c stands le alien =
 -- ---- where a reader waits for more
 
 -- what one byte more refuses at the end decided nothing before
-undecided : (setting : Setting) (bytes : List ℕ) (c code : ℕ) (o : Outcome) → reads setting bytes ≡ o → reads setting (bytes ++ c ∷ []) ≡ refused code (length bytes) → MayGoOn bytes o
-undecided setting bytes c code empty e next = tt
-undecided setting bytes c code (form x start «end» last) e next =
+may_go_on_by : (setting : Setting) (bytes : List ℕ) (c code : ℕ) (o : Outcome) → reads setting bytes ≡ o → reads setting (bytes ++ c ∷ []) ≡ refused code (length bytes) → MayGoOn bytes o
+may_go_on_by setting bytes c code empty e next = tt
+may_go_on_by setting bytes c code (form x start «end» last) e next =
     let framed = form_framed setting bytes x start «end» last e in
     by (nat_lt «end» (length bytes)) refl
   where
@@ -214,7 +214,7 @@ undecided setting bytes c code (form x start «end» last) e next =
     by false is =
         let framed = form_framed setting bytes x start «end» last e in
         omega (arith, framed.after, framed.inside, ltb-false «end» (length bytes) is)
-undecided setting bytes c code (refused number offset) e next =
+may_go_on_by setting bytes c code (refused number offset) e next =
     let h = refusal_stays setting bytes number offset e in
     by (nat_lt offset (length bytes)) refl
   where
@@ -249,4 +249,8 @@ pub may_go_on : (setting : Setting) (frames : List Frame) (position : Position) 
     → ((cs : List ℕ) → reads setting (bytes ++ cs) ≡ rest_of setting frames position start at cs) → MayGoOn bytes (reads setting bytes)
 may_go_on setting frames position start at bytes stands le count rest =
     let next = next_refused setting frames position start at bytes stands le count rest in
-    undecided setting bytes next.0 next.1.0 (reads setting bytes) refl next.1.1
+    may_go_on_by setting bytes next.0 next.1.0 (reads setting bytes) refl next.1.1
+
+pub undecided : (setting : Setting) (bytes : List ℕ) (o : Outcome) → DecideNothing setting bytes → ((cs : List ℕ) → reads setting (bytes ++ cs) ≡ o) → ⊥
+undecided setting bytes o h all =
+    h.1.2 (sym (ap (reads setting) (append-nil bytes)) ∙ all [] ∙ sym (all (h.0 ∷ [])) ∙ h.1.1)

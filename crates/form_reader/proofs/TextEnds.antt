@@ -34,11 +34,11 @@ use Rattle.std_macros.specs.Results.{std_refusal_number}
 use Rattle.std_macros.specs.Values.{Value, value_of, Material, one as one_object, many, dotted, letters, marked}
 use Rattle.lisp_reading.specs.declared.found.Found.{Found}
 use Rattle.lisp_reading.specs.declared.found.Found.TheVariants.{Nothing as nothing, One as one, LoneDot as lone_dot, TheEnd as the_end}
-use Rattle.form_reader.specs.declared.frame.Frame.{Frame}
-use Rattle.form_reader.specs.declared.frame.Part.{Part}
-use Rattle.form_reader.specs.declared.frame.Part.TheVariants.{Next as InNext, List as InList, Until as InUntil, Dotted as InDotted, Tailed as InTailed}
-use Rattle.form_reader.specs.declared.position.Position.{Position}
-use Rattle.form_reader.specs.declared.position.Position.TheVariants.{Object as AtObject, Token as AtToken, CallToken as AtCallToken, Text as AtText, Escaped as AtEscaped, Line as AtLine, Block as AtBlock, Number as AtNumber}
+use Rattle.form_reader.specs.declared.stack.Frame.{Frame}
+use Rattle.form_reader.specs.declared.stack.Part.{Part}
+use Rattle.form_reader.specs.declared.stack.Part.TheVariants.{Next as InNext, List as InList, Until as InUntil, Dotted as InDotted, Tailed as InTailed}
+use Rattle.form_reader.specs.declared.state.Position.{Position}
+use Rattle.form_reader.specs.declared.state.Position.TheVariants.{Object as AtObject, Token as AtToken, CallToken as AtCallToken, Text as AtText, Escaped as AtEscaped, Line as AtLine, Block as AtBlock, Number as AtNumber}
 use Rattle.lisp_reading.specs.declared.told.Told.{Told}
 use Rattle.lisp_reading.specs.declared.told.Told.TheVariants.{Object as told_object, Dot as dot_alone}
 use Rattle.lisp_reading.specs.declared.way.Function.{Function}
@@ -49,12 +49,12 @@ use Rattle.lisp_reading.specs.Setting.{Setting, macro_call}
 use Rattle.lisp_reading.specs.Gathering.{text_turn, line_turn, block_turn, number_turn}
 use Rattle.lisp_reading.specs.Naming.{symbol_in, symbol_at, named, told_of, told}
 use Rattle.lisp_reading.specs.Answering.{may_be_answered}
-use Rattle.form_reader.specs.Feeding.{is_going}
-use Rattle.form_reader.specs.Frames.{next_item_in, part_gives, call_in, given, between, token_goes_on}
+use Rattle.form_reader.specs.Token.{is_going}
+use Rattle.form_reader.specs.Stack.{next_item_in, part_gives, call_in, given, between, token_goes_on}
 use Rattle.lisp_reading.specs.Reading.{Piece, item, dot, closed, is_whitespace, without_space, piece_of, or_closed, next_item_turn, next_item, Items, items_step, items_turn, items_after, undotted, after_tail, after_dot, list_end, bytes_back, finished, answered, completed_by, completed, text_to, line_after, block_after, number_after, sub_there, dispatched, told_found, token_found, attempt, Outcome, form, empty, refused}
-use Rattle.form_reader.specs.Resuming.{IsPositionAt, inner_at, position_gives}
-use Rattle.form_reader.specs.Changing.{outcome_of}
-use Rattle.form_reader.proofs.FedTokens.{cut, refused_cut}
+use Rattle.form_reader.specs.State.{IsPositionAt, inner_at, position_gives}
+use Rattle.form_reader.specs.Step.{outcome_of}
+use Rattle.form_reader.proofs.Tokens.{cut, refused_cut}
 use Rattle.lisp_reading.proofs.Forms.{reads_is, the_end_there}
 use Rattle.form_reader.proofs.PlanEnds.{blames_byte, AtEnd, Whatever, Never, LastRead, gives_at_end, refuses_at_end, takes_at_end, then_at_end, weaker, never_then, loop_at_end, next_byte_at_end, run_at_end}
 

@@ -1,22 +1,22 @@
 -- A reader that takes a text one byte at a time: what it is after, and what it answers.
-use Rattle.std.specs.Prelude.{ℕ, ◌≡◌, ◌+◌, ◌≤◌, ◌<◌, true, false, List, [], ◌∷◌, ◌++◌, length, take, drop}
+use Rattle.std.specs.Prelude.{ℕ, ◌≡◌, ◌+◌, ◌≤◌, ◌<◌, true, false, List, [], ◌∷◌, ◌++◌, length, take, drop, ◌-◌, Bool}
 use Rattle.lisp_object.specs.Object.{IsSound}
 use Rattle.lisp_object.specs.Datum.{object_of, is_proper}
 use Rattle.lisp_reading.specs.declared.limits.Limits.{Limits}
-use Rattle.form_reader.specs.declared.position.Position.{Position}
-use Rattle.form_reader.specs.declared.position.Position.TheVariants.{Object as AtObject}
+use Rattle.form_reader.specs.declared.state.Position.{Position}
+use Rattle.form_reader.specs.declared.state.Position.TheVariants.{Object as AtObject}
 use Rattle.form_reader.specs.declared.reader.FormReader.{FormReader}
 use Rattle.form_reader.specs.declared.reader.ReaderState.{ReaderState}
 use Rattle.form_reader.specs.declared.reader.ReaderState.TheVariants.{Open, Refused, OutOfMemory}
 use Rattle.form_reader.specs.declared.reader.Advance.{Advance}
 use Rattle.form_reader.specs.declared.reader.Advance.TheVariants.{More as AdvanceMore, Form as AdvanceForm, Refused as AdvanceRefused}
-use Rattle.form_reader.specs.declared.ending.ReadOutcome.{ReadOutcome}
-use Rattle.form_reader.specs.declared.ending.ReadOutcome.TheVariants.{Form as ReadForm, Empty as ReadEmpty, Refused as ReadRefused}
-use Rattle.form_reader.specs.declared.change.Change.{Change}
-use Rattle.form_reader.specs.declared.change.Change.TheVariants.{Goes, Form as ChangeForm, Refused as ChangeRefused}
+use Rattle.form_reader.specs.declared.reader.ReadOutcome.{ReadOutcome}
+use Rattle.form_reader.specs.declared.reader.ReadOutcome.TheVariants.{Form as ReadForm, Empty as ReadEmpty, Refused as ReadRefused}
+use Rattle.form_reader.specs.declared.step.Change.{Change}
+use Rattle.form_reader.specs.declared.step.Change.TheVariants.{Goes, Form as ChangeForm, Refused as ChangeRefused}
 use Rattle.lisp_reading.specs.Setting.{Setting}
 use Rattle.lisp_reading.specs.Reading.{Outcome, form, empty, refused, is_whitespace, reads}
-use Rattle.form_reader.specs.Changing.{rest_of}
+use Rattle.form_reader.specs.Step.{rest_of}
 
 -- the limits under which it reads
 abbrev pub limits_of : FormReader → Limits
@@ -156,3 +156,21 @@ Becomes (ChangeForm x start «end» next) old new (AdvanceForm datum s e n) =
 Becomes (ChangeForm x start «end» next) old new _ = ⊥
 Becomes (ChangeRefused number offset) old new step =
     (step ≡ AdvanceRefused number offset) × (new.state ≡ Refused number offset) × (new.start ≡ old.start) × (new.at ≡ old.at)
+
+-- more bytes decide
+abbrev pub is_more : Advance → Bool
+is_more AdvanceMore = true
+is_more _ = false
+
+-- So many of the bytes are taken, one step after the other, after the bytes before: the last step answers this, and where it decides,
+-- those before it had decided nothing.
+pub record Feeds (setting : Setting) (reader : FormReader) (before bytes : List ℕ) (count : ℕ) (step : Advance) : Type 0 where
+  pub steps : Steps setting reader (before ++ take count bytes) step
+  pub undecided : is_more step ≡ false → 1 < count → DecideNothing setting (before ++ take (count - 1) bytes)
+
+-- how many bytes it was fed after so many steps, the last of which answers this, and where what is open then began: of a form, its
+-- object
+abbrev pub Advances : FormReader → FormReader → ℕ → Advance → Type 0
+Advances old new count AdvanceMore = (fed new ≡ fed old + count) × (begun old ≤ begun new) × (begun new ≤ fed new)
+Advances old new count (AdvanceForm datum start «end» next) = (fed new ≡ 0) × (begun old ≤ start) × (begun new ≡ 0)
+Advances old new count (AdvanceRefused number offset) = begun old ≤ begun new

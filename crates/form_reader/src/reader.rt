@@ -1,14 +1,14 @@
 //! A reader that takes a text one byte at a time.
 ghost use Rattle.std.specs.Prelude.{◌≡◌, IsTrue};
-ghost use Rattle.form_reader.specs.Standing.{is_standing};
+ghost use Rattle.form_reader.specs.State.{is_standing};
 ghost use Rattle.form_reader.specs.declared.reader.ReaderState.TheVariants.{Refused, OutOfMemory};
 
-use crate::change::{Change, take_byte};
-use crate::ending::{ReadOutcome, last_outcome};
-use crate::frame::Frames;
-use crate::in_place::{InPlace, in_place};
-use crate::position::Position;
-use crate::surroundings::Surroundings;
+use crate::context::Surroundings;
+use crate::end_of_text::last_outcome;
+use crate::stack::Frames;
+use crate::state::Position;
+use crate::step::in_place::{InPlace, in_place};
+use crate::step::{Change, take_byte};
 use lisp_object::Datum;
 use lisp_reading::Limits;
 use package_table::Packages;
@@ -16,6 +16,11 @@ use readtable_core::Readtable;
 use std::alloc::{AllocError, Global};
 use std::mem;
 use user_macros::MacroFunctions;
+
+mod feed;
+mod whole;
+
+pub use whole::read_one;
 
 /// A reader that takes the text of a form one byte at a time. It keeps no text, but what the calls that are open have gathered.
 #[derive(Drop)]
@@ -63,12 +68,12 @@ impl FormReader {
     ghost use Rattle.std.specs.Prelude.{◌≡◌, ◌<◌, ◌≤◌, ◌+◌, ◌^◌, ℕ, true, false, List, [], ◌∷◌, ◌++◌, Ok, IfOk, IsErr, OnErr};
     ghost use Rattle.package_table.specs.Table.{IsPackage};
     ghost use Rattle.lisp_reading.specs.Setting.{Setting, setting_of};
-    ghost use Rattle.form_reader.specs.Surrounding.{setting};
+    ghost use Rattle.form_reader.specs.Context.{setting};
     ghost use Rattle.lisp_object.specs.Object.{Object};
     ghost use Rattle.lisp_reading.specs.Reading.{form, is_whitespace, reads};
     ghost use Rattle.form_reader.specs.declared.reader.Advance.TheVariants.{More as AdvanceMore, Refused as AdvanceRefused};
-    ghost use Rattle.form_reader.specs.declared.ending.ReadOutcome.TheVariants.{Empty as ReadEmpty, Refused as ReadRefused};
-    ghost use Rattle.form_reader.specs.Changing.{IsReadyChange};
+    ghost use Rattle.form_reader.specs.declared.reader.ReadOutcome.TheVariants.{Empty as ReadEmpty, Refused as ReadRefused};
+    ghost use Rattle.form_reader.specs.Step.{IsReadyChange};
     ghost use Rattle.form_reader.specs.Reader.{limits_of, fed, begun, HasRefused, HasNoMemory, IsNew, IsBetween, LeavesBetween, IsAfter, IsOpen, Steps, Counts, BeginsLater, HasBegun, StepsBegun, IsSoundStep, Becomes, IsOutcome};
 
     /// A reader that was fed nothing, between forms. It keeps `alloc` for what it gathers.
@@ -335,4 +340,24 @@ fn run_out(state: &mut ReaderState)
     ensures { state.new ≡ OutOfMemory }
 {
     *state = ReaderState::OutOfMemory;
+}
+
+/// What a text begins with.
+#[derive(Drop)]
+pub enum ReadOutcome {
+    /// An object, its start, its end, and where the next form begins: at the end, or after the one whitespace character that
+    /// is discarded with it.
+    Form {
+        datum: Datum,
+        start: usize,
+        end: usize,
+        next: usize,
+    },
+    /// Only discarded text.
+    Empty,
+    /// The number of a refusal, and its offset.
+    Refused {
+        code: u16,
+        at: usize,
+    },
 }

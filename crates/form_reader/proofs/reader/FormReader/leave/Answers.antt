@@ -2,10 +2,10 @@ use Rattle.std.proofs.Common.{◌≡◌, [], sym, subst, ◌∙◌, refl}
 use Rattle.form_reader.specs.declared.reader.ReaderState.{ReaderState}
 use Rattle.form_reader.specs.declared.reader.ReaderState.TheVariants.{Open}
 use Rattle.form_reader.specs.declared.reader.Advance.TheVariants.{More as AdvanceMore}
-use Rattle.form_reader.specs.Surrounding.{setting}
+use Rattle.form_reader.specs.Context.{setting}
 use Rattle.form_reader.specs.Reader.{IsAfterIn}
-use Rattle.form_reader.proofs.Between.{leaves_between, anew_between}
-use Rattle.form_reader.proofs.ReaderSteps.{stepped}
+use Rattle.form_reader.proofs.Readers.{leaves_between, anew_between}
+use Rattle.form_reader.proofs.Readers.{stepped}
 use Rattle.form_reader.proofs.Begun.{stepped_begun}
 use Rattle.form_reader.proofs.reader.FormReader.leave.Goals as goal
 

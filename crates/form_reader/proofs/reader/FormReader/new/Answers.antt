@@ -1,5 +1,5 @@
 use Rattle.std.proofs.Common.{refl}
-use Rattle.form_reader.proofs.ReaderSteps.{new_rest}
+use Rattle.form_reader.proofs.Readers.{new_rest}
 use Rattle.form_reader.proofs.Begun.{new_begun}
 use Rattle.form_reader.proofs.reader.FormReader.new.Goals as goal
 

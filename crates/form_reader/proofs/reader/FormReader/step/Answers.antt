@@ -1,12 +1,12 @@
 use Rattle.std.proofs.Common.{◌+◌, [], refl, sym, ap, subst, ◌∙◌, arith}
 use Rattle.std.specs.Prelude.{IsTrue}
-use Rattle.form_reader.specs.Standing.{is_standing}
+use Rattle.form_reader.specs.State.{is_standing}
 use Rattle.form_reader.specs.declared.reader.ReaderState.{ReaderState}
 use Rattle.form_reader.specs.declared.reader.ReaderState.TheVariants.{Open}
 use Rattle.lisp_reading.specs.Setting.{setting_of}
 use Rattle.form_reader.specs.Reader.{IsAfterIn}
-use Rattle.form_reader.proofs.ReaderSteps.{went_on, went_past, gave_up, taken_there, passed_there, left_there, refused_there, ready_there, ready_past}
-use Rattle.form_reader.proofs.Standings.{standing_of}
+use Rattle.form_reader.proofs.Readers.{went_on, went_past, gave_up, taken_there, passed_there, left_there, refused_there, ready_there, ready_past}
+use Rattle.form_reader.proofs.States.{standing_of}
 use Rattle.form_reader.proofs.Begun.{between_begun, other_there, stays_begun, went_begun}
 use Rattle.form_reader.proofs.reader.FormReader.step.Goals as goal
 

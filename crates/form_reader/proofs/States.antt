@@ -1,0 +1,41 @@
+-- What always holds of a reader, as a test and as what is asked where a byte is taken.
+use Rattle.std.proofs.Common.{◌≡◌, ℕ, ◌≤◌, Bool, true, false, List, length, refl, subst}
+use Rattle.std.specs.Prelude.{◌&&◌, nat_le, IsTrue}
+use Rattle.std.proofs.lemmas.Bool.{leb-true, false≢true}
+use Rattle.form_reader.specs.declared.stack.Frame.{Frame}
+use Rattle.lisp_reading.specs.declared.limits.Limits.{Limits}
+use Rattle.form_reader.specs.declared.reader.ReaderState.{ReaderState}
+use Rattle.form_reader.specs.declared.reader.ReaderState.TheVariants.{Open}
+use Rattle.form_reader.specs.declared.state.Position.{Position}
+use Rattle.form_reader.specs.declared.state.Position.TheVariants.{Object as AtObject, Token as AtToken, CallToken as AtCallToken, Text as AtText, Escaped as AtEscaped, Line as AtLine, Block as AtBlock, Number as AtNumber}
+use Rattle.form_reader.specs.State.{IsPositionAt, is_position_at, is_standing}
+use Rattle.form_reader.specs.Step.{IsStanding}
+
+both : (a b : Bool) → IsTrue (a && b) → IsTrue a × IsTrue b
+both true b h = (refl, h)
+both false b h = absurd (false≢true h)
+
+below : (a b : ℕ) → IsTrue (nat_le a b) → a ≤ b
+below a b = by (nat_le a b) refl
+  where
+    by : (r : Bool) → nat_le a b ≡ r → IsTrue r → a ≤ b
+    by true e h = leb-true a b e
+    by false e h = absurd (false≢true h)
+
+position_below : (at : ℕ) (position : Position) → IsTrue (is_position_at at position) → IsPositionAt at position
+position_below at AtObject h = tt
+position_below at (AtToken scan) h = h
+position_below at (AtCallToken call scan) h = h
+position_below at (AtText call terminator text) h = tt
+position_below at (AtEscaped call terminator text) h = tt
+position_below at (AtLine call text) h = tt
+position_below at (AtBlock call levels) h = below levels.0 at h
+position_below at (AtNumber c number) h = tt
+
+pub standing_of : (limits : Limits) (frames : List Frame) (at : ℕ) (state : ReaderState) (position : Position) → state ≡ Open position → IsTrue (is_standing limits frames at state)
+    → IsStanding limits frames position at
+standing_of limits frames at state position e h =
+    let open_now : IsTrue (is_standing limits frames at (Open position)) = subst (λ (s : ReaderState). IsTrue (is_standing limits frames at s)) e h in
+    let first = both (nat_le at limits.text) (nat_le (length frames) limits.nesting && is_position_at at position) open_now in
+    let last = both (nat_le (length frames) limits.nesting) (is_position_at at position) first.1 in
+    record { within = below at limits.text first.0; nesting = below (length frames) limits.nesting last.0; levels = position_below at position last.1 }

@@ -1,0 +1,27 @@
+-- What the calls of functions come to.
+use Rattle.form_reader.specs.declared.call.Completed.{Completed}
+use Rattle.form_reader.specs.declared.call.Completed.TheVariants.{Gives, Refused}
+use Rattle.lisp_reading.specs.declared.found.Found.{Found}
+use Rattle.lisp_reading.specs.Plans.{Plan, gives, refuses}
+use Rattle.std.specs.Prelude.{ℕ, List}
+use Rattle.form_reader.specs.declared.stack.Frame.{Frame}
+use Rattle.form_reader.specs.declared.state.Event.{Event}
+use Rattle.lisp_reading.specs.Setting.{Setting}
+use Rattle.lisp_reading.specs.Reading.{completed}
+use Rattle.form_reader.specs.Stack.{plan_gives}
+use Rattle.form_reader.specs.State.{Brings, lookahead}
+
+-- the plan that was found
+abbrev pub plan_of : Completed → Plan Found
+plan_of (Gives found) = gives found
+plan_of (Refused number back) = refuses number back
+
+-- how much of the text after it may still matter to what a call comes to
+abbrev pub completed_lookahead : Completed → ℕ
+completed_lookahead (Gives found) = lookahead found
+completed_lookahead (Refused number back) = 0
+
+-- a call comes to this in these open calls
+abbrev pub ComesTo : Setting → List Frame → Completed → ℕ → List ℕ → Event → Type 0
+ComesTo setting frames completed at cs event =
+    Brings setting frames at cs event (plan_gives setting frames (plan_of completed) at cs)

@@ -1,0 +1,30 @@
+-- What the end of the text is to a token and to a call.
+use Rattle.std.specs.Prelude.{ℕ, ◌≡◌, ◌≤◌, [], Ok, Option, Some, None}
+use Rattle.readtable_core.specs.Tables.{Table}
+use Rattle.token_scan.specs.Scans.{Scan}
+use Rattle.token_scan.specs.declared.stage.Stage.TheVariants.{Outside}
+use Rattle.lisp_reading.specs.declared.limits.Limits.{Limits}
+use Rattle.form_reader.specs.declared.state.Event.{Event}
+use Rattle.form_reader.specs.declared.state.Event.TheVariants.{Open as IsAt, Gives as IsGiven, Refused as IsRefused}
+use Rattle.form_reader.specs.declared.state.Position.TheVariants.{Object as AtObject}
+use Rattle.form_reader.specs.declared.step.Settled.{Settled}
+use Rattle.form_reader.specs.declared.step.Settled.TheVariants.{Open as SettledOpen, Done as SettledDone, Refused as SettledRefused}
+use Rattle.lisp_reading.specs.Plans.{fault}
+use Rattle.form_reader.specs.Token.{token_read}
+
+-- it ends the token; or the token is refused
+abbrev pub TokenStops : Table → Limits → Scan → ℕ → Option ℕ → Type 0
+TokenStops table limits scan at None = (token_read table limits scan at [] ≡ Ok (scan.marks, at, [])) × (scan.stage ≡ Outside)
+TokenStops table limits scan at (Some number) = token_read table limits scan at [] ≡ fault number at
+
+-- Only where an object may begin is more waited for; a refusal is at no later offset.
+abbrev pub IsLastEvent : ℕ → Event → Type 0
+IsLastEvent at (IsAt position) = position ≡ AtObject
+IsLastEvent at (IsGiven found) = Unit {0}
+IsLastEvent at (IsRefused number offset) = offset ≤ at
+
+-- no more is waited for
+abbrev pub IsLastSettled : ℕ → Settled → Type 0
+IsLastSettled at (SettledOpen position) = ⊥
+IsLastSettled at (SettledDone found) = Unit {0}
+IsLastSettled at (SettledRefused number offset) = offset ≤ at

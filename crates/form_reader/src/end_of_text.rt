@@ -1,0 +1,223 @@
+//! The end of a text, wherever a reader is in a form.
+ghost use Rattle.std.specs.Prelude.{◌≡◌, ◌≤◌, ◌<◌, ◌+◌, ◌^◌, List, [], length, true, None, Ok, IfOk};
+ghost use Rattle.readtable_core.specs.Tables.{Table};
+ghost use Rattle.form_reader.specs.declared.stack.Frame.{Frame};
+ghost use Rattle.lisp_reading.specs.Setting.{Setting};
+ghost use Rattle.form_reader.specs.Context.{setting};
+ghost use Rattle.form_reader.specs.declared.state.Position.TheVariants.{Object as AtObject, Token as AtToken, CallToken as AtCallToken, Line as AtLine};
+ghost use Rattle.form_reader.specs.declared.reader.ReadOutcome.TheVariants.{Empty as IsEmpty};
+ghost use Rattle.lisp_reading.specs.declared.found.Found.TheVariants.{TheEnd as the_end};
+ghost use Rattle.form_reader.specs.declared.state.Event.TheVariants.{Open as IsAt};
+ghost use Rattle.form_reader.specs.declared.step.Settled.TheVariants.{Done as IsDone};
+ghost use Rattle.form_reader.specs.State.{Brings, position_gives};
+ghost use Rattle.form_reader.specs.Step.{outcome_of, rest_of, Settles};
+ghost use Rattle.form_reader.specs.EndOfText.{TokenStops, IsLastEvent, IsLastSettled};
+ghost use Rattle.form_reader.specs.Reader.{IsOutcome};
+
+use crate::call::ended;
+use crate::context::Surroundings;
+use crate::reader::ReadOutcome;
+use crate::stack::Frames;
+use crate::state::{Event, Position};
+use crate::step::Settled;
+use crate::token::{BegunScan, refused, token_end};
+use crate::value::{Delivered, deliver};
+use lisp_object::refusal::{DOT_CONTEXT, END_OF_FILE};
+use lisp_reading::{Found, HeldText, Invoked, Limits};
+use std::alloc::AllocError;
+use std_macros::StdGathered;
+use token_scan::TokenScan;
+use user_macros::MacroFunctions;
+
+/// Whether the end of the text at `at` ends a token; else the number of its refusal.
+fn token_stop(limits: &Limits, scan: &mut TokenScan, at: usize) -> Option<u16>
+    requires { at ≤ limits.now.text }
+    ensures stops { (table : Table) → TokenStops table limits.now scan.old at result }
+    ensures same { result ≡ None → scan.new ≡ scan.old }
+{
+    match scan.finish() {
+        Ok(()) => None,
+        Err(refusal) => Some(refused(limits, refusal, at)),
+    }
+}
+
+/// The end of the text at `at`, in a token that is an object.
+fn last_token<R: MacroFunctions>(
+    with: &Surroundings<'_, R>,
+    scan: BegunScan,
+    at: usize,
+) -> Result<Event, AllocError>
+    requires within { at ≤ with.now.limits.text }
+    ensures brings { let setting = setting R.functions with.now in
+        (frames : List Frame) → IfOk result (λ event. Brings setting frames at [] event
+        (position_gives setting frames (AtToken scan) at [])) }
+    ensures last { IfOk result (IsLastEvent at) }
+{
+    let mut scan = scan.into_scan();
+    match token_stop(&with.limits, &mut scan, at) {
+        None => token_end(with, scan.into_marks(), at),
+        Some(code) => Ok(Event::Refused(code, at)),
+    }
+}
+
+/// The end of the text at `at`, in the token of a call at this depth.
+fn last_call_token<R: MacroFunctions>(
+    with: &Surroundings<'_, R>,
+    depth: usize,
+    call: Invoked,
+    mut scan: TokenScan,
+    at: usize,
+) -> Result<Event, AllocError>
+    requires answers { R.answers with.now.macros.now }
+    requires within { at ≤ with.now.limits.text }
+    ensures brings { let setting = setting R.functions with.now in
+        (frames : List Frame) → depth ≡ length frames → IfOk result (λ event. Brings setting frames at [] event
+        (position_gives setting frames (AtCallToken call scan) at [])) }
+    ensures last { IfOk result (IsLastEvent at) }
+{
+    match token_stop(&with.limits, &mut scan, at) {
+        None => {
+            let gathered = StdGathered::Marks(scan.into_marks());
+            ended(with, depth, &call, true, gathered, at)
+        }
+        Some(code) => Ok(Event::Refused(code, at)),
+    }
+}
+
+/// The end of the text at `at`, which ends the line of a call at this depth.
+fn last_line<R: MacroFunctions>(
+    with: &Surroundings<'_, R>,
+    depth: usize,
+    call: Invoked,
+    text: HeldText,
+    at: usize,
+) -> Result<Event, AllocError>
+    requires answers { R.answers with.now.macros.now }
+    requires within { at ≤ with.now.limits.text }
+    ensures brings { let setting = setting R.functions with.now in
+        (frames : List Frame) → depth ≡ length frames
+        → IfOk result (λ event. Brings setting frames at [] event
+        (position_gives setting frames (AtLine call text) at [])) }
+    ensures last { IfOk result (IsLastEvent at) }
+{
+    let gathered = StdGathered::Text(text.into_bytes());
+    ended(with, depth, &call, false, gathered, at)
+}
+
+/// What the end of the text at `at` brings; the position is left where an object may begin.
+fn last<R: MacroFunctions>(
+    with: &Surroundings<'_, R>,
+    depth: usize,
+    position: Position,
+    at: usize,
+) -> Result<Event, AllocError>
+    requires answers { R.answers with.now.macros.now }
+    requires within { at ≤ with.now.limits.text }
+    ensures brings { let setting = setting R.functions with.now in
+        (frames : List Frame) → depth ≡ length frames → IfOk result (λ event. Brings setting frames at [] event
+        (position_gives setting frames position at [])) }
+    ensures last { IfOk result (IsLastEvent at) }
+    ensures object { position ≡ AtObject → result ≡ Ok (IsAt AtObject) }
+{
+    match position {
+        Position::Object => Ok(Event::Open(Position::Object)),
+        Position::Token(scan) => last_token(with, scan, at),
+        Position::CallToken(call, scan) => last_call_token(with, depth, call, scan, at),
+        Position::Line(call, text) => last_line(with, depth, call, text, at),
+        Position::Text(..) => Ok(Event::Refused(END_OF_FILE, at)),
+        Position::Escaped(..) => Ok(Event::Refused(END_OF_FILE, at)),
+        Position::Block(..) => Ok(Event::Refused(END_OF_FILE, at)),
+        Position::Number(..) => Ok(Event::Refused(END_OF_FILE, at)),
+    }
+}
+
+/// The end of the text at `at`, where an object may begin.
+fn waited(calls: usize, at: usize) -> Settled
+    ensures settles { (setting : Setting) (frames : List Frame) → calls ≡ length frames
+        → at ≤ setting.limits.text
+        → Settles setting frames at [] result (position_gives setting frames AtObject at []) }
+    ensures last { IsLastSettled at result }
+    ensures none { calls ≡ 0 → result ≡ IsDone the_end }
+{
+    if calls == 0 {
+        return Settled::Done(Found::TheEnd);
+    }
+    Settled::Refused(END_OF_FILE, at)
+}
+
+/// What the outermost attempt comes to at the end of the text, which is at `at`.
+fn settle_last<R: MacroFunctions>(
+    with: &Surroundings<'_, R>,
+    frames: &mut Frames,
+    position: Position,
+    at: usize,
+) -> Result<Settled, AllocError>
+    requires answers { R.answers with.now.macros.now }
+    requires within { at ≤ with.now.limits.text }
+    ensures settles { let setting = setting R.functions with.now in
+        IfOk result (λ settled. Settles setting frames.new at [] settled
+        (position_gives setting frames.old position at [])) }
+    ensures last { IfOk result (IsLastSettled at) }
+    ensures between { frames.old ≡ [] → position ≡ AtObject → result ≡ Ok (IsDone the_end) }
+{
+    match last(with, frames.len(), position, at)? {
+        Event::Open(_) => Ok(waited(frames.len(), at)),
+        Event::Gives(found) => match deliver(with, frames, found, at)? {
+            Delivered::Waits(_) => Ok(waited(frames.len(), at)),
+            Delivered::Done(found) => Ok(Settled::Done(found)),
+            Delivered::Refused(code, offset) => Ok(Settled::Refused(code, offset)),
+        },
+        Event::Refused(code, offset) => Ok(Settled::Refused(code, offset)),
+    }
+}
+
+/// What the attempt that began at `start` came to at the end of the text, at the offset `at` in it.
+fn done_last(found: Found, start: usize, at: usize) -> ReadOutcome
+    requires count { start + at ≤ 2 ^ 63 }
+    ensures outcome { (setting : Setting)
+        → IsOutcome result (outcome_of setting start (Ok (found, at, []))) }
+    ensures the_end { found ≡ the_end → result ≡ IsEmpty }
+{
+    match found {
+        Found::Nothing(_) => ReadOutcome::Empty,
+        Found::One(_, x) => {
+            let end = start + at;
+            ReadOutcome::Form {
+                datum: x.into_sound_datum(),
+                start,
+                end,
+                next: end,
+            }
+        }
+        Found::LoneDot => ReadOutcome::Refused {
+            code: DOT_CONTEXT,
+            at: start + at,
+        },
+        Found::TheEnd => ReadOutcome::Empty,
+    }
+}
+
+/// The end of the text, where the attempt began at `start` and has `at` bytes.
+pub(crate) fn last_outcome<R: MacroFunctions>(
+    with: &Surroundings<'_, R>,
+    frames: &mut Frames,
+    position: Position,
+    start: usize,
+    at: usize,
+) -> Result<ReadOutcome, AllocError>
+    requires answers { R.answers with.now.macros.now }
+    requires within { at ≤ with.now.limits.text }
+    requires count { start + at ≤ 2 ^ 63 }
+    ensures outcome { let setting = setting R.functions with.now in
+        IfOk result (λ outcome. IsOutcome outcome (rest_of setting frames.old position start at [])) }
+    ensures between { frames.old ≡ [] → position ≡ AtObject → result ≡ Ok IsEmpty }
+{
+    match settle_last(with, frames, position, at)? {
+        Settled::Open(_) => unreachable!(),
+        Settled::Done(found) => Ok(done_last(found, start, at)),
+        Settled::Refused(code, offset) => Ok(ReadOutcome::Refused {
+            code,
+            at: start + offset,
+        }),
+    }
+}

@@ -1,0 +1,164 @@
+//! One byte that begins a token, goes on one, or is whitespace where an object may begin, taken where the reader is.
+ghost use Rattle.std.specs.Prelude.{◌≡◌, ◌≤◌, ◌<◌, ◌+◌, ℕ, List, [], ◌∷◌, length, true, false, Ok, None, IfOk, IfSome};
+ghost use Rattle.form_reader.specs.Context.{setting};
+ghost use Rattle.form_reader.specs.declared.state.Position.TheVariants.{Object as AtObject};
+ghost use Rattle.form_reader.specs.Step.{is_space, BeginsToken, FeedsInPlace, IsBegunAt, IsReadyInPlace, Stays, rest_of};
+ghost use Rattle.form_reader.specs.declared.step.in_place.InPlace.TheVariants.{Passed as IsPassed};
+
+use crate::context::Surroundings;
+use crate::gather::LineByte;
+use crate::stack::Frames;
+use crate::state::Position;
+use crate::step::object::{is_blank, stands_alone};
+use crate::token::{BegunScan, FirstByte, first_byte};
+use std::alloc::AllocError;
+use user_macros::MacroFunctions;
+
+/// What a byte is where the reader is, if it may be taken there.
+#[derive(Clone, Copy)]
+pub enum InPlace {
+    /// It is taken, and the reader goes on there.
+    GoesOn,
+    /// It is whitespace where nothing is open: an attempt begins after it.
+    Passed,
+    /// Something begins or ends at it. Nothing has changed.
+    Left,
+    /// It is refused.
+    Refused(u16),
+}
+
+/// The byte `c` at `at`, where the reader is at `position`: it is taken there if it begins a token or goes on one, or is whitespace
+/// that is discarded.
+#[inline(always)]
+pub(crate) fn in_place<R: MacroFunctions>(
+    with: &Surroundings<'_, R>,
+    frames: &Frames,
+    position: &mut Position,
+    at: usize,
+    c: u8,
+) -> Result<InPlace, AllocError>
+    requires within { at ≤ with.now.limits.text }
+    requires nesting { length frames.now ≤ with.now.limits.nesting }
+    ensures feeds { let setting = setting R.functions with.now in
+        (cs : List ℕ) → IfOk result (FeedsInPlace setting frames.now at c cs position.old position.new) }
+    ensures ready { IfOk result (IsReadyInPlace with.now.limits at position.new) }
+    ensures passed { let setting = setting R.functions with.now in
+        frames.now ≡ [] → is_space setting frames.now position.old at c ≡ true → (result ≡ Ok IsPassed) × (position.new ≡ AtObject) }
+    ensures anew { result ≡ Ok IsPassed → (frames.now ≡ []) × (position.new ≡ AtObject) }
+{
+    match position {
+        Position::Object => begin_in_place(with, frames, position, at, c),
+        Position::Token(scan) => match scan.feed(with.readtable, &with.limits, at, c)? {
+            LineByte::More => Ok(InPlace::GoesOn),
+            LineByte::Ended => Ok(InPlace::Left),
+            LineByte::Refused(code) => Ok(InPlace::Refused(code)),
+        },
+        _ => Ok(InPlace::Left),
+    }
+}
+
+/// The same where an object may begin.
+#[inline(never)]
+fn begin_in_place<R: MacroFunctions>(
+    with: &Surroundings<'_, R>,
+    frames: &Frames,
+    position: &mut Position,
+    at: usize,
+    c: u8,
+) -> Result<InPlace, AllocError>
+    requires within { at ≤ with.now.limits.text }
+    requires nesting { length frames.now ≤ with.now.limits.nesting }
+    requires object { position.old ≡ AtObject }
+    ensures feeds { let setting = setting R.functions with.now in
+        (cs : List ℕ) → IfOk result (FeedsInPlace setting frames.now at c cs position.old position.new) }
+    ensures ready { IfOk result (IsReadyInPlace with.now.limits at position.new) }
+    ensures passed { let setting = setting R.functions with.now in
+        frames.now ≡ [] → is_space setting frames.now position.old at c ≡ true → (result ≡ Ok IsPassed) × (position.new ≡ AtObject) }
+    ensures anew { result ≡ Ok IsPassed → (frames.now ≡ []) × (position.new ≡ AtObject) }
+{
+    match begun_at(with, frames, at, c)? {
+        Some(scan) => {
+            *position = Position::Token(scan);
+            Ok(InPlace::GoesOn)
+        }
+        None => Ok(discarded(with, frames, at, c)),
+    }
+}
+
+/// The token that the byte `c` at `at` begins, where an object may begin; None where it begins none, or is refused.
+#[tactic(auto, using(crate::proofs::Objects::begins_token))]
+fn begun_at<R: MacroFunctions>(
+    with: &Surroundings<'_, R>,
+    frames: &Frames,
+    at: usize,
+    c: u8,
+) -> Result<Option<BegunScan>, AllocError>
+    requires within { at ≤ with.now.limits.text }
+    requires nesting { length frames.now ≤ with.now.limits.nesting }
+    ensures begins { let setting = setting R.functions with.now in
+        (cs : List ℕ) → IfOk result (λ begun. IfSome begun (λ scan. BeginsToken setting frames.now at c cs scan)) }
+    ensures ready { IfOk result (λ begun. IfSome begun (IsBegunAt with.now.limits at)) }
+    ensures none { let setting = setting R.functions with.now in
+        is_space setting frames.now AtObject at c ≡ true → result ≡ Ok None }
+{
+    if frames.is_closed_by(c) {
+        return Ok(None);
+    }
+    if stands_alone(with.readtable.syntax(c)) {
+        return Ok(None);
+    }
+    match first_byte(with.alloc, with.readtable, &with.limits, at, c)? {
+        FirstByte::More(scan) => Ok(Some(scan)),
+        FirstByte::Refused(_) => Ok(None),
+    }
+}
+
+/// The byte `c` at `at`, where an object may begin, if it begins no token.
+fn discarded<R: MacroFunctions>(
+    with: &Surroundings<'_, R>,
+    frames: &Frames,
+    at: usize,
+    c: u8,
+) -> InPlace
+    requires nesting { length frames.now ≤ with.now.limits.nesting }
+    ensures feeds { let setting = setting R.functions with.now in
+        (cs : List ℕ) → FeedsInPlace setting frames.now at c cs AtObject AtObject result }
+    ensures ready { IsReadyInPlace with.now.limits at AtObject result }
+    ensures passed { let setting = setting R.functions with.now in
+        frames.now ≡ [] → is_space setting frames.now AtObject at c ≡ true → result ≡ IsPassed }
+    ensures anew { result ≡ IsPassed → frames.now ≡ [] }
+{
+    if !is_discarded(with, frames, at, c) {
+        return InPlace::Left;
+    }
+    if frames.len() == 0 {
+        return InPlace::Passed;
+    }
+    InPlace::GoesOn
+}
+
+/// Whether the byte `c` at `at`, where an object may begin, is whitespace that is discarded.
+pub(crate) fn is_discarded<R: MacroFunctions>(
+    with: &Surroundings<'_, R>,
+    frames: &Frames,
+    at: usize,
+    c: u8,
+) -> bool
+    requires nesting { length frames.now ≤ with.now.limits.nesting }
+    ensures stays { let setting = setting R.functions with.now in
+        (cs : List ℕ) → result ≡ true → 0 < length frames.now → Stays setting frames.now at c cs }
+    ensures passes { let setting = setting R.functions with.now in
+        (start : ℕ) (cs : List ℕ) → result ≡ true → frames.now ≡ []
+        → rest_of setting frames.now AtObject start at (c ∷ cs) ≡ rest_of setting frames.now AtObject (start + (at + 1)) 0 cs }
+    ensures below { result ≡ true → at < with.now.limits.text }
+    ensures space { let setting = setting R.functions with.now in
+        result ≡ is_space setting frames.now AtObject at c }
+{
+    if at >= with.limits.text {
+        return false;
+    }
+    if frames.is_closed_by(c) {
+        return false;
+    }
+    is_blank(with.readtable.syntax(c))
+}

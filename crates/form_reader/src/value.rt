@@ -1,0 +1,154 @@
+//! What the open calls make of what is found in the innermost.
+ghost use Rattle.std.specs.Prelude.{◌≤◌, ◌<◌, ℕ, List, length, IfOk};
+ghost use Rattle.lisp_reading.specs.Plans.{gives};
+ghost use Rattle.lisp_reading.specs.declared.found.Found.TheVariants.{One as one, LoneDot as lone_dot};
+ghost use Rattle.form_reader.specs.declared.stack.Frame.{Frame};
+ghost use Rattle.form_reader.specs.Call.{plan_of, completed_lookahead};
+ghost use Rattle.lisp_reading.specs.Setting.{Setting};
+ghost use Rattle.form_reader.specs.Context.{setting};
+ghost use Rattle.form_reader.specs.Stack.{plan_gives};
+ghost use Rattle.form_reader.specs.Value.{Takes, Shortens, Delivers, IsReceivedAt, IsDeliveredAt};
+ghost use Rattle.form_reader.specs.State.{space, lookahead};
+
+use crate::call::{Completed, complete};
+use crate::context::Surroundings;
+use crate::stack::Frames;
+use lisp_object::refusal::{DOT_CONTEXT, END_OF_FILE};
+use lisp_reading::{Found, HeldObject};
+use std::alloc::AllocError;
+use std_macros::StdGathered;
+use user_macros::MacroFunctions;
+
+/// What the innermost open call makes of what is found in it.
+#[derive(Drop)]
+pub enum Received {
+    /// It goes on as this call, after one whitespace character where there is one and a token ended.
+    Stays(bool),
+    /// It ends, and comes to this.
+    Gives(Found),
+    /// The number of a refusal, and its offset.
+    Refused(u16, usize),
+}
+
+/// What all open calls make of what is found in the innermost.
+#[derive(Drop)]
+pub enum Delivered {
+    /// More is read where an object may begin, after one whitespace character where there is one and a token ended.
+    Waits(bool),
+    /// The outermost attempt comes to this.
+    Done(Found),
+    /// The number of a refusal, and its offset.
+    Refused(u16, usize),
+}
+
+/// What the innermost open call makes of what is found in it at `at`.
+fn take<R: MacroFunctions>(
+    with: &Surroundings<'_, R>,
+    frames: &mut Frames,
+    found: Found,
+    at: usize,
+) -> Result<Received, AllocError>
+    requires answers { R.answers with.now.macros.now }
+    requires within { at ≤ with.now.limits.text }
+    requires open { 0 < length frames.old }
+    ensures takes { let setting = setting R.functions with.now in
+        (cs : List ℕ) → IfOk result (λ received. Takes setting frames.new at cs received
+        (plan_gives setting frames.old (gives found) at cs)) }
+    ensures leaves { IfOk result (IsReceivedAt (lookahead found) at) }
+    ensures shorter { IfOk result (Shortens frames.old frames.new) }
+{
+    match found {
+        Found::Nothing(token) => Ok(Received::Stays(token)),
+        Found::One(token, x) => take_one(with, frames, token, x, at),
+        Found::LoneDot => Ok(take_dot(frames, at)),
+        Found::TheEnd => Ok(Received::Refused(END_OF_FILE, at)),
+    }
+}
+
+/// What the innermost open call makes of an object.
+fn take_one<R: MacroFunctions>(
+    with: &Surroundings<'_, R>,
+    frames: &mut Frames,
+    token: bool,
+    x: HeldObject,
+    at: usize,
+) -> Result<Received, AllocError>
+    requires answers { R.answers with.now.macros.now }
+    requires within { at ≤ with.now.limits.text }
+    requires open { 0 < length frames.old }
+    ensures takes { let setting = setting R.functions with.now in
+        (cs : List ℕ) → IfOk result (λ received. Takes setting frames.new at cs received
+        (plan_gives setting frames.old (gives (one token x)) at cs)) }
+    ensures leaves { IfOk result (IsReceivedAt (space token) at) }
+    ensures shorter { IfOk result (Shortens frames.old frames.new) }
+{
+    match frames.pop_waiting() {
+        Some(call) => {
+            let depth = frames.len();
+            let gathered = StdGathered::One(x.into_datum());
+            Ok(received_of(complete(with, depth, &call, token, token, gathered)?, at))
+        }
+        None => {
+            if frames.take_object(x)? {
+                Ok(Received::Stays(token))
+            } else {
+                Ok(Received::Refused(DOT_CONTEXT, at))
+            }
+        }
+    }
+}
+
+/// What the innermost open call makes of a dot.
+fn take_dot(frames: &mut Frames, at: usize) -> Received
+    requires open { 0 < length frames.old }
+    ensures takes { (setting : Setting) (cs : List ℕ) → at ≤ setting.limits.text
+        → Takes setting frames.new at cs result
+        (plan_gives setting frames.old (gives lone_dot) at cs) }
+    ensures leaves { IsReceivedAt 1 at result }
+    ensures shorter { Shortens frames.old frames.new result }
+{
+    if frames.take_dot() {
+        Received::Stays(false)
+    } else {
+        Received::Refused(DOT_CONTEXT, at)
+    }
+}
+
+/// What an open call that ends at `at` comes to.
+fn received_of(completed: Completed, at: usize) -> Received
+    ensures takes { (setting : Setting) (frames : List Frame) (cs : List ℕ)
+        → Takes setting frames at cs result
+        (plan_gives setting frames (plan_of completed) at cs) }
+    ensures leaves { IsReceivedAt (completed_lookahead completed) at result }
+{
+    match completed {
+        Completed::Gives(found) => Received::Gives(found),
+        Completed::Refused(code, back) => Received::Refused(code, at.saturating_sub(back)),
+    }
+}
+
+/// What the open calls make of what is found in the innermost at `at`.
+pub(crate) fn deliver<R: MacroFunctions>(
+    with: &Surroundings<'_, R>,
+    frames: &mut Frames,
+    found: Found,
+    at: usize,
+) -> Result<Delivered, AllocError>
+    requires answers { R.answers with.now.macros.now }
+    requires within { at ≤ with.now.limits.text }
+    ensures delivers { let setting = setting R.functions with.now in
+        (cs : List ℕ) → IfOk result (λ delivered. Delivers setting frames.new at cs delivered
+        (plan_gives setting frames.old (gives found) at cs)) }
+    ensures shorter { IfOk result (λ delivered. length frames.new ≤ length frames.old) }
+    ensures leaves { IfOk result (IsDeliveredAt (lookahead found) at) }
+{
+    let mut found = found;
+    'calls: while frames.len() > 0 {
+        match take(with, frames, found, at)? {
+            Received::Stays(token) => return Ok(Delivered::Waits(token)),
+            Received::Gives(next) => found = next,
+            Received::Refused(code, offset) => return Ok(Delivered::Refused(code, offset)),
+        }
+    }
+    Ok(Delivered::Done(found))
+}
