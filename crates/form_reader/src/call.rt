@@ -15,7 +15,7 @@ ghost use Rattle.form_reader.specs.declared.stack.Frame.{Frame};
 ghost use Rattle.form_reader.specs.Stack.{plan_gives, call_in};
 
 use crate::call::answer::may_be_answered;
-use crate::context::Surroundings;
+use crate::context::Context;
 use crate::stack::{Frame, Part};
 use crate::state::Event;
 use lisp_object::refusal::{DOT_CONTEXT, MACRO_ANSWER, MACRO_REFUSED};
@@ -43,7 +43,7 @@ pub enum Completed {
 /// and whether a token ends an object in it.
 #[tactic(auto, using(crate::proofs::Calls::space_or))]
 pub(crate) fn complete<R: MacroFunctions>(
-    with: &Surroundings<'_, R>,
+    with: &Context<'_, R>,
     depth: usize,
     call: &Invoked,
     token: bool,
@@ -205,7 +205,7 @@ pub(crate) fn event_of(completed: Completed, at: usize) -> Event
 /// What a call brings that ends at `at` at this depth, and whether a token ends it.
 #[inline(always)]
 pub(crate) fn ended<R: MacroFunctions>(
-    with: &Surroundings<'_, R>,
+    with: &Context<'_, R>,
     depth: usize,
     call: &Invoked,
     token: bool,
@@ -227,7 +227,7 @@ pub(crate) fn ended<R: MacroFunctions>(
 #[tactic(auto, using(crate::proofs::Calls::all_ready))]
 #[inline(always)]
 pub(crate) fn close<R: MacroFunctions>(
-    with: &Surroundings<'_, R>,
+    with: &Context<'_, R>,
     depth: usize,
     frame: Frame,
     at: usize,

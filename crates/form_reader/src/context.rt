@@ -10,7 +10,7 @@ use std::alloc::Global;
 /// The limits, the readtable in force, the base of numbers, which is 2 to 36, the packages and the current one, which is one of
 /// them, and the functions of users.
 #[derive(Drop)]
-pub struct Surroundings<'a, R> {
+pub struct Context<'a, R> {
     pub alloc: Global,
     pub limits: Limits,
     pub readtable: &'a Readtable,

@@ -11,7 +11,7 @@ ghost use Rattle.form_reader.specs.declared.state.Position.TheVariants.{Number a
 ghost use Rattle.form_reader.specs.Dispatch.{Begins, Gathers, reads_objects};
 
 use crate::call::ended;
-use crate::context::Surroundings;
+use crate::context::Context;
 use crate::gather::{LineByte, number_byte};
 use crate::stack::{Frame, Frames, Part};
 use crate::state::{Event, Position};
@@ -30,7 +30,7 @@ use user_macros::MacroFunctions;
 /// Begins the call of the macro character `c`, which is the byte before `at`.
 #[inline(always)]
 pub(crate) fn begin_macro<R: MacroFunctions>(
-    with: &Surroundings<'_, R>,
+    with: &Context<'_, R>,
     frames: &mut Frames,
     c: u8,
     at: usize,
@@ -60,7 +60,7 @@ pub(crate) fn begin_macro<R: MacroFunctions>(
 
 /// The byte `c` at `at`, in the number of the dispatching character `character`, or its sub-character.
 pub(crate) fn in_number<R: MacroFunctions>(
-    with: &Surroundings<'_, R>,
+    with: &Context<'_, R>,
     frames: &mut Frames,
     character: HeldCharacter,
     mut number: HeldNumber,
@@ -85,7 +85,7 @@ pub(crate) fn in_number<R: MacroFunctions>(
 
 /// The byte `c` at `at`, which is the sub-character.
 fn sub_byte<R: MacroFunctions>(
-    with: &Surroundings<'_, R>,
+    with: &Context<'_, R>,
     frames: &mut Frames,
     character: u8,
     number: HeldNumber,
@@ -124,7 +124,7 @@ fn sub_byte<R: MacroFunctions>(
 #[tactic(auto, using(crate::proofs::Dispatches::refused_is))]
 #[inline(always)]
 pub(crate) fn begin_call<R: MacroFunctions>(
-    with: &Surroundings<'_, R>,
+    with: &Context<'_, R>,
     frames: &mut Frames,
     call: Invoked,
     at: usize,
@@ -147,7 +147,7 @@ pub(crate) fn begin_call<R: MacroFunctions>(
 #[tactic(auto, using(crate::proofs::Dispatches::next_opens, crate::proofs::Dispatches::list_opens, crate::proofs::Dispatches::until_opens, crate::proofs::Dispatches::next_deep, crate::proofs::Dispatches::list_deep, crate::proofs::Dispatches::until_deep, crate::proofs::Dispatches::token_begins, crate::proofs::Dispatches::escaped_begins, crate::proofs::Calls::all_ready))]
 #[inline(always)]
 fn gather<R: MacroFunctions>(
-    with: &Surroundings<'_, R>,
+    with: &Context<'_, R>,
     frames: &mut Frames,
     call: Invoked,
     way: Way,
@@ -192,7 +192,7 @@ fn gather<R: MacroFunctions>(
 #[tactic(auto, using(crate::proofs::Dispatches::next_opens, crate::proofs::Dispatches::list_opens, crate::proofs::Dispatches::until_opens, crate::proofs::Dispatches::next_deep, crate::proofs::Dispatches::list_deep, crate::proofs::Dispatches::until_deep))]
 #[inline(always)]
 fn gather_objects<R: MacroFunctions>(
-    with: &Surroundings<'_, R>,
+    with: &Context<'_, R>,
     frames: &mut Frames,
     call: Invoked,
     way: Way,
@@ -239,7 +239,7 @@ fn gather_objects<R: MacroFunctions>(
 
 /// The way in which the function of a call gathers.
 #[inline(always)]
-fn way_of<R: MacroFunctions>(with: &Surroundings<'_, R>, call: &Invoked) -> Option<Way>
+fn way_of<R: MacroFunctions>(with: &Context<'_, R>, call: &Invoked) -> Option<Way>
     ensures { let setting = setting R.functions with.now in
         result ≡ way_in setting call.now }
 {

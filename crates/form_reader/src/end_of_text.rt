@@ -15,7 +15,7 @@ ghost use Rattle.form_reader.specs.EndOfText.{TokenStops, IsLastEvent, IsLastSet
 ghost use Rattle.form_reader.specs.Reader.{IsOutcome};
 
 use crate::call::ended;
-use crate::context::Surroundings;
+use crate::context::Context;
 use crate::reader::ReadOutcome;
 use crate::stack::Frames;
 use crate::state::{Event, Position};
@@ -43,7 +43,7 @@ fn token_stop(limits: &Limits, scan: &mut TokenScan, at: usize) -> Option<u16>
 
 /// The end of the text at `at`, in a token that is an object.
 fn last_token<R: MacroFunctions>(
-    with: &Surroundings<'_, R>,
+    with: &Context<'_, R>,
     scan: BegunScan,
     at: usize,
 ) -> Result<Event, AllocError>
@@ -62,7 +62,7 @@ fn last_token<R: MacroFunctions>(
 
 /// The end of the text at `at`, in the token of a call at this depth.
 fn last_call_token<R: MacroFunctions>(
-    with: &Surroundings<'_, R>,
+    with: &Context<'_, R>,
     depth: usize,
     call: Invoked,
     mut scan: TokenScan,
@@ -86,7 +86,7 @@ fn last_call_token<R: MacroFunctions>(
 
 /// The end of the text at `at`, which ends the line of a call at this depth.
 fn last_line<R: MacroFunctions>(
-    with: &Surroundings<'_, R>,
+    with: &Context<'_, R>,
     depth: usize,
     call: Invoked,
     text: HeldText,
@@ -106,7 +106,7 @@ fn last_line<R: MacroFunctions>(
 
 /// What the end of the text at `at` brings; the position is left where an object may begin.
 fn last<R: MacroFunctions>(
-    with: &Surroundings<'_, R>,
+    with: &Context<'_, R>,
     depth: usize,
     position: Position,
     at: usize,
@@ -147,7 +147,7 @@ fn waited(calls: usize, at: usize) -> Settled
 
 /// What the outermost attempt comes to at the end of the text, which is at `at`.
 fn settle_last<R: MacroFunctions>(
-    with: &Surroundings<'_, R>,
+    with: &Context<'_, R>,
     frames: &mut Frames,
     position: Position,
     at: usize,
@@ -199,7 +199,7 @@ fn done_last(found: Found, start: usize, at: usize) -> ReadOutcome
 
 /// The end of the text, where the attempt began at `start` and has `at` bytes.
 pub(crate) fn last_outcome<R: MacroFunctions>(
-    with: &Surroundings<'_, R>,
+    with: &Context<'_, R>,
     frames: &mut Frames,
     position: Position,
     start: usize,

@@ -12,7 +12,7 @@ ghost use Rattle.form_reader.specs.declared.state.Position.TheVariants.{Text as 
 ghost use Rattle.form_reader.specs.State.{Brings, position_gives, IsReady};
 
 use crate::call::ended;
-use crate::context::Surroundings;
+use crate::context::Context;
 use crate::state::{Event, Position};
 use lisp_object::refusal::{FORM_TOO_LONG, INVALID_CHARACTER, NUMERIC_ARGUMENT};
 use lisp_reading::{HeldNumber, HeldText, Invoked, Keep, Limits};
@@ -222,7 +222,7 @@ pub(crate) fn number_byte(
 /// The byte `c` at `at`, in the text of a call at this depth.
 #[tactic(auto, using(crate::proofs::Calls::all_ready))]
 pub(crate) fn in_text<R: MacroFunctions>(
-    with: &Surroundings<'_, R>,
+    with: &Context<'_, R>,
     depth: usize,
     call: Invoked,
     terminator: u8,
@@ -252,7 +252,7 @@ pub(crate) fn in_text<R: MacroFunctions>(
 
 /// The byte `c` at `at`, after an escape in the text of a call.
 pub(crate) fn in_escaped<R: MacroFunctions>(
-    with: &Surroundings<'_, R>,
+    with: &Context<'_, R>,
     depth: usize,
     call: Invoked,
     terminator: u8,
@@ -275,7 +275,7 @@ pub(crate) fn in_escaped<R: MacroFunctions>(
 /// The byte `c` at `at`, in the line of a call at this depth.
 #[tactic(auto, using(crate::proofs::Calls::all_ready))]
 pub(crate) fn in_line<R: MacroFunctions>(
-    with: &Surroundings<'_, R>,
+    with: &Context<'_, R>,
     depth: usize,
     call: Invoked,
     mut text: HeldText,
@@ -305,7 +305,7 @@ pub(crate) fn in_line<R: MacroFunctions>(
 /// The byte `c` at `at`, in the block of a call at this depth.
 #[tactic(auto, using(crate::proofs::Calls::all_ready))]
 pub(crate) fn in_block<R: MacroFunctions>(
-    with: &Surroundings<'_, R>,
+    with: &Context<'_, R>,
     depth: usize,
     call: Invoked,
     mut levels: (usize, u8),

@@ -3,7 +3,7 @@ ghost use Rattle.std.specs.Prelude.{◌≡◌, IsTrue};
 ghost use Rattle.form_reader.specs.State.{is_standing};
 ghost use Rattle.form_reader.specs.declared.reader.ReaderState.TheVariants.{Refused, OutOfMemory};
 
-use crate::context::Surroundings;
+use crate::context::Context;
 use crate::end_of_text::last_outcome;
 use crate::stack::Frames;
 use crate::state::Position;
@@ -160,7 +160,7 @@ impl FormReader {
             (R.functions macros.now))
             self.new (bytes ++ byte ∷ [])) }
     {
-        let with = Surroundings {
+        let with = Context {
             alloc: self.alloc,
             limits: self.limits,
             readtable,
@@ -204,7 +204,7 @@ impl FormReader {
     #[inline(never)]
     fn leave<R: MacroFunctions>(
         &mut self,
-        with: &Surroundings<'_, R>,
+        with: &Context<'_, R>,
         byte: u8,
     ) -> Result<Advance, AllocError>
         requires answers { R.answers with.now.macros.now }
@@ -309,7 +309,7 @@ impl FormReader {
         } = self;
         match state {
             ReaderState::Open(position) => {
-                let with = Surroundings {
+                let with = Context {
                     alloc,
                     limits,
                     readtable,

@@ -10,7 +10,7 @@ ghost use Rattle.form_reader.specs.Step.{Passes, IsReadyPass, outcome_of, rest_o
 ghost use Rattle.form_reader.specs.declared.state.Position.TheVariants.{Object as AtObject};
 ghost use Rattle.form_reader.specs.State.{Brings, position_gives, lookahead, IsReady, Moves, IsReadyMove};
 
-use crate::context::Surroundings;
+use crate::context::Context;
 use crate::dispatch::in_number;
 use crate::gather::{in_block, in_escaped, in_line, in_text};
 use crate::stack::Frames;
@@ -52,7 +52,7 @@ pub enum Change {
 /// The byte `c` at `at`, also where it ends a token first.
 #[inline(always)]
 pub(crate) fn feed<R: MacroFunctions>(
-    with: &Surroundings<'_, R>,
+    with: &Context<'_, R>,
     frames: &mut Frames,
     position: Position,
     at: usize,
@@ -80,7 +80,7 @@ pub(crate) fn feed<R: MacroFunctions>(
 /// What the open calls make of what a byte brings, at the offset `at` after it.
 #[inline(always)]
 fn settle<R: MacroFunctions>(
-    with: &Surroundings<'_, R>,
+    with: &Context<'_, R>,
     frames: &mut Frames,
     event: Event,
     at: usize,
@@ -128,7 +128,7 @@ fn done_after(found: Found, start: usize, at: usize) -> Change
 /// What the attempt that began at `start` comes to after what a byte brings, at the offset `at` after it.
 #[inline(always)]
 fn change_of<R: MacroFunctions>(
-    with: &Surroundings<'_, R>,
+    with: &Context<'_, R>,
     frames: &mut Frames,
     event: Event,
     start: usize,
@@ -156,7 +156,7 @@ fn change_of<R: MacroFunctions>(
 /// The byte `c`, with which an attempt begins at `start`, with no open call.
 #[inline(always)]
 fn first_change<R: MacroFunctions>(
-    with: &Surroundings<'_, R>,
+    with: &Context<'_, R>,
     frames: &mut Frames,
     start: usize,
     c: u8,
@@ -182,7 +182,7 @@ fn first_change<R: MacroFunctions>(
 /// What the attempt that began at `start` came to before the byte `c`, at the offset `at` in it, with no open call.
 #[inline(always)]
 fn done_before<R: MacroFunctions>(
-    with: &Surroundings<'_, R>,
+    with: &Context<'_, R>,
     frames: &mut Frames,
     found: Found,
     start: usize,
@@ -218,7 +218,7 @@ fn done_before<R: MacroFunctions>(
 
 /// The byte `c`, where the attempt began at `start` and has `at` bytes.
 pub(crate) fn take_byte<R: MacroFunctions>(
-    with: &Surroundings<'_, R>,
+    with: &Context<'_, R>,
     frames: &mut Frames,
     position: Position,
     start: usize,
@@ -249,7 +249,7 @@ pub(crate) fn take_byte<R: MacroFunctions>(
 /// The byte `c` at `at`, where the reader is at `position` in its innermost call.
 #[inline(always)]
 pub(crate) fn advance<R: MacroFunctions>(
-    with: &Surroundings<'_, R>,
+    with: &Context<'_, R>,
     frames: &mut Frames,
     position: Position,
     at: usize,

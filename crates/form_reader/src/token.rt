@@ -19,7 +19,7 @@ ghost use Rattle.token_scan.specs.Marks.{are_ascii};
 ghost use Rattle.form_reader.specs.declared.state.Position.TheVariants.{Token as AtToken, CallToken as AtCallToken};
 
 use crate::call::ended;
-use crate::context::Surroundings;
+use crate::context::Context;
 use crate::gather::LineByte;
 use crate::state::{Event, Moved, Position};
 use crate::step::object::stands_alone;
@@ -209,7 +209,7 @@ fn below(limits: &Limits, code: u16, at: usize) -> u16
 #[tactic(auto, using(crate::proofs::Objects::begins_token))]
 #[inline(always)]
 pub(crate) fn begin_token<R: MacroFunctions>(
-    with: &Surroundings<'_, R>,
+    with: &Context<'_, R>,
     at: usize,
     c: u8,
 ) -> Result<Event, AllocError>
@@ -230,7 +230,7 @@ pub(crate) fn begin_token<R: MacroFunctions>(
 /// The byte `c` at `at`, in a token that is an object.
 #[inline(always)]
 pub(crate) fn in_token<R: MacroFunctions>(
-    with: &Surroundings<'_, R>,
+    with: &Context<'_, R>,
     scan: BegunScan,
     at: usize,
     c: u8,
@@ -251,7 +251,7 @@ pub(crate) fn in_token<R: MacroFunctions>(
 /// What a token comes to where it ends, at `at`.
 #[inline(always)]
 pub(crate) fn token_end<R: MacroFunctions>(
-    with: &Surroundings<'_, R>,
+    with: &Context<'_, R>,
     marks: Marks,
     at: usize,
 ) -> Result<Event, AllocError>
@@ -280,7 +280,7 @@ pub(crate) fn token_end<R: MacroFunctions>(
 
 /// The byte `c` at `at`, in the token of a call at this depth.
 pub(crate) fn in_call_token<R: MacroFunctions>(
-    with: &Surroundings<'_, R>,
+    with: &Context<'_, R>,
     depth: usize,
     call: Invoked,
     mut scan: TokenScan,

@@ -11,7 +11,7 @@ ghost use Rattle.form_reader.specs.Value.{Takes, Shortens, Delivers, IsReceivedA
 ghost use Rattle.form_reader.specs.State.{space, lookahead};
 
 use crate::call::{Completed, complete};
-use crate::context::Surroundings;
+use crate::context::Context;
 use crate::stack::Frames;
 use lisp_object::refusal::{DOT_CONTEXT, END_OF_FILE};
 use lisp_reading::{Found, HeldObject};
@@ -43,7 +43,7 @@ pub enum Delivered {
 
 /// What the innermost open call makes of what is found in it at `at`.
 fn take<R: MacroFunctions>(
-    with: &Surroundings<'_, R>,
+    with: &Context<'_, R>,
     frames: &mut Frames,
     found: Found,
     at: usize,
@@ -67,7 +67,7 @@ fn take<R: MacroFunctions>(
 
 /// What the innermost open call makes of an object.
 fn take_one<R: MacroFunctions>(
-    with: &Surroundings<'_, R>,
+    with: &Context<'_, R>,
     frames: &mut Frames,
     token: bool,
     x: HeldObject,
@@ -129,7 +129,7 @@ fn received_of(completed: Completed, at: usize) -> Received
 
 /// What the open calls make of what is found in the innermost at `at`.
 pub(crate) fn deliver<R: MacroFunctions>(
-    with: &Surroundings<'_, R>,
+    with: &Context<'_, R>,
     frames: &mut Frames,
     found: Found,
     at: usize,

@@ -5,7 +5,7 @@ ghost use Rattle.form_reader.specs.declared.state.Position.TheVariants.{Object a
 ghost use Rattle.form_reader.specs.Step.{is_space, BeginsToken, FeedsInPlace, IsBegunAt, IsReadyInPlace, Stays, rest_of};
 ghost use Rattle.form_reader.specs.declared.step.in_place.InPlace.TheVariants.{Passed as IsPassed};
 
-use crate::context::Surroundings;
+use crate::context::Context;
 use crate::gather::LineByte;
 use crate::stack::Frames;
 use crate::state::Position;
@@ -31,7 +31,7 @@ pub enum InPlace {
 /// that is discarded.
 #[inline(always)]
 pub(crate) fn in_place<R: MacroFunctions>(
-    with: &Surroundings<'_, R>,
+    with: &Context<'_, R>,
     frames: &Frames,
     position: &mut Position,
     at: usize,
@@ -60,7 +60,7 @@ pub(crate) fn in_place<R: MacroFunctions>(
 /// The same where an object may begin.
 #[inline(never)]
 fn begin_in_place<R: MacroFunctions>(
-    with: &Surroundings<'_, R>,
+    with: &Context<'_, R>,
     frames: &Frames,
     position: &mut Position,
     at: usize,
@@ -88,7 +88,7 @@ fn begin_in_place<R: MacroFunctions>(
 /// The token that the byte `c` at `at` begins, where an object may begin; None where it begins none, or is refused.
 #[tactic(auto, using(crate::proofs::Objects::begins_token))]
 fn begun_at<R: MacroFunctions>(
-    with: &Surroundings<'_, R>,
+    with: &Context<'_, R>,
     frames: &Frames,
     at: usize,
     c: u8,
@@ -114,12 +114,7 @@ fn begun_at<R: MacroFunctions>(
 }
 
 /// The byte `c` at `at`, where an object may begin, if it begins no token.
-fn discarded<R: MacroFunctions>(
-    with: &Surroundings<'_, R>,
-    frames: &Frames,
-    at: usize,
-    c: u8,
-) -> InPlace
+fn discarded<R: MacroFunctions>(with: &Context<'_, R>, frames: &Frames, at: usize, c: u8) -> InPlace
     requires nesting { length frames.now ≤ with.now.limits.nesting }
     ensures feeds { let setting = setting R.functions with.now in
         (cs : List ℕ) → FeedsInPlace setting frames.now at c cs AtObject AtObject result }
@@ -139,7 +134,7 @@ fn discarded<R: MacroFunctions>(
 
 /// Whether the byte `c` at `at`, where an object may begin, is whitespace that is discarded.
 pub(crate) fn is_discarded<R: MacroFunctions>(
-    with: &Surroundings<'_, R>,
+    with: &Context<'_, R>,
     frames: &Frames,
     at: usize,
     c: u8,

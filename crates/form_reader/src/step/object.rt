@@ -10,7 +10,7 @@ ghost use Rattle.form_reader.specs.declared.state.Position.TheVariants.{Object a
 ghost use Rattle.readtable_core.specs.Tables.{entry_at};
 
 use crate::call::close;
-use crate::context::Surroundings;
+use crate::context::Context;
 use crate::dispatch::begin_macro;
 use crate::stack::Frames;
 use crate::state::{Event, Position};
@@ -25,7 +25,7 @@ use user_macros::MacroFunctions;
 /// The byte `c` at `at`, where an object may begin.
 #[inline(always)]
 pub(crate) fn at_object<R: MacroFunctions>(
-    with: &Surroundings<'_, R>,
+    with: &Context<'_, R>,
     frames: &mut Frames,
     at: usize,
     c: u8,
@@ -56,7 +56,7 @@ pub(crate) fn at_object<R: MacroFunctions>(
 /// The byte `c` at `at`, where an object may begin after a token that this byte ended.
 #[inline(always)]
 pub(crate) fn after_token<R: MacroFunctions>(
-    with: &Surroundings<'_, R>,
+    with: &Context<'_, R>,
     frames: &mut Frames,
     at: usize,
     c: u8,
@@ -108,7 +108,7 @@ pub enum Passed {
 /// The byte `c` at `at`, where this was found before it in the innermost call.
 #[inline(always)]
 pub(crate) fn after_found<R: MacroFunctions>(
-    with: &Surroundings<'_, R>,
+    with: &Context<'_, R>,
     frames: &mut Frames,
     found: Found,
     at: usize,
@@ -156,7 +156,7 @@ pub(crate) fn stands_alone(syntax: Syntax) -> bool
 /// What an attempt comes to where its first byte `c`, at `at`, begins no token.
 #[inline(always)]
 pub(crate) fn alone<R: MacroFunctions>(
-    with: &Surroundings<'_, R>,
+    with: &Context<'_, R>,
     frames: &mut Frames,
     at: usize,
     c: u8,
