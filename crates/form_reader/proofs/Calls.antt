@@ -93,18 +93,18 @@ module _ (less most at : ℕ) (received : Received) where
   pub refused_within : (code offset : ℕ) → received ≡ Refused code offset → IsReceivedAt less at received → offset ≤ at
   refused_within code offset e h = subst (λ (t : Received). IsReceivedAt less at t) e h
 
-module _ (setting : Setting) (frames : List Frame) (call : InvokedCall) (at : ℕ) (cs : List ℕ) where
+module _ (setting : Setting) (stack : List Frame) (call : InvokedCall) (at : ℕ) (cs : List ℕ) where
   abbrev pub closing : Part → Read Found
-  closing part = plan_gives setting frames (call_in setting (record { call = call; part = part }) frames closed) at cs
+  closing part = plan_gives setting stack (call_in setting (record { call = call; part = part }) stack closed) at cs
 
   abbrev pub completing : Material → Read Found
-  completing material = plan_gives setting frames (completed setting (length frames) call false false material) at cs
+  completing material = plan_gives setting stack (completed setting (length stack) call false false material) at cs
 
   pub next_closes : (part : Part) → part ≡ InNext → closing part ≡ fault DOT_CONTEXT at
-  next_closes part e = ap closing e ∙ given_refused setting frames at cs DOT_CONTEXT 0 ∙ (let e : at - 0 ≡ at = omega arith in ap (λ (n : ℕ). fault DOT_CONTEXT n) e)
+  next_closes part e = ap closing e ∙ given_refused setting stack at cs DOT_CONTEXT 0 ∙ (let e : at - 0 ≡ at = omega arith in ap (λ (n : ℕ). fault DOT_CONTEXT n) e)
 
   pub dotted_closes : (part : Part) (xs : List Object) (offset : ℕ) → part ≡ InDotted xs → offset ≡ at - 1 → closing part ≡ fault DOT_CONTEXT offset
-  dotted_closes part xs offset e p = ap closing e ∙ given_refused setting frames at cs DOT_CONTEXT 1 ∙ ap (λ (n : ℕ). fault DOT_CONTEXT n) (sym p)
+  dotted_closes part xs offset e p = ap closing e ∙ given_refused setting stack at cs DOT_CONTEXT 1 ∙ ap (λ (n : ℕ). fault DOT_CONTEXT n) (sym p)
 
   list_gives : (xs : List Object) → closing (InList xs) ≡ completing (many xs)
   unfolding then_plan
@@ -114,26 +114,26 @@ module _ (setting : Setting) (frames : List Frame) (call : InvokedCall) (at : �
   unfolding then_plan
   until_gives close xs = refl
 
-  pub list_closes : (part : Part) (xs ys : List Object) (result : Result Event AllocError) → part ≡ InList xs → ys ≡ xs → IfOk result (λ event. Brings setting frames at cs event (completing (many ys)))
-      → IfOk result (λ event. Brings setting frames at cs event (closing part))
+  pub list_closes : (part : Part) (xs ys : List Object) (result : Result Event AllocError) → part ≡ InList xs → ys ≡ xs → IfOk result (λ event. Brings setting stack at cs event (completing (many ys)))
+      → IfOk result (λ event. Brings setting stack at cs event (closing part))
   list_closes part xs ys result e same brings =
-      subst (λ (r : Read Found). IfOk result (λ event. Brings setting frames at cs event r)) (ap (λ (xs : List Object). completing (many xs)) same ∙ sym (list_gives xs) ∙ sym (ap closing e)) brings
+      subst (λ (r : Read Found). IfOk result (λ event. Brings setting stack at cs event r)) (ap (λ (xs : List Object). completing (many xs)) same ∙ sym (list_gives xs) ∙ sym (ap closing e)) brings
 
-  pub until_closes : (part : Part) (close : ℕ) (xs ys : List Object) (result : Result Event AllocError) → part ≡ InUntil close xs → ys ≡ xs → IfOk result (λ event. Brings setting frames at cs event (completing (many ys)))
-      → IfOk result (λ event. Brings setting frames at cs event (closing part))
+  pub until_closes : (part : Part) (close : ℕ) (xs ys : List Object) (result : Result Event AllocError) → part ≡ InUntil close xs → ys ≡ xs → IfOk result (λ event. Brings setting stack at cs event (completing (many ys)))
+      → IfOk result (λ event. Brings setting stack at cs event (closing part))
   until_closes part close xs ys result e same brings =
-      subst (λ (r : Read Found). IfOk result (λ event. Brings setting frames at cs event r)) (ap (λ (xs : List Object). completing (many xs)) same ∙ sym (until_gives close xs) ∙ sym (ap closing e)) brings
+      subst (λ (r : Read Found). IfOk result (λ event. Brings setting stack at cs event r)) (ap (λ (xs : List Object). completing (many xs)) same ∙ sym (until_gives close xs) ∙ sym (ap closing e)) brings
 
   pub tailed_closes : (part : Part) (xs ys : List Object) (tail last : Object) (result : Result Event AllocError) → part ≡ InTailed xs tail → ys ≡ xs → last ≡ tail
-      → IfOk result (λ event. Brings setting frames at cs event (completing (dotted ys last))) → IfOk result (λ event. Brings setting frames at cs event (closing part))
+      → IfOk result (λ event. Brings setting stack at cs event (completing (dotted ys last))) → IfOk result (λ event. Brings setting stack at cs event (closing part))
   tailed_closes part xs ys tail last result e same ends brings =
-      subst (λ (r : Read Found). IfOk result (λ event. Brings setting frames at cs event r)) ((λ i. completing (dotted (same i) (ends i))) ∙ sym (ap closing e)) brings
+      subst (λ (r : Read Found). IfOk result (λ event. Brings setting stack at cs event r)) ((λ i. completing (dotted (same i) (ends i))) ∙ sym (ap closing e)) brings
 
 -- what the call gives, whether a token ends it or not
-pub call_ends : (setting : Setting) (frames : List Frame) (call : InvokedCall) (at : ℕ) (cs : List ℕ) (token : Bool) (material : Material) (depth : ℕ) (done : Completed) (event : Event)
-    → depth ≡ length frames → completed setting depth call token false material ≡ plan_of done
-    → ComesTo setting frames done at cs event → Brings setting frames at cs event (plan_gives setting frames (completed setting (length frames) call token false material) at cs)
-call_ends setting frames call at cs token material depth done event open_calls comes brings =
-    let same : completed setting (length frames) call token false material ≡ plan_of done =
+pub call_ends : (setting : Setting) (stack : List Frame) (call : InvokedCall) (at : ℕ) (cs : List ℕ) (token : Bool) (material : Material) (depth : ℕ) (done : Completed) (event : Event)
+    → depth ≡ length stack → completed setting depth call token false material ≡ plan_of done
+    → ComesTo setting stack done at cs event → Brings setting stack at cs event (plan_gives setting stack (completed setting (length stack) call token false material) at cs)
+call_ends setting stack call at cs token material depth done event open_calls comes brings =
+    let same : completed setting (length stack) call token false material ≡ plan_of done =
     ap (λ (n : ℕ). completed setting n call token false material) (sym open_calls) ∙ comes in
-    subst (λ (plan : Plan Found). Brings setting frames at cs event (plan_gives setting frames plan at cs)) (sym same) brings
+    subst (λ (plan : Plan Found). Brings setting stack at cs event (plan_gives setting stack plan at cs)) (sym same) brings

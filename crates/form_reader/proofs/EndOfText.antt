@@ -77,52 +77,52 @@ module _ (table : Table) (limits : Limits) (at : ℕ) where
 
 -- ---- in open calls
 
-module _ (setting : Setting) (frames : List Frame) (at : ℕ) where
+module _ (setting : Setting) (stack : List Frame) (at : ℕ) where
   abbrev at_end : Plan Found → Read Found
-  at_end plan = run setting.table setting.limits (given setting frames plan) at []
+  at_end plan = run setting.table setting.limits (given setting stack plan) at []
 
   pub text_fails : (terminator : ℕ) (text : List ℕ) (on : List ℕ → Plan Found) → at ≤ setting.limits.text
       → at_end (then_plan (loop setting.limits (text_turn setting.table terminator) text) on) ≡ fault END_OF_FILE at
-  text_fails terminator text on h = gathering_fails setting frames _ on (record { number = END_OF_FILE; at = at }) at [] (text_end setting.table setting.limits at terminator text h)
+  text_fails terminator text on h = gathering_fails setting stack _ on (record { number = END_OF_FILE; at = at }) at [] (text_end setting.table setting.limits at terminator text h)
 
   pub byte_fails : {A : Type 0} (next : ℕ → Plan A) (on : A → Plan Found) → at_end (then_plan (next_byte next) on) ≡ fault END_OF_FILE at
-  byte_fails next on = gathering_fails setting frames _ on (record { number = END_OF_FILE; at = at }) at [] (byte_end setting.table setting.limits at next)
+  byte_fails next on = gathering_fails setting stack _ on (record { number = END_OF_FILE; at = at }) at [] (byte_end setting.table setting.limits at next)
 
   pub block_fails : (levels : ℕ × ℕ) (on : Unit {0} → Plan Found) → at ≤ setting.limits.text
       → at_end (then_plan (loop setting.limits block_turn levels) on) ≡ fault END_OF_FILE at
-  block_fails levels on h = gathering_fails setting frames _ on (record { number = END_OF_FILE; at = at }) at [] (block_end setting.table setting.limits at levels h)
+  block_fails levels on h = gathering_fails setting stack _ on (record { number = END_OF_FILE; at = at }) at [] (block_end setting.table setting.limits at levels h)
 
   pub number_fails : (c : ℕ) (number : Option ℕ) → at ≤ setting.limits.text
-      → at_end (dispatched setting (length frames) (inner_at setting (length frames)) c number) ≡ fault END_OF_FILE at
+      → at_end (dispatched setting (length stack) (inner_at setting (length stack)) c number) ≡ fault END_OF_FILE at
   number_fails c number h =
-      gathering_ends setting frames (loop setting.limits number_turn number) (sub_there setting (length frames) (inner_at setting (length frames)) c) number at at [] []
+      gathering_ends setting stack (loop setting.limits number_turn number) (sub_there setting (length stack) (inner_at setting (length stack)) c) number at at [] []
       (number_end setting.table setting.limits at number h)
-      ∙ given_fault setting frames (sub_there setting (length frames) (inner_at setting (length frames)) c number) at [] (record { number = END_OF_FILE; at = at })
+      ∙ given_fault setting stack (sub_there setting (length stack) (inner_at setting (length stack)) c number) at [] (record { number = END_OF_FILE; at = at })
       (byte_end setting.table setting.limits at _)
 
   -- ---- a token
 
   pub token_last : (on : List Mark → Plan Found) (scan : Scan) (marks : List Mark) (result : Result Event AllocError) → TokenStops setting.table setting.limits scan at None → marks ≡ scan.marks
-      → IfOk result (λ event. Brings setting frames at [] event (at_end (on marks)))
-      → IfOk result (λ event. Brings setting frames at [] event (token_goes_on setting frames on (token_read setting.table setting.limits scan at [])))
+      → IfOk result (λ event. Brings setting stack at [] event (at_end (on marks)))
+      → IfOk result (λ event. Brings setting stack at [] event (token_goes_on setting stack on (token_read setting.table setting.limits scan at [])))
   token_last on scan marks result told same brings =
-      let whole : token_goes_on setting frames on (token_read setting.table setting.limits scan at []) ≡ at_end (on marks) =
-      ap (token_goes_on setting frames on) told.0 ∙ ap (λ (ms : List Mark). at_end (on ms)) (sym same) in
-      subst (λ (r : Read Found). IfOk result (λ event. Brings setting frames at [] event r)) (sym whole) brings
+      let whole : token_goes_on setting stack on (token_read setting.table setting.limits scan at []) ≡ at_end (on marks) =
+      ap (token_goes_on setting stack on) told.0 ∙ ap (λ (ms : List Mark). at_end (on ms)) (sym same) in
+      subst (λ (r : Read Found). IfOk result (λ event. Brings setting stack at [] event r)) (sym whole) brings
 
   pub token_stopped : (scan : Scan) (on : List Mark → Plan Found) (code : ℕ) → TokenStops setting.table setting.limits scan at (Some code)
-      → token_goes_on setting frames on (token_read setting.table setting.limits scan at []) ≡ fault code at
-  token_stopped scan on code told = ap (token_goes_on setting frames on) told
+      → token_goes_on setting stack on (token_read setting.table setting.limits scan at []) ≡ fault code at
+  token_stopped scan on code told = ap (token_goes_on setting stack on) told
 
 -- ---- where an object may begin
 
-pub none_waits : (setting : Setting) (frames : List Frame) (at : ℕ) → at ≤ setting.limits.text → length frames ≡ 0
-    → (run setting.table setting.limits (between setting frames) at [] ≡ Ok (the_end, at, [])) × (frames ≡ [])
+pub none_waits : (setting : Setting) (stack : List Frame) (at : ℕ) → at ≤ setting.limits.text → length stack ≡ 0
+    → (run setting.table setting.limits (between setting stack) at [] ≡ Ok (the_end, at, [])) × (stack ≡ [])
 none_waits setting [] at h e = ((attempt_ends setting _ _).rest at h, refl)
 none_waits setting (f ∷ fs) at h e = absurd (omega (arith, e))
 
-pub some_waits : (setting : Setting) (frames : List Frame) (at : ℕ) → at ≤ setting.limits.text → (length frames ≡ 0 → ⊥)
-    → run setting.table setting.limits (between setting frames) at [] ≡ fault END_OF_FILE at
+pub some_waits : (setting : Setting) (stack : List Frame) (at : ℕ) → at ≤ setting.limits.text → (length stack ≡ 0 → ⊥)
+    → run setting.table setting.limits (between setting stack) at [] ≡ fault END_OF_FILE at
 some_waits setting [] at h never = absurd (never refl)
 some_waits setting (f ∷ fs) at h never =
     let call = λ (p : Piece). call_in setting f fs p in
@@ -131,11 +131,11 @@ some_waits setting (f ∷ fs) at h never =
     given_fault setting fs (then_plan (next_item_in setting f fs) call) at [] (record { number = END_OF_FILE; at = at })
     (run_then setting.table setting.limits (next_item_in setting f fs) call at [] ∙ ap (and_then setting.table setting.limits call) none)
 
-no_space : (setting : Setting) (frames : List Frame) (at : ℕ) (token : Bool)
-    → run setting.table setting.limits (without_space setting.table token (between setting frames)) at [] ≡ run setting.table setting.limits (between setting frames) at []
+no_space : (setting : Setting) (stack : List Frame) (at : ℕ) (token : Bool)
+    → run setting.table setting.limits (without_space setting.table token (between setting stack)) at [] ≡ run setting.table setting.limits (between setting stack) at []
 unfolding run
-no_space setting frames at true = refl
-no_space setting frames at false = refl
+no_space setting stack at true = refl
+no_space setting stack at false = refl
 
 -- ---- the outermost attempt
 
@@ -144,26 +144,26 @@ nothing_last setting start at found token e =
     ap (λ (f : Found). outcome_of setting start (Ok (f, at, []))) e ∙ reads_is setting (start + at) []
     ∙ ap (λ (r : Read Found). outcome_of setting (start + at) r) (the_end_there setting)
 
-module _ (setting : Setting) (frames : List Frame) (at : ℕ) where
+module _ (setting : Setting) (stack : List Frame) (at : ℕ) where
   pub position_last : (position known : Position) (result : Result Event AllocError) → position ≡ known
-      → IfOk result (λ event. Brings setting frames at [] event (position_gives setting frames known at []))
-      → IfOk result (λ event. Brings setting frames at [] event (position_gives setting frames position at []))
-  position_last position known result e h = subst (λ (s : Position). IfOk result (λ event. Brings setting frames at [] event (position_gives setting frames s at []))) (sym e) h
+      → IfOk result (λ event. Brings setting stack at [] event (position_gives setting stack known at []))
+      → IfOk result (λ event. Brings setting stack at [] event (position_gives setting stack position at []))
+  position_last position known result e h = subst (λ (s : Position). IfOk result (λ event. Brings setting stack at [] event (position_gives setting stack s at []))) (sym e) h
 
   pub waits_last : (before : List Frame) (found : Found) (event : Event) (delivered : Delivered) (token : Bool) (settled : Settled) (read : Read Found) → event ≡ IsGiven found
       → Brings setting before at [] event read → delivered ≡ Waits token
-      → Delivers setting frames at [] delivered (run setting.table setting.limits (given setting before (gives found)) at [])
-      → Settles setting frames at [] settled (run setting.table setting.limits (between setting frames) at []) → Settles setting frames at [] settled read
+      → Delivers setting stack at [] delivered (run setting.table setting.limits (given setting before (gives found)) at [])
+      → Settles setting stack at [] settled (run setting.table setting.limits (between setting stack) at []) → Settles setting stack at [] settled read
   waits_last before found event delivered token settled read e brings d delivers settles =
       let given_is : read ≡ run setting.table setting.limits (given setting before (gives found)) at [] = subst (λ (v : Event). Brings setting before at [] v read) e brings in
-      let waiting : run setting.table setting.limits (given setting before (gives found)) at [] ≡ run setting.table setting.limits (without_space setting.table token (between setting frames)) at []
-      = subst (λ (v : Delivered). Delivers setting frames at [] v (run setting.table setting.limits (given setting before (gives found)) at [])) d delivers in
-      subst (λ (r : Read Found). Settles setting frames at [] settled r) (sym (given_is ∙ waiting ∙ no_space setting frames at token)) settles
+      let waiting : run setting.table setting.limits (given setting before (gives found)) at [] ≡ run setting.table setting.limits (without_space setting.table token (between setting stack)) at []
+      = subst (λ (v : Delivered). Delivers setting stack at [] v (run setting.table setting.limits (given setting before (gives found)) at [])) d delivers in
+      subst (λ (r : Read Found). Settles setting stack at [] settled r) (sym (given_is ∙ waiting ∙ no_space setting stack at token)) settles
 
-  pub done_ends : (start : ℕ) (settled : Settled) (found : Found) (read : Read Found) (outcome : ReadOutcome) → settled ≡ SettledDone found → Settles setting frames at [] settled read
+  pub done_ends : (start : ℕ) (settled : Settled) (found : Found) (read : Read Found) (outcome : ReadOutcome) → settled ≡ SettledDone found → Settles setting stack at [] settled read
       → IsOutcome outcome (outcome_of setting start (Ok (found, at, []))) → IsOutcome outcome (outcome_of setting start read)
   done_ends start settled found read outcome e settles is =
-      let told : Settles setting frames at [] (SettledDone found) read = subst (λ (s : Settled). Settles setting frames at [] s read) e settles in
+      let told : Settles setting stack at [] (SettledDone found) read = subst (λ (s : Settled). Settles setting stack at [] s read) e settles in
       subst (λ (r : Read Found). IsOutcome outcome (outcome_of setting start r)) (sym told.0) is
 
 -- ---- tokens
@@ -310,27 +310,27 @@ no_bytes (c ∷ cs) e = absurd (omega (arith, e))
 
 -- ---- an attempt
 
-module _ (setting : Setting) (frames : List Frame) (at c : ℕ) (found : Found) where
+module _ (setting : Setting) (stack : List Frame) (at c : ℕ) (found : Found) where
   goes_there : (on : List Mark → Plan Found) (scan : Scan)
-      → token_goes_on setting frames on (token_read setting.table setting.limits scan at (c ∷ [])) ≡ Ok (found, at, c ∷ [])
-      → token_goes_on setting frames on (token_read setting.table setting.limits scan at []) ≡ Ok (found, at, [])
+      → token_goes_on setting stack on (token_read setting.table setting.limits scan at (c ∷ [])) ≡ Ok (found, at, c ∷ [])
+      → token_goes_on setting stack on (token_read setting.table setting.limits scan at []) ≡ Ok (found, at, [])
   goes_there on scan e = by (token_read setting.table setting.limits scan at (c ∷ [])) refl e
     where
-      by : (r : Read (List Mark)) → token_read setting.table setting.limits scan at (c ∷ []) ≡ r → token_goes_on setting frames on r ≡ Ok (found, at, c ∷ [])
-          → token_goes_on setting frames on (token_read setting.table setting.limits scan at []) ≡ Ok (found, at, [])
+      by : (r : Read (List Mark)) → token_read setting.table setting.limits scan at (c ∷ []) ≡ r → token_goes_on setting stack on r ≡ Ok (found, at, c ∷ [])
+          → token_goes_on setting stack on (token_read setting.table setting.limits scan at []) ≡ Ok (found, at, [])
       by (Ok (marks, next, ds)) is e =
-          let plan = given setting frames (on marks) in
+          let plan = given setting stack (on marks) in
           let p : Parted next ds at (c ∷ []) = subst (λ (r : Read Found). Parts next ds r) e (parts setting.table setting.limits plan next ds) in
           let le : at ≤ next = cut_forwards setting.limits.text at (token_from scan at (typed_text setting.table (c ∷ []))) (forwards scan at (typed_text setting.table (c ∷ []))) marks next ds is in
           let here : next ≡ at = omega (arith, le, p.offset) in
           let rest : ds ≡ c ∷ [] = p.split ∙ ap (λ (t : List ℕ). t ++ c ∷ []) (no_bytes p.taken (omega (arith, le, p.offset))) in
           let ended = token_there setting.table setting.limits scan at c marks ds (is ∙ ap (λ n. Ok (marks, n, ds)) here) in
-          ap (token_goes_on setting frames on) ended
+          ap (token_goes_on setting stack on) ended
           ∙ plan_there setting.table setting.limits plan at c found ((λ i. run setting.table setting.limits plan (sym here i) (sym rest i)) ∙ e)
       by (Err f) is e = cc
 
-  pub ended_there : (position : Position) → position_gives setting frames position at (c ∷ []) ≡ Ok (found, at, c ∷ []) → position_gives setting frames position at [] ≡ Ok (found, at, [])
-  ended_there AtObject e = plan_there setting.table setting.limits (between setting frames) at c found e
+  pub ended_there : (position : Position) → position_gives setting stack position at (c ∷ []) ≡ Ok (found, at, c ∷ []) → position_gives setting stack position at [] ≡ Ok (found, at, [])
+  ended_there AtObject e = plan_there setting.table setting.limits (between setting stack) at c found e
   ended_there (AtToken scan) e = goes_there _ scan e
   ended_there (AtCallToken call scan) e = goes_there _ scan e
   ended_there (AtText call terminator text) e = plan_there setting.table setting.limits _ at c found e

@@ -17,7 +17,7 @@ use Rattle.lisp_reading.specs.Plans.{Plan, refuses, takes, scans, then_plan, Rea
 use Rattle.lisp_reading.specs.Setting.{Setting}
 use Rattle.lisp_reading.specs.Reading.{Piece, closed, piece_of, or_closed, next_item_turn, stands_alone, alone, token_found, attempt_by, attempt, is_whitespace, without_space, told_found}
 use Rattle.form_reader.specs.Token.{token_read, FirstFeeds}
-use Rattle.form_reader.specs.Stack.{close_of, close_of_frames, attempt_in, next_item_in, call_in, given, between, token_goes_on}
+use Rattle.form_reader.specs.Stack.{close_of, close_of_stack, attempt_in, next_item_in, call_in, given, between, token_goes_on}
 use Rattle.form_reader.specs.State.{attempt_at, inner_at, Brings, position_gives, Moves}
 use Rattle.lisp_reading.proofs.Turns.{loop_is, next_item_guarded}
 use Rattle.form_reader.proofs.Stacks.{then_moves, given_moves, given_fault, ends_in}
@@ -70,23 +70,23 @@ module _ (setting : Setting) (at c : ℕ) (cs : List ℕ) where
       (next_item_guarded setting.table setting.limits (close_of f.part) (attempt_in setting fs) (ends_in setting fs)) tt at (c ∷ cs) h))
 
   -- the closing character that is looked for ends the call
-  pub closes : (f : Frame) (fs frames : List Frame) (close : ℕ) → frames ≡ f ∷ fs → close_of f.part ≡ Some close → (c == close) ≡ true → at < setting.limits.text
-      → run setting.table setting.limits (between setting frames) at (c ∷ cs) ≡ run setting.table setting.limits (given setting fs (call_in setting f fs closed)) (at + 1) cs
+  pub closes : (f : Frame) (fs stack : List Frame) (close : ℕ) → stack ≡ f ∷ fs → close_of f.part ≡ Some close → (c == close) ≡ true → at < setting.limits.text
+      → run setting.table setting.limits (between setting stack) at (c ∷ cs) ≡ run setting.table setting.limits (given setting fs (call_in setting f fs closed)) (at + 1) cs
   unfolding then_plan
-  closes f fs frames close is e same lt =
+  closes f fs stack close is e same lt =
       let call = λ (p : Piece). call_in setting f fs p in
-      ap (λ (frames : List Frame). run setting.table setting.limits (between setting frames) at (c ∷ cs)) is
+      ap (λ (stack : List Frame). run setting.table setting.limits (between setting stack) at (c ∷ cs)) is
       ∙ between_is f fs (omega arith)
       ∙ given_moves setting fs (then_plan (or_closed (close_of f.part) (placed f fs)) call) (call closed) at (at + 1) (c ∷ cs) cs
       (ap (λ (o : Option ℕ). run setting.table setting.limits (then_plan (or_closed o (placed f fs)) call) at (c ∷ cs)) e
       ∙ takes_is setting.table setting.limits (then_plan (placed f fs) call) (λ d. d == close) (λ d. call closed) at c cs lt same)
 
-  pub closes_over : (f : Frame) (fs frames : List Frame) (close : ℕ) → frames ≡ f ∷ fs → close_of f.part ≡ Some close → (c == close) ≡ true → at ≤ setting.limits.text → setting.limits.text ≤ at
-      → run setting.table setting.limits (between setting frames) at (c ∷ cs) ≡ fault FORM_TOO_LONG at
+  pub closes_over : (f : Frame) (fs stack : List Frame) (close : ℕ) → stack ≡ f ∷ fs → close_of f.part ≡ Some close → (c == close) ≡ true → at ≤ setting.limits.text → setting.limits.text ≤ at
+      → run setting.table setting.limits (between setting stack) at (c ∷ cs) ≡ fault FORM_TOO_LONG at
   unfolding then_plan
-  closes_over f fs frames close is e same h le =
+  closes_over f fs stack close is e same h le =
       let call = λ (p : Piece). call_in setting f fs p in
-      ap (λ (frames : List Frame). run setting.table setting.limits (between setting frames) at (c ∷ cs)) is
+      ap (λ (stack : List Frame). run setting.table setting.limits (between setting stack) at (c ∷ cs)) is
       ∙ between_is f fs h
       ∙ given_fault setting fs (then_plan (or_closed (close_of f.part) (placed f fs)) call) at (c ∷ cs) (record { number = FORM_TOO_LONG; at = at })
       (ap (λ (o : Option ℕ). run setting.table setting.limits (then_plan (or_closed o (placed f fs)) call) at (c ∷ cs)) e
@@ -102,8 +102,8 @@ module _ (setting : Setting) (at c : ℕ) (cs : List ℕ) where
       let call = λ (p : Piece). call_in setting f fs p in
       passes_is setting.table setting.limits (then_plan (placed f fs) call) (λ d. d == close) (λ d. call closed) at c cs (other close refl)
 
-  pub attempts : (frames : List Frame) → at ≤ setting.limits.text → ((close : ℕ) → close_of_frames frames ≡ Some close → (c == close) ≡ false)
-      → run setting.table setting.limits (between setting frames) at (c ∷ cs) ≡ run setting.table setting.limits (given setting frames (attempt_at setting (length frames))) at (c ∷ cs)
+  pub attempts : (stack : List Frame) → at ≤ setting.limits.text → ((close : ℕ) → close_of_stack stack ≡ Some close → (c == close) ≡ false)
+      → run setting.table setting.limits (between setting stack) at (c ∷ cs) ≡ run setting.table setting.limits (given setting stack (attempt_at setting (length stack))) at (c ∷ cs)
   unfolding given
   attempts [] h other = let e : setting.limits.nesting ≡ setting.limits.nesting - 0 = omega arith in ap (λ (n : ℕ). run setting.table setting.limits (attempt setting n) at (c ∷ cs)) e
   attempts (f ∷ fs) h other =
@@ -113,77 +113,77 @@ module _ (setting : Setting) (at c : ℕ) (cs : List ℕ) where
       ∙ ap (λ (n : ℕ). run setting.table setting.limits (given setting (f ∷ fs) (attempt setting n)) at (c ∷ cs)) e
 
   -- the open calls that an attempt is in
-  round_is : (frames : List Frame) → length frames ≤ setting.limits.nesting
-      → run setting.table setting.limits (given setting frames (attempt_at setting (length frames))) at (c ∷ cs)
-      ≡ run setting.table setting.limits (given setting frames (attempt_by setting (length frames) (inner_at setting (length frames)))) at (c ∷ cs)
-  round_is frames le =
-      let e : setting.limits.nesting - (setting.limits.nesting - length frames) ≡ length frames = omega arith in
-      ap (λ (n : ℕ). run setting.table setting.limits (given setting frames (attempt_by setting n (inner_at setting (length frames)))) at (c ∷ cs)) e
+  round_is : (stack : List Frame) → length stack ≤ setting.limits.nesting
+      → run setting.table setting.limits (given setting stack (attempt_at setting (length stack))) at (c ∷ cs)
+      ≡ run setting.table setting.limits (given setting stack (attempt_by setting (length stack) (inner_at setting (length stack)))) at (c ∷ cs)
+  round_is stack le =
+      let e : setting.limits.nesting - (setting.limits.nesting - length stack) ≡ length stack = omega arith in
+      ap (λ (n : ℕ). run setting.table setting.limits (given setting stack (attempt_by setting n (inner_at setting (length stack)))) at (c ∷ cs)) e
 
   -- a character that begins no token
-  pub attempt_alone : (frames : List Frame) → length frames ≤ setting.limits.nesting → at < setting.limits.text → stands_alone (entry_at setting.table c).syntax ≡ true
-      → run setting.table setting.limits (given setting frames (attempt_at setting (length frames))) at (c ∷ cs)
-      ≡ run setting.table setting.limits (given setting frames (alone setting (length frames) (inner_at setting (length frames)) c (entry_at setting.table c).syntax)) (at + 1) cs
-  attempt_alone frames le lt e =
-      round_is frames le
-      ∙ given_moves setting frames _ _ at (at + 1) (c ∷ cs) cs
+  pub attempt_alone : (stack : List Frame) → length stack ≤ setting.limits.nesting → at < setting.limits.text → stands_alone (entry_at setting.table c).syntax ≡ true
+      → run setting.table setting.limits (given setting stack (attempt_at setting (length stack))) at (c ∷ cs)
+      ≡ run setting.table setting.limits (given setting stack (alone setting (length stack) (inner_at setting (length stack)) c (entry_at setting.table c).syntax)) (at + 1) cs
+  attempt_alone stack le lt e =
+      round_is stack le
+      ∙ given_moves setting stack _ _ at (at + 1) (c ∷ cs) cs
       (takes_is setting.table setting.limits (scans false setting.limits.token (token_found setting)) (λ d. stands_alone (entry_at setting.table d).syntax)
-      (λ d. alone setting (length frames) (inner_at setting (length frames)) d (entry_at setting.table d).syntax) at c cs lt e)
+      (λ d. alone setting (length stack) (inner_at setting (length stack)) d (entry_at setting.table d).syntax) at c cs lt e)
 
-  pub attempt_over : (frames : List Frame) → length frames ≤ setting.limits.nesting → setting.limits.text ≤ at → stands_alone (entry_at setting.table c).syntax ≡ true
-      → run setting.table setting.limits (given setting frames (attempt_at setting (length frames))) at (c ∷ cs) ≡ fault FORM_TOO_LONG at
-  attempt_over frames le over e =
-      round_is frames le
-      ∙ given_fault setting frames _ at (c ∷ cs) (record { number = FORM_TOO_LONG; at = at })
+  pub attempt_over : (stack : List Frame) → length stack ≤ setting.limits.nesting → setting.limits.text ≤ at → stands_alone (entry_at setting.table c).syntax ≡ true
+      → run setting.table setting.limits (given setting stack (attempt_at setting (length stack))) at (c ∷ cs) ≡ fault FORM_TOO_LONG at
+  attempt_over stack le over e =
+      round_is stack le
+      ∙ given_fault setting stack _ at (c ∷ cs) (record { number = FORM_TOO_LONG; at = at })
       (takes_over setting.table setting.limits (scans false setting.limits.token (token_found setting)) (λ d. stands_alone (entry_at setting.table d).syntax)
-      (λ d. alone setting (length frames) (inner_at setting (length frames)) d (entry_at setting.table d).syntax) at c cs over e)
+      (λ d. alone setting (length stack) (inner_at setting (length stack)) d (entry_at setting.table d).syntax) at c cs over e)
 
   -- all others begin one
-  pub attempt_token : (frames : List Frame) → length frames ≤ setting.limits.nesting → stands_alone (entry_at setting.table c).syntax ≡ false
-      → run setting.table setting.limits (given setting frames (attempt_at setting (length frames))) at (c ∷ cs)
-      ≡ token_goes_on setting frames (token_found setting) (token_read setting.table setting.limits (begun setting.limits.token) at (c ∷ cs))
-  attempt_token frames le e =
-      round_is frames le
-      ∙ given_moves setting frames _ _ at at (c ∷ cs) (c ∷ cs)
+  pub attempt_token : (stack : List Frame) → length stack ≤ setting.limits.nesting → stands_alone (entry_at setting.table c).syntax ≡ false
+      → run setting.table setting.limits (given setting stack (attempt_at setting (length stack))) at (c ∷ cs)
+      ≡ token_goes_on setting stack (token_found setting) (token_read setting.table setting.limits (begun setting.limits.token) at (c ∷ cs))
+  attempt_token stack le e =
+      round_is stack le
+      ∙ given_moves setting stack _ _ at at (c ∷ cs) (c ∷ cs)
       (passes_is setting.table setting.limits (scans false setting.limits.token (token_found setting)) (λ d. stands_alone (entry_at setting.table d).syntax)
-      (λ d. alone setting (length frames) (inner_at setting (length frames)) d (entry_at setting.table d).syntax) at c cs e)
-      ∙ token_begins setting frames setting.limits.token (token_found setting) at (c ∷ cs)
+      (λ d. alone setting (length stack) (inner_at setting (length stack)) d (entry_at setting.table d).syntax) at c cs e)
+      ∙ token_begins setting stack setting.limits.token (token_found setting) at (c ∷ cs)
 
   -- the same where its syntax type is known
-  pub alone_by : (frames : List Frame) (s : Syntax) → length frames ≤ setting.limits.nesting → at < setting.limits.text → stands_alone (entry_at setting.table c).syntax ≡ true
+  pub alone_by : (stack : List Frame) (s : Syntax) → length stack ≤ setting.limits.nesting → at < setting.limits.text → stands_alone (entry_at setting.table c).syntax ≡ true
       → (entry_at setting.table c).syntax ≡ s
-      → run setting.table setting.limits (given setting frames (attempt_at setting (length frames))) at (c ∷ cs)
-      ≡ run setting.table setting.limits (given setting frames (alone setting (length frames) (inner_at setting (length frames)) c s)) (at + 1) cs
-  alone_by frames s le lt e known =
-      attempt_alone frames le lt e
-      ∙ ap (λ (s : Syntax). run setting.table setting.limits (given setting frames (alone setting (length frames) (inner_at setting (length frames)) c s)) (at + 1) cs) known
+      → run setting.table setting.limits (given setting stack (attempt_at setting (length stack))) at (c ∷ cs)
+      ≡ run setting.table setting.limits (given setting stack (alone setting (length stack) (inner_at setting (length stack)) c s)) (at + 1) cs
+  alone_by stack s le lt e known =
+      attempt_alone stack le lt e
+      ∙ ap (λ (s : Syntax). run setting.table setting.limits (given setting stack (alone setting (length stack) (inner_at setting (length stack)) c s)) (at + 1) cs) known
 
-  pub alone_refused : (frames : List Frame) (s : Syntax) → length frames ≤ setting.limits.nesting → at < setting.limits.text → stands_alone (entry_at setting.table c).syntax ≡ true
-      → (entry_at setting.table c).syntax ≡ s → alone setting (length frames) (inner_at setting (length frames)) c s ≡ refuses INVALID_CHARACTER 1
-      → run setting.table setting.limits (given setting frames (attempt_at setting (length frames))) at (c ∷ cs) ≡ fault INVALID_CHARACTER at
-  alone_refused frames s le lt e known refused =
+  pub alone_refused : (stack : List Frame) (s : Syntax) → length stack ≤ setting.limits.nesting → at < setting.limits.text → stands_alone (entry_at setting.table c).syntax ≡ true
+      → (entry_at setting.table c).syntax ≡ s → alone setting (length stack) (inner_at setting (length stack)) c s ≡ refuses INVALID_CHARACTER 1
+      → run setting.table setting.limits (given setting stack (attempt_at setting (length stack))) at (c ∷ cs) ≡ fault INVALID_CHARACTER at
+  alone_refused stack s le lt e known refused =
       let back : at + 1 - 1 ≡ at = omega arith in
-      alone_by frames s le lt e known
-      ∙ ap (λ (p : Plan Found). run setting.table setting.limits (given setting frames p) (at + 1) cs) refused
-      ∙ given_refused setting frames (at + 1) cs INVALID_CHARACTER 1 ∙ ap (λ (n : ℕ). fault INVALID_CHARACTER n) back
+      alone_by stack s le lt e known
+      ∙ ap (λ (p : Plan Found). run setting.table setting.limits (given setting stack p) (at + 1) cs) refused
+      ∙ given_refused setting stack (at + 1) cs INVALID_CHARACTER 1 ∙ ap (λ (n : ℕ). fault INVALID_CHARACTER n) back
 
   -- a character of no other type begins something
-  pub alone_other : (frames : List Frame) (s : Syntax) → length frames ≤ setting.limits.nesting → at < setting.limits.text → stands_alone (entry_at setting.table c).syntax ≡ true
+  pub alone_other : (stack : List Frame) (s : Syntax) → length stack ≤ setting.limits.nesting → at < setting.limits.text → stands_alone (entry_at setting.table c).syntax ≡ true
       → (entry_at setting.table c).syntax ≡ s → (s ≡ Whitespace → ⊥) → (s ≡ TerminatingMacro → ⊥) → (s ≡ NonTerminatingMacro → ⊥)
-      → run setting.table setting.limits (given setting frames (attempt_at setting (length frames))) at (c ∷ cs) ≡ fault INVALID_CHARACTER at
-  alone_other frames Whitespace le lt e known blank ends goes = absurd (blank refl)
-  alone_other frames TerminatingMacro le lt e known blank ends goes = absurd (ends refl)
-  alone_other frames NonTerminatingMacro le lt e known blank ends goes = absurd (goes refl)
-  alone_other frames s le lt e known blank ends goes = alone_refused frames s le lt e known refl
+      → run setting.table setting.limits (given setting stack (attempt_at setting (length stack))) at (c ∷ cs) ≡ fault INVALID_CHARACTER at
+  alone_other stack Whitespace le lt e known blank ends goes = absurd (blank refl)
+  alone_other stack TerminatingMacro le lt e known blank ends goes = absurd (ends refl)
+  alone_other stack NonTerminatingMacro le lt e known blank ends goes = absurd (goes refl)
+  alone_other stack s le lt e known blank ends goes = alone_refused stack s le lt e known refl
 
-  pub alone_calls : (frames after : List Frame) (s : Syntax) (result : Result Event AllocError) → length frames ≤ setting.limits.nesting → at < setting.limits.text
+  pub alone_calls : (stack after : List Frame) (s : Syntax) (result : Result Event AllocError) → length stack ≤ setting.limits.nesting → at < setting.limits.text
       → stands_alone (entry_at setting.table c).syntax ≡ true → (entry_at setting.table c).syntax ≡ s
       → IfOk result (λ event. Brings setting after (at + 1) cs event
-      (run setting.table setting.limits (given setting frames (alone setting (length frames) (inner_at setting (length frames)) c s)) (at + 1) cs))
+      (run setting.table setting.limits (given setting stack (alone setting (length stack) (inner_at setting (length stack)) c s)) (at + 1) cs))
       → IfOk result (λ event. Brings setting after (at + 1) cs event
-      (run setting.table setting.limits (given setting frames (attempt_at setting (length frames))) at (c ∷ cs)))
-  alone_calls frames after s result le lt e known brings =
-      subst (λ (r : Read Found). IfOk result (λ event. Brings setting after (at + 1) cs event r)) (sym (alone_by frames s le lt e known)) brings
+      (run setting.table setting.limits (given setting stack (attempt_at setting (length stack))) at (c ∷ cs)))
+  alone_calls stack after s result le lt e known brings =
+      subst (λ (r : Read Found). IfOk result (λ event. Brings setting after (at + 1) cs event r)) (sym (alone_by stack s le lt e known)) brings
 
 -- what is no character is of type invalid
 pub invalid_beyond : (table : Table) (c : ℕ) → length table.entries ≡ 128 → 128 ≤ c → (entry_at table c).syntax ≡ Invalid
@@ -206,12 +206,12 @@ pub begins_token : (table : Table) (c : ℕ) → stands_alone (entry_at table c)
 begins_token table c e = no_end (nat_lt c 128) (entry_at table c).syntax e
 
 -- what the token gives is what its attempt comes to
-pub token_goes : (setting : Setting) (at c : ℕ) (cs : List ℕ) (frames : List Frame) (read : Read (List Mark))
-    → length frames ≤ setting.limits.nesting → stands_alone (entry_at setting.table c).syntax ≡ false
+pub token_goes : (setting : Setting) (at c : ℕ) (cs : List ℕ) (stack : List Frame) (read : Read (List Mark))
+    → length stack ≤ setting.limits.nesting → stands_alone (entry_at setting.table c).syntax ≡ false
     → token_read setting.table setting.limits (begun setting.limits.token) at (c ∷ cs) ≡ read
-    → run setting.table setting.limits (given setting frames (attempt_at setting (length frames))) at (c ∷ cs) ≡ token_goes_on setting frames (token_found setting) read
-token_goes setting at c cs frames read le e same =
-    attempt_token setting at c cs frames le e ∙ ap (token_goes_on setting frames (token_found setting)) same
+    → run setting.table setting.limits (given setting stack (attempt_at setting (length stack))) at (c ∷ cs) ≡ token_goes_on setting stack (token_found setting) read
+token_goes setting at c cs stack read le e same =
+    attempt_token setting at c cs stack le e ∙ ap (token_goes_on setting stack (token_found setting)) same
 
 -- the same where it is known what its first byte is
 pub first_told : (table : Table) (limits : Limits) (at : ℕ) (cs : List ℕ) (read : Read (List Mark)) (fed known : FirstByte) → fed ≡ known
@@ -227,9 +227,9 @@ refused_told setting letters marks e code same is tells =
     subst (λ (e : TellError). Tells (Err e) (told setting marks)) is
     (subst (λ (letters : Case). Tells (Err e) (told_of setting.packages setting.current (meaning_of setting.base (folded letters marks)))) same tells)
 
-module _ (setting : Setting) (frames : List Frame) (at : ℕ) (cs : List ℕ) where
+module _ (setting : Setting) (stack : List Frame) (at : ℕ) (cs : List ℕ) where
   abbrev comes : Plan Found → Read Found
-  comes plan = run setting.table setting.limits (given setting frames plan) at cs
+  comes plan = run setting.table setting.limits (given setting stack plan) at cs
 
   some_marks : (marks : List Mark) → 0 < length marks → token_found setting marks ≡ told_found (told setting marks)
   some_marks [] some = absurd (omega (arith, some))
@@ -241,26 +241,26 @@ module _ (setting : Setting) (frames : List Frame) (at : ℕ) (cs : List ℕ) wh
 
   pub token_fails : (marks : List Mark) (code : ℕ) → 0 < length marks → told setting marks ≡ Err code → comes (token_found setting marks) ≡ fault code at
   token_fails marks code some same =
-      token_told marks (Err code) some same ∙ given_refused setting frames at cs code 0
+      token_told marks (Err code) some same ∙ given_refused setting stack at cs code 0
       ∙ (let e : at - 0 ≡ at = omega arith in ap (λ (n : ℕ). fault code n) e)
 
 -- ---- one whitespace character after it
 
-module _ (setting : Setting) (frames : List Frame) (at c : ℕ) (cs : List ℕ) where
+module _ (setting : Setting) (stack : List Frame) (at c : ℕ) (cs : List ℕ) where
   abbrev after : Read Found
-  after = run setting.table setting.limits (without_space setting.table true (between setting frames)) at (c ∷ cs)
+  after = run setting.table setting.limits (without_space setting.table true (between setting stack)) at (c ∷ cs)
 
-  pub space_taken : at < setting.limits.text → is_whitespace setting.table c ≡ true → after ≡ run setting.table setting.limits (between setting frames) (at + 1) cs
-  space_taken lt e = takes_is setting.table setting.limits (between setting frames) (is_whitespace setting.table) (λ c. between setting frames) at c cs lt e
+  pub space_taken : at < setting.limits.text → is_whitespace setting.table c ≡ true → after ≡ run setting.table setting.limits (between setting stack) (at + 1) cs
+  space_taken lt e = takes_is setting.table setting.limits (between setting stack) (is_whitespace setting.table) (λ c. between setting stack) at c cs lt e
 
   pub space_over : setting.limits.text ≤ at → is_whitespace setting.table c ≡ true → after ≡ fault FORM_TOO_LONG at
-  space_over le e = takes_over setting.table setting.limits (between setting frames) (is_whitespace setting.table) (λ c. between setting frames) at c cs le e
+  space_over le e = takes_over setting.table setting.limits (between setting stack) (is_whitespace setting.table) (λ c. between setting stack) at c cs le e
 
-  pub no_space_there : is_whitespace setting.table c ≡ false → after ≡ run setting.table setting.limits (between setting frames) at (c ∷ cs)
-  no_space_there e = passes_is setting.table setting.limits (between setting frames) (is_whitespace setting.table) (λ c. between setting frames) at c cs e
+  pub no_space_there : is_whitespace setting.table c ≡ false → after ≡ run setting.table setting.limits (between setting stack) at (c ∷ cs)
+  no_space_there e = passes_is setting.table setting.limits (between setting stack) (is_whitespace setting.table) (λ c. between setting stack) at c cs e
 
   pub space_passed : (after_it : List Frame) (result : Result Event AllocError) → is_whitespace setting.table c ≡ false
-      → IfOk result (λ event. Brings setting after_it (at + 1) cs event (run setting.table setting.limits (between setting frames) at (c ∷ cs)))
+      → IfOk result (λ event. Brings setting after_it (at + 1) cs event (run setting.table setting.limits (between setting stack) at (c ∷ cs)))
       → IfOk result (λ event. Brings setting after_it (at + 1) cs event after)
   space_passed after_it result e brings = subst (λ (r : Read Found). IfOk result (λ event. Brings setting after_it (at + 1) cs event r)) (sym (no_space_there e)) brings
 
@@ -268,47 +268,47 @@ module _ (setting : Setting) (frames : List Frame) (at c : ℕ) (cs : List ℕ) 
 
 module _ (setting : Setting) (at c : ℕ) (cs : List ℕ) where
   abbrev waiting : List Frame → Read Found
-  waiting frames = run setting.table setting.limits (between setting frames) at (c ∷ cs)
+  waiting stack = run setting.table setting.limits (between setting stack) at (c ∷ cs)
 
-  pub object_over : (f : Frame) (fs frames : List Frame) → frames ≡ f ∷ fs → close_of f.part ≡ Some c → at ≤ setting.limits.text → setting.limits.text ≤ at
-      → waiting frames ≡ fault FORM_TOO_LONG at
-  object_over f fs frames is e h le = closes_over setting at c cs f fs frames c is e (eq-eqb c c refl) h le
+  pub object_over : (f : Frame) (fs stack : List Frame) → stack ≡ f ∷ fs → close_of f.part ≡ Some c → at ≤ setting.limits.text → setting.limits.text ≤ at
+      → waiting stack ≡ fault FORM_TOO_LONG at
+  object_over f fs stack is e h le = closes_over setting at c cs f fs stack c is e (eq-eqb c c refl) h le
 
-  pub object_closes : (f : Frame) (fs frames : List Frame) (result : Result Event AllocError) → frames ≡ f ∷ fs → close_of f.part ≡ Some c → at < setting.limits.text
+  pub object_closes : (f : Frame) (fs stack : List Frame) (result : Result Event AllocError) → stack ≡ f ∷ fs → close_of f.part ≡ Some c → at < setting.limits.text
       → IfOk result (λ event. Brings setting fs (at + 1) cs event (run setting.table setting.limits (given setting fs (call_in setting f fs closed)) (at + 1) cs))
-      → IfOk result (λ event. Brings setting fs (at + 1) cs event (waiting frames))
-  object_closes f fs frames result is e lt brings =
-      subst (λ (r : Read Found). IfOk result (λ event. Brings setting fs (at + 1) cs event r)) (sym (closes setting at c cs f fs frames c is e (eq-eqb c c refl) lt)) brings
+      → IfOk result (λ event. Brings setting fs (at + 1) cs event (waiting stack))
+  object_closes f fs stack result is e lt brings =
+      subst (λ (r : Read Found). IfOk result (λ event. Brings setting fs (at + 1) cs event r)) (sym (closes setting at c cs f fs stack c is e (eq-eqb c c refl) lt)) brings
 
-  pub object_attempts : (now frames after : List Frame) (result : Result Event AllocError) → now ≡ frames → at ≤ setting.limits.text
-      → ((close : ℕ) → close_of_frames frames ≡ Some close → (c == close) ≡ false)
+  pub object_attempts : (now stack after : List Frame) (result : Result Event AllocError) → now ≡ stack → at ≤ setting.limits.text
+      → ((close : ℕ) → close_of_stack stack ≡ Some close → (c == close) ≡ false)
       → IfOk result (λ event. Brings setting after (at + 1) cs event (run setting.table setting.limits (given setting now (attempt_at setting (length now))) at (c ∷ cs)))
-      → IfOk result (λ event. Brings setting after (at + 1) cs event (waiting frames))
-  object_attempts now frames after result same h other brings =
-      let whole : run setting.table setting.limits (given setting now (attempt_at setting (length now))) at (c ∷ cs) ≡ waiting frames =
+      → IfOk result (λ event. Brings setting after (at + 1) cs event (waiting stack))
+  object_attempts now stack after result same h other brings =
+      let whole : run setting.table setting.limits (given setting now (attempt_at setting (length now))) at (c ∷ cs) ≡ waiting stack =
       ap (λ (fs : List Frame). run setting.table setting.limits (given setting fs (attempt_at setting (length fs))) at (c ∷ cs)) same
-      ∙ sym (attempts setting at c cs frames h other) in
+      ∙ sym (attempts setting at c cs stack h other) in
       subst (λ (r : Read Found). IfOk result (λ event. Brings setting after (at + 1) cs event r)) whole brings
 
 -- a token begins
-pub object_begins : (setting : Setting) (at c : ℕ) (cs : List ℕ) (frames : List Frame) (scan : Scan) → at ≤ setting.limits.text → length frames ≤ setting.limits.nesting
-    → ((close : ℕ) → close_of_frames frames ≡ Some close → (c == close) ≡ false) → stands_alone (entry_at setting.table c).syntax ≡ false
+pub object_begins : (setting : Setting) (at c : ℕ) (cs : List ℕ) (stack : List Frame) (scan : Scan) → at ≤ setting.limits.text → length stack ≤ setting.limits.nesting
+    → ((close : ℕ) → close_of_stack stack ≡ Some close → (c == close) ≡ false) → stands_alone (entry_at setting.table c).syntax ≡ false
     → token_read setting.table setting.limits (begun setting.limits.token) at (c ∷ cs) ≡ token_read setting.table setting.limits scan (at + 1) cs
-    → BeginsToken setting frames at c cs scan
-object_begins setting at c cs frames scan h le other alone same =
-    attempts setting at c cs frames h other ∙ token_goes setting at c cs frames (token_read setting.table setting.limits scan (at + 1) cs) le alone same
+    → BeginsToken setting stack at c cs scan
+object_begins setting at c cs stack scan h le other alone same =
+    attempts setting at c cs stack h other ∙ token_goes setting at c cs stack (token_read setting.table setting.limits scan (at + 1) cs) le alone same
 
 -- the same where it is known where the reader is, and that a token begins
-pub begun_there : (setting : Setting) (frames : List Frame) (at c : ℕ) (cs : List ℕ) (position : Position) (scan : Scan) (found : Option Scan) → position ≡ AtObject
-    → found ≡ Some scan → IfSome found (λ s. BeginsToken setting frames at c cs s)
-    → position_gives setting frames position at (c ∷ cs) ≡ position_gives setting frames (AtToken scan) (at + 1) cs
-begun_there setting frames at c cs position scan found is some begins =
-    ap (λ (s : Position). position_gives setting frames s at (c ∷ cs)) is
-    ∙ subst (λ (o : Option Scan). IfSome o (λ s. BeginsToken setting frames at c cs s)) some begins
+pub begun_there : (setting : Setting) (stack : List Frame) (at c : ℕ) (cs : List ℕ) (position : Position) (scan : Scan) (found : Option Scan) → position ≡ AtObject
+    → found ≡ Some scan → IfSome found (λ s. BeginsToken setting stack at c cs s)
+    → position_gives setting stack position at (c ∷ cs) ≡ position_gives setting stack (AtToken scan) (at + 1) cs
+begun_there setting stack at c cs position scan found is some begins =
+    ap (λ (s : Position). position_gives setting stack s at (c ∷ cs)) is
+    ∙ subst (λ (o : Option Scan). IfSome o (λ s. BeginsToken setting stack at c cs s)) some begins
 
 -- whitespace is discarded in an open call
-pub blank_stays : (setting : Setting) (at c : ℕ) (cs : List ℕ) (frames : List Frame) → at < setting.limits.text → length frames ≤ setting.limits.nesting → 0 < length frames
-    → ((close : ℕ) → close_of_frames frames ≡ Some close → (c == close) ≡ false) → (entry_at setting.table c).syntax ≡ Whitespace → Stays setting frames at c cs
+pub blank_stays : (setting : Setting) (at c : ℕ) (cs : List ℕ) (stack : List Frame) → at < setting.limits.text → length stack ≤ setting.limits.nesting → 0 < length stack
+    → ((close : ℕ) → close_of_stack stack ≡ Some close → (c == close) ≡ false) → (entry_at setting.table c).syntax ≡ Whitespace → Stays setting stack at c cs
 blank_stays setting at c cs [] lt le some other e = absurd (omega (arith, some))
 blank_stays setting at c cs (f ∷ fs) lt le some other e =
     attempts setting at c cs (f ∷ fs) (omega (arith, lt)) other
@@ -316,8 +316,8 @@ blank_stays setting at c cs (f ∷ fs) lt le some other e =
     ∙ nothing_stays setting fs f.call (at + 1) cs false f.part
 
 -- the same where it is known where the reader is
-pub position_moves : (setting : Setting) (frames : List Frame) (at c : ℕ) (cs : List ℕ) (position known : Position) (result : Result Moved AllocError) → position ≡ known
-    → IfOk result (λ moved. Moves setting frames at c cs moved (position_gives setting frames known at (c ∷ cs)))
-    → IfOk result (λ moved. Moves setting frames at c cs moved (position_gives setting frames position at (c ∷ cs)))
-position_moves setting frames at c cs position known result is moves =
-    subst (λ (s : Position). IfOk result (λ moved. Moves setting frames at c cs moved (position_gives setting frames s at (c ∷ cs)))) (sym is) moves
+pub position_moves : (setting : Setting) (stack : List Frame) (at c : ℕ) (cs : List ℕ) (position known : Position) (result : Result Moved AllocError) → position ≡ known
+    → IfOk result (λ moved. Moves setting stack at c cs moved (position_gives setting stack known at (c ∷ cs)))
+    → IfOk result (λ moved. Moves setting stack at c cs moved (position_gives setting stack position at (c ∷ cs)))
+position_moves setting stack at c cs position known result is moves =
+    subst (λ (s : Position). IfOk result (λ moved. Moves setting stack at c cs moved (position_gives setting stack s at (c ∷ cs)))) (sym is) moves

@@ -38,66 +38,66 @@ use Rattle.form_reader.specs.Stack.{plan_gives}
 use Rattle.form_reader.proofs.EndOfText.{none_waits}
 
 -- a reader that was fed nothing is after no bytes
-pub new_rest : (setting : Setting) (frames : List Frame) → frames ≡ [] → (cs : List ℕ) → reads setting cs ≡ rest_of setting frames AtObject 0 0 cs
+pub new_rest : (setting : Setting) (stack : List Frame) → stack ≡ [] → (cs : List ℕ) → reads setting cs ≡ rest_of setting stack AtObject 0 0 cs
 unfolding reads
-new_rest setting frames none cs = reads_is setting 0 cs ∙ ap (λ (fs : List Frame). rest_of setting fs AtObject 0 0 cs) (sym none)
+new_rest setting stack none cs = reads_is setting 0 cs ∙ ap (λ (fs : List Frame). rest_of setting fs AtObject 0 0 cs) (sym none)
 
 pub new_after : (setting : Setting) (reader : FormReader) → IsNew reader → IsAfter setting reader []
 new_after setting reader n =
     subst (λ (s : ReaderState). IsAfterIn setting reader s []) (sym n.state)
-    (omega (arith, n.start, n.at), λ cs. new_rest setting reader.frames n.frames cs ∙ (λ i. rest_of setting reader.frames AtObject (sym n.start i) (sym n.at i) cs))
+    (omega (arith, n.start, n.at), λ cs. new_rest setting reader.stack n.stack cs ∙ (λ i. rest_of setting reader.stack AtObject (sym n.start i) (sym n.at i) cs))
 
 module _ (setting : Setting) (old mid new : FormReader) (position : Position) (bytes : List ℕ) (byte : ℕ) (after : List Frame) where
   abbrev fed_now : List ℕ
   fed_now = bytes ++ byte ∷ []
 
-  one_more : IsAfterIn setting old (Open position) bytes → (cs : List ℕ) → reads setting (fed_now ++ cs) ≡ rest_of setting old.frames position old.start old.at (byte ∷ cs)
+  one_more : IsAfterIn setting old (Open position) bytes → (cs : List ℕ) → reads setting (fed_now ++ cs) ≡ rest_of setting old.stack position old.start old.at (byte ∷ cs)
   one_more a cs = ap (reads setting) (append_assoc bytes (byte ∷ []) cs) ∙ a.1 (byte ∷ cs)
 
   -- it is taken, and what is read of the text after it is this
   went_to : (next : Position) (start at : ℕ) → start + at ≡ old.start + old.at + 1 → IsAfterIn setting old (Open position) bytes
-      → ((cs : List ℕ) → rest_of setting old.frames position old.start old.at (byte ∷ cs) ≡ rest_of setting old.frames next start at cs)
-      → IsStanding setting.limits old.frames next at
-      → ((start + at ≡ length fed_now) × ((cs : List ℕ) → reads setting (fed_now ++ cs) ≡ rest_of setting old.frames next start at cs))
+      → ((cs : List ℕ) → rest_of setting old.stack position old.start old.at (byte ∷ cs) ≡ rest_of setting old.stack next start at cs)
+      → IsStanding setting.limits old.stack next at
+      → ((start + at ≡ length fed_now) × ((cs : List ℕ) → reads setting (fed_now ++ cs) ≡ rest_of setting old.stack next start at cs))
       × (start + at ≡ length fed_now) × MayGoOn fed_now (reads setting fed_now) × DecideNothing setting fed_now
   went_to next start at more a same ready =
       let many : length fed_now ≡ length bytes + 1 = length-append bytes (byte ∷ []) in
       let count : start + at ≡ length fed_now = omega (arith, many, more, a.0) in
-      let rest : (cs : List ℕ) → reads setting (fed_now ++ cs) ≡ rest_of setting old.frames next start at cs = λ cs. one_more a cs ∙ same cs in (
+      let rest : (cs : List ℕ) → reads setting (fed_now ++ cs) ≡ rest_of setting old.stack next start at cs = λ cs. one_more a cs ∙ same cs in (
         (count, rest),
         count,
-        may_go_on setting old.frames next start at fed_now ready.levels ready.within count rest,
-        decide_nothing setting old.frames next start at fed_now ready.levels ready.within count rest,
+        may_go_on setting old.stack next start at fed_now ready.levels ready.within count rest,
+        decide_nothing setting old.stack next start at fed_now ready.levels ready.within count rest,
       )
 
   -- it is taken where the reader is
   pub went_on : (next : Position) → IsAfterIn setting old (Open position) bytes
-      → ((cs : List ℕ) → rest_of setting old.frames position old.start old.at (byte ∷ cs) ≡ rest_of setting old.frames next old.start (old.at + 1) cs)
-      → IsStanding setting.limits old.frames next (old.at + 1)
-      → ((old.start + (old.at + 1) ≡ length fed_now) × ((cs : List ℕ) → reads setting (fed_now ++ cs) ≡ rest_of setting old.frames next old.start (old.at + 1) cs))
+      → ((cs : List ℕ) → rest_of setting old.stack position old.start old.at (byte ∷ cs) ≡ rest_of setting old.stack next old.start (old.at + 1) cs)
+      → IsStanding setting.limits old.stack next (old.at + 1)
+      → ((old.start + (old.at + 1) ≡ length fed_now) × ((cs : List ℕ) → reads setting (fed_now ++ cs) ≡ rest_of setting old.stack next old.start (old.at + 1) cs))
       × (old.start + (old.at + 1) ≡ length fed_now) × MayGoOn fed_now (reads setting fed_now) × DecideNothing setting fed_now
   went_on next a same ready = went_to next old.start (old.at + 1) (omega arith) a same ready
 
   -- it is passed over, where nothing is open
   pub went_past : (next : Position) → IsAfterIn setting old (Open position) bytes
-      → ((cs : List ℕ) → rest_of setting old.frames position old.start old.at (byte ∷ cs) ≡ rest_of setting old.frames next (old.start + (old.at + 1)) 0 cs)
-      → IsStanding setting.limits old.frames next 0
-      → ((old.start + (old.at + 1) + 0 ≡ length fed_now) × ((cs : List ℕ) → reads setting (fed_now ++ cs) ≡ rest_of setting old.frames next (old.start + (old.at + 1)) 0 cs))
+      → ((cs : List ℕ) → rest_of setting old.stack position old.start old.at (byte ∷ cs) ≡ rest_of setting old.stack next (old.start + (old.at + 1)) 0 cs)
+      → IsStanding setting.limits old.stack next 0
+      → ((old.start + (old.at + 1) + 0 ≡ length fed_now) × ((cs : List ℕ) → reads setting (fed_now ++ cs) ≡ rest_of setting old.stack next (old.start + (old.at + 1)) 0 cs))
       × (old.start + (old.at + 1) + 0 ≡ length fed_now) × MayGoOn fed_now (reads setting fed_now) × DecideNothing setting fed_now
   went_past next a same ready = went_to next (old.start + (old.at + 1)) 0 (omega arith) a same ready
 
   -- it is refused where the reader is
   pub gave_up : (code offset : ℕ) → IsAfterIn setting old (Open position) bytes
-      → ((cs : List ℕ) → rest_of setting old.frames position old.start old.at (byte ∷ cs) ≡ refused code offset)
+      → ((cs : List ℕ) → rest_of setting old.stack position old.start old.at (byte ∷ cs) ≡ refused code offset)
       → (cs : List ℕ) → reads setting (fed_now ++ cs) ≡ refused code offset
   gave_up code offset a same cs = one_more a cs ∙ same cs
 
   pub stepped : (change : Change) (step : Advance) → IsAfterIn setting old (Open position) bytes
-      → ((cs : List ℕ) → ChangesTo setting after cs change (rest_of setting old.frames position old.start old.at (byte ∷ cs)))
-      → IsReadyChange setting.limits after (old.start + old.at + 1) change → Becomes change mid new step → mid.frames ≡ after → Steps setting new fed_now step
+      → ((cs : List ℕ) → ChangesTo setting after cs change (rest_of setting old.stack position old.start old.at (byte ∷ cs)))
+      → IsReadyChange setting.limits after (old.start + old.at + 1) change → Becomes change mid new step → mid.stack ≡ after → Steps setting new fed_now step
   stepped (Goes start at st) step a turns ready takes same =
       let many : length fed_now ≡ length bytes + 1 = length-append bytes (byte ∷ []) in
-      let rest : (cs : List ℕ) → reads setting (fed_now ++ cs) ≡ rest_of setting new.frames st new.start new.at cs =
+      let rest : (cs : List ℕ) → reads setting (fed_now ++ cs) ≡ rest_of setting new.stack st new.start new.at cs =
       λ cs. one_more a cs ∙ turns cs ∙ (λ i. rest_of setting ((sym same ∙ sym takes.3) i) st (sym takes.1 i) (sym takes.2 i) cs) in
       subst (λ (s : Advance). Steps setting new fed_now s) (sym takes.0) (
         subst (λ (s : ReaderState). IsAfterIn setting new s fed_now) (sym takes.4) (omega (arith, many, takes.1, takes.2, ready.1, a.0), rest),
@@ -107,7 +107,7 @@ module _ (setting : Setting) (old mid new : FormReader) (position : Position) (b
       )
   stepped (ChangeForm x start «end» next) (AdvanceForm datum s e n) a turns ready takes same =
       let many : length fed_now ≡ length bytes + 1 = length-append bytes (byte ∷ []) in
-      let new_form : IsNew new = record { start = takes.5; at = takes.6; frames = takes.7 ∙ same ∙ (turns []).1; state = takes.8 } in (
+      let new_form : IsNew new = record { start = takes.5; at = takes.6; stack = takes.7 ∙ same ∙ (turns []).1; state = takes.8 } in (
         λ cs. one_more a cs ∙ (turns cs).0 ∙ (λ i. form (sym takes.0 i) (sym takes.2 i) (sym takes.3 i) (sym takes.4 i)),
         takes.1,
         omega (arith, many, ready.0, takes.4, a.0),
@@ -121,28 +121,28 @@ module _ (setting : Setting) (old mid new : FormReader) (position : Position) (b
       subst (λ (s : Advance). Steps setting new fed_now s) (sym takes.0) (λ cs. one_more a cs ∙ turns cs, takes.1)
 
 -- a byte that is taken in its place, one that is left, and one that is refused there
-module _ (setting : Setting) (frames : List Frame) (start at c : ℕ) (old new : Position) (fed : InPlace) where
-  pub taken_there : (cs : List ℕ) → fed ≡ InPlaceGoesOn → FeedsInPlace setting frames at c cs old new fed
-      → rest_of setting frames old start at (c ∷ cs) ≡ rest_of setting frames new start (at + 1) cs
-  taken_there cs is feeds = ap (outcome_of setting start) (subst (λ (f : InPlace). FeedsInPlace setting frames at c cs old new f) is feeds)
+module _ (setting : Setting) (stack : List Frame) (start at c : ℕ) (old new : Position) (fed : InPlace) where
+  pub taken_there : (cs : List ℕ) → fed ≡ InPlaceGoesOn → FeedsInPlace setting stack at c cs old new fed
+      → rest_of setting stack old start at (c ∷ cs) ≡ rest_of setting stack new start (at + 1) cs
+  taken_there cs is feeds = ap (outcome_of setting start) (subst (λ (f : InPlace). FeedsInPlace setting stack at c cs old new f) is feeds)
 
-  pub passed_there : (cs : List ℕ) → fed ≡ InPlacePassed → FeedsInPlace setting frames at c cs old new fed
-      → rest_of setting frames old start at (c ∷ cs) ≡ rest_of setting frames new (start + (at + 1)) 0 cs
-  passed_there cs is feeds = (subst (λ (f : InPlace). FeedsInPlace setting frames at c cs old new f) is feeds) start
+  pub passed_there : (cs : List ℕ) → fed ≡ InPlacePassed → FeedsInPlace setting stack at c cs old new fed
+      → rest_of setting stack old start at (c ∷ cs) ≡ rest_of setting stack new (start + (at + 1)) 0 cs
+  passed_there cs is feeds = (subst (λ (f : InPlace). FeedsInPlace setting stack at c cs old new f) is feeds) start
 
-  pub left_there : (cs : List ℕ) → fed ≡ InPlaceLeft → FeedsInPlace setting frames at c cs old new fed → new ≡ old
-  left_there cs is feeds = subst (λ (f : InPlace). FeedsInPlace setting frames at c cs old new f) is feeds
+  pub left_there : (cs : List ℕ) → fed ≡ InPlaceLeft → FeedsInPlace setting stack at c cs old new fed → new ≡ old
+  left_there cs is feeds = subst (λ (f : InPlace). FeedsInPlace setting stack at c cs old new f) is feeds
 
-  pub refused_there : (code : ℕ) (cs : List ℕ) → fed ≡ InPlaceRefused code → FeedsInPlace setting frames at c cs old new fed
-      → rest_of setting frames old start at (c ∷ cs) ≡ refused code (start + at)
-  refused_there code cs is feeds = ap (outcome_of setting start) (subst (λ (f : InPlace). FeedsInPlace setting frames at c cs old new f) is feeds)
+  pub refused_there : (code : ℕ) (cs : List ℕ) → fed ≡ InPlaceRefused code → FeedsInPlace setting stack at c cs old new fed
+      → rest_of setting stack old start at (c ∷ cs) ≡ refused code (start + at)
+  refused_there code cs is feeds = ap (outcome_of setting start) (subst (λ (f : InPlace). FeedsInPlace setting stack at c cs old new f) is feeds)
 
-  pub ready_there : (limits : Limits) → fed ≡ InPlaceGoesOn → IsReadyInPlace limits at new fed → IsStanding limits frames old at → IsStanding limits frames new (at + 1)
+  pub ready_there : (limits : Limits) → fed ≡ InPlaceGoesOn → IsReadyInPlace limits at new fed → IsStanding limits stack old at → IsStanding limits stack new (at + 1)
   ready_there limits is ready standing =
       let r = subst (λ (f : InPlace). IsReadyInPlace limits at new f) is ready in
       record { within = omega (arith, r.0); nesting = standing.nesting; levels = r.1 }
 
-  pub ready_past : (limits : Limits) → fed ≡ InPlacePassed → IsReadyInPlace limits at new fed → IsStanding limits frames old at → IsStanding limits frames new 0
+  pub ready_past : (limits : Limits) → fed ≡ InPlacePassed → IsReadyInPlace limits at new fed → IsStanding limits stack old at → IsStanding limits stack new 0
   ready_past limits is ready standing =
       record { within = omega arith; nesting = standing.nesting; levels = subst (λ (f : InPlace). IsReadyInPlace limits at new f) is ready }
 
@@ -180,7 +180,7 @@ begun_first setting reader bytes more x start «end» next after e = by reader.s
   where
     by : (state : ReaderState) → IsAfterIn setting reader state bytes → begun reader ≤ start
     by (Open position) a =
-        begins_from setting reader.start (position_gives setting reader.frames position reader.at more) x start «end» next (sym (a.1 more) ∙ e)
+        begins_from setting reader.start (position_gives setting reader.stack position reader.at more) x start «end» next (sym (a.1 more) ∙ e)
     by (Refused code offset) a = let same : refused code offset ≡ form x start «end» next = sym (a more) ∙ e in cc
     by OutOfMemory a = absurd a
 
@@ -226,43 +226,43 @@ module _ (under : Limits → Setting) (held handed : Limits) (old reader : FormR
 -- ---- a change
 
 -- what the attempt came to before the byte is what it gives
-pub done_outcome : (setting : Setting) (frames after : List Frame) (start at c : ℕ) (cs : List ℕ) (passed : Passed) (found : Found) (read : Read Found) (result : Result Change AllocError)
-    → passed ≡ PassedDone found → Passes setting frames at c cs passed read
+pub done_outcome : (setting : Setting) (stack after : List Frame) (start at c : ℕ) (cs : List ℕ) (passed : Passed) (found : Found) (read : Read Found) (result : Result Change AllocError)
+    → passed ≡ PassedDone found → Passes setting stack at c cs passed read
     → IfOk result (λ change. ChangesTo setting after cs change (outcome_of setting start (Ok (found, at, c ∷ cs))))
     → IfOk result (λ change. ChangesTo setting after cs change (outcome_of setting start read))
-done_outcome setting frames after start at c cs passed found read result e passes turns =
-    let told : Passes setting frames at c cs (PassedDone found) read = subst (λ (p : Passed). Passes setting frames at c cs p read) e passes in
+done_outcome setting stack after start at c cs passed found read result e passes turns =
+    let told : Passes setting stack at c cs (PassedDone found) read = subst (λ (p : Passed). Passes setting stack at c cs p read) e passes in
     subst (λ (r : Read Found). IfOk result (λ change. ChangesTo setting after cs change (outcome_of setting start r))) (sym told.0) turns
 
 -- after a form nothing is open
 pub leaves_between : (setting : Setting) (mid new : FormReader) (after : List Frame) (change : Change) (step : Advance) (o : Outcome) → ChangesTo setting after [] change o → Becomes change mid new step
-    → mid.frames ≡ after → LeavesBetween new step
+    → mid.stack ≡ after → LeavesBetween new step
 leaves_between setting mid new after (Goes start at position) step o turns takes same = subst (λ (s : Advance). LeavesBetween new s) (sym takes.0) tt
 leaves_between setting mid new after (ChangeForm x start «end» next) (AdvanceForm datum s e n) o turns takes same =
-    record { at = takes.6; frames = takes.7 ∙ same ∙ turns.1; state = takes.8 }
+    record { at = takes.6; stack = takes.7 ∙ same ∙ turns.1; state = takes.8 }
 leaves_between setting mid new after (ChangeForm x start «end» next) AdvanceMore o turns takes same = absurd takes
 leaves_between setting mid new after (ChangeForm x start «end» next) (AdvanceRefused code offset) o turns takes same = absurd takes
 leaves_between setting mid new after (ChangeRefused code offset) step o turns takes same = subst (λ (s : Advance). LeavesBetween new s) (sym takes.0) tt
 
 -- what an event brings is what this reads
-pub brought : (setting : Setting) (frames : List Frame) (at : ℕ) (event : Event) → (read : Read Found) × Brings setting frames at [] event read
-brought setting frames at (IsAt position) = (position_gives setting frames position at [], refl)
-brought setting frames at (IsGiven found) = (plan_gives setting frames (gives found) at [], refl)
-brought setting frames at (IsRefused code offset) = (fault code offset, refl)
+pub brought : (setting : Setting) (stack : List Frame) (at : ℕ) (event : Event) → (read : Read Found) × Brings setting stack at [] event read
+brought setting stack at (IsAt position) = (position_gives setting stack position at [], refl)
+brought setting stack at (IsGiven found) = (plan_gives setting stack (gives found) at [], refl)
+brought setting stack at (IsRefused code offset) = (fault code offset, refl)
 
 -- where the outermost attempt comes to something, no call is open
-pub done_anew : (setting : Setting) (frames : List Frame) (at : ℕ) (settled : Settled) (found : Found) (read : Read Found) (change : Change) → settled ≡ SettledDone found
-    → Settles setting frames at [] settled read → BeginsAnew [] change → BeginsAnew frames change
-done_anew setting frames at settled found read change e settles anew =
-    let told : Settles setting frames at [] (SettledDone found) read = subst (λ (s : Settled). Settles setting frames at [] s read) e settles in
+pub done_anew : (setting : Setting) (stack : List Frame) (at : ℕ) (settled : Settled) (found : Found) (read : Read Found) (change : Change) → settled ≡ SettledDone found
+    → Settles setting stack at [] settled read → BeginsAnew [] change → BeginsAnew stack change
+done_anew setting stack at settled found read change e settles anew =
+    let told : Settles setting stack at [] (SettledDone found) read = subst (λ (s : Settled). Settles setting stack at [] s read) e settles in
     subst (λ (fs : List Frame). BeginsAnew fs change) (sym told.1) anew
 
 -- where the attempt that is open after a change has no byte, the reader is between forms
-pub anew_between : (mid new : FormReader) (after : List Frame) (change : Change) (step : Advance) → BeginsAnew after change → Becomes change mid new step → mid.frames ≡ after
+pub anew_between : (mid new : FormReader) (after : List Frame) (change : Change) (step : Advance) → BeginsAnew after change → Becomes change mid new step → mid.stack ≡ after
     → step ≡ AdvanceMore → begun new ≡ fed new → IsBetween new
 anew_between mid new after (Goes start at position) step anew takes same e here =
     let none = anew (omega (arith, takes.2, here)) in
-    record { at = omega (arith, here); frames = takes.3 ∙ same ∙ none.0; state = takes.4 ∙ ap Open none.1 }
+    record { at = omega (arith, here); stack = takes.3 ∙ same ∙ none.0; state = takes.4 ∙ ap Open none.1 }
 anew_between mid new after (ChangeForm x start «end» next) (AdvanceForm datum s e n) anew takes same is here = cc
 anew_between mid new after (ChangeForm x start «end» next) AdvanceMore anew takes same is here = absurd takes
 anew_between mid new after (ChangeForm x start «end» next) (AdvanceRefused code offset) anew takes same is here = absurd takes
@@ -276,7 +276,7 @@ between_rest : (setting : Setting) (reader : FormReader) (bytes more : List ℕ)
 between_rest setting reader bytes more after between =
     let here : IsAfterIn setting reader (Open AtObject) bytes = subst (λ (s : ReaderState). IsAfterIn setting reader s bytes) between.state after in
     let start : reader.start ≡ length bytes = omega (arith, here.0, between.at) in
-    here.1 more ∙ (λ i. rest_of setting (between.frames i) AtObject (start i) (between.at i) more)
+    here.1 more ∙ (λ i. rest_of setting (between.stack i) AtObject (start i) (between.at i) more)
 
 pub between_reads : (setting : Setting) (reader : FormReader) (bytes more : List ℕ) → IsAfter setting reader bytes → IsBetween reader
     → reads setting (bytes ++ more) ≡ reads_at setting (length bytes) more

@@ -39,9 +39,9 @@ then_twice table limits p next last at cs =
     ∙ sym (run_then table limits p (λ x. then_plan (next x) last) at cs)
 
 -- What one call gives, all the calls that it is open in go on with. So each law of a plan is a law of a reader in any open calls.
-pub given_moves : (setting : Setting) (frames : List Frame) (p q : Plan Found) (at to : ℕ) (cs ds : List ℕ)
+pub given_moves : (setting : Setting) (stack : List Frame) (p q : Plan Found) (at to : ℕ) (cs ds : List ℕ)
     → run setting.table setting.limits p at cs ≡ run setting.table setting.limits q to ds
-    → run setting.table setting.limits (given setting frames p) at cs ≡ run setting.table setting.limits (given setting frames q) to ds
+    → run setting.table setting.limits (given setting stack p) at cs ≡ run setting.table setting.limits (given setting stack q) to ds
 unfolding given
 given_moves setting [] p q at to cs ds e = e
 given_moves setting (f ∷ fs) p q at to cs ds e =
@@ -51,8 +51,8 @@ given_moves setting (f ∷ fs) p q at to cs ds e =
     (then_moves setting.table setting.limits (then_plan p found) (then_plan q found) call at to cs ds (then_moves setting.table setting.limits p q found at to cs ds e))
 
 -- a fault in a call is the fault of the form
-pub given_fault : (setting : Setting) (frames : List Frame) (p : Plan Found) (at : ℕ) (cs : List ℕ) (e : Fault)
-    → run setting.table setting.limits p at cs ≡ Err e → run setting.table setting.limits (given setting frames p) at cs ≡ Err e
+pub given_fault : (setting : Setting) (stack : List Frame) (p : Plan Found) (at : ℕ) (cs : List ℕ) (e : Fault)
+    → run setting.table setting.limits p at cs ≡ Err e → run setting.table setting.limits (given setting stack p) at cs ≡ Err e
 unfolding given
 given_fault setting [] p at cs e h = h
 given_fault setting (f ∷ fs) p at cs e h =
@@ -65,26 +65,26 @@ given_fault setting (f ∷ fs) p at cs e h =
 -- ---- what is gathered in a call, and what the call makes of it
 
 -- it goes on
-pub gathering_moves : {A : Type 0} (setting : Setting) (frames : List Frame) (p q : Plan A) (on : A → Plan Found) (at to : ℕ) (cs ds : List ℕ)
+pub gathering_moves : {A : Type 0} (setting : Setting) (stack : List Frame) (p q : Plan A) (on : A → Plan Found) (at to : ℕ) (cs ds : List ℕ)
     → run setting.table setting.limits p at cs ≡ run setting.table setting.limits q to ds
-    → run setting.table setting.limits (given setting frames (then_plan p on)) at cs ≡ run setting.table setting.limits (given setting frames (then_plan q on)) to ds
-gathering_moves setting frames p q on at to cs ds e =
-    given_moves setting frames (then_plan p on) (then_plan q on) at to cs ds (then_moves setting.table setting.limits p q on at to cs ds e)
+    → run setting.table setting.limits (given setting stack (then_plan p on)) at cs ≡ run setting.table setting.limits (given setting stack (then_plan q on)) to ds
+gathering_moves setting stack p q on at to cs ds e =
+    given_moves setting stack (then_plan p on) (then_plan q on) at to cs ds (then_moves setting.table setting.limits p q on at to cs ds e)
 
 -- it ends
-pub gathering_ends : {A : Type 0} (setting : Setting) (frames : List Frame) (p : Plan A) (on : A → Plan Found) (x : A) (at to : ℕ) (cs ds : List ℕ)
+pub gathering_ends : {A : Type 0} (setting : Setting) (stack : List Frame) (p : Plan A) (on : A → Plan Found) (x : A) (at to : ℕ) (cs ds : List ℕ)
     → run setting.table setting.limits p at cs ≡ Ok (x, to, ds)
-    → run setting.table setting.limits (given setting frames (then_plan p on)) at cs ≡ run setting.table setting.limits (given setting frames (on x)) to ds
-gathering_ends setting frames p on x at to cs ds e =
-    given_moves setting frames (then_plan p on) (on x) at to cs ds
+    → run setting.table setting.limits (given setting stack (then_plan p on)) at cs ≡ run setting.table setting.limits (given setting stack (on x)) to ds
+gathering_ends setting stack p on x at to cs ds e =
+    given_moves setting stack (then_plan p on) (on x) at to cs ds
     (run_then setting.table setting.limits p on at cs ∙ ap (and_then setting.table setting.limits on) e)
 
 -- it is refused
-pub gathering_fails : {A : Type 0} (setting : Setting) (frames : List Frame) (p : Plan A) (on : A → Plan Found) (e : Fault) (at : ℕ) (cs : List ℕ)
+pub gathering_fails : {A : Type 0} (setting : Setting) (stack : List Frame) (p : Plan A) (on : A → Plan Found) (e : Fault) (at : ℕ) (cs : List ℕ)
     → run setting.table setting.limits p at cs ≡ Err e
-    → run setting.table setting.limits (given setting frames (then_plan p on)) at cs ≡ Err e
-gathering_fails setting frames p on f at cs e =
-    given_fault setting frames (then_plan p on) at cs f
+    → run setting.table setting.limits (given setting stack (then_plan p on)) at cs ≡ Err e
+gathering_fails setting stack p on f at cs e =
+    given_fault setting stack (then_plan p on) at cs f
     (run_then setting.table setting.limits p on at cs ∙ ap (and_then setting.table setting.limits on) e)
 
 -- ---- objects up to a closing character are an open call
@@ -99,68 +99,68 @@ items_are setting close may last xs at cs ends h =
     (loop_is setting.table setting.limits (items_turn setting close may) (items_guarded setting close may ends) xs at cs h)
     ∙ then_twice setting.table setting.limits (next_item setting (Some close) may) (λ p. items_step setting.table (items_after setting close may) xs p) last at cs
 
-pub ends_in : (setting : Setting) (frames : List Frame) → Ends setting.table setting.limits (attempt_in setting frames)
-ends_in setting frames = attempt_ends setting _ _
+pub ends_in : (setting : Setting) (stack : List Frame) → Ends setting.table setting.limits (attempt_in setting stack)
+ends_in setting stack = attempt_ends setting _ _
 
-pub list_is : (setting : Setting) (frames : List Frame) (call : InvokedCall) (xs : List Object) (at : ℕ) (cs : List ℕ) → at ≤ setting.limits.text
-    → run setting.table setting.limits (given setting frames (then_plan (items_after setting 41 (attempt_in setting frames) xs)
-    (list_end setting (attempt_in setting frames) (λ m. completed setting (length frames) call false false m)))) at cs
-    ≡ run setting.table setting.limits (between setting (record { call = call; part = InList xs } ∷ frames)) at cs
-list_is setting frames call xs at cs h =
-    given_moves setting frames _ _ at at cs cs (items_are setting 41 (attempt_in setting frames)
-    (list_end setting (attempt_in setting frames) (λ m. completed setting (length frames) call false false m)) xs at cs (ends_in setting frames) h)
+pub list_is : (setting : Setting) (stack : List Frame) (call : InvokedCall) (xs : List Object) (at : ℕ) (cs : List ℕ) → at ≤ setting.limits.text
+    → run setting.table setting.limits (given setting stack (then_plan (items_after setting 41 (attempt_in setting stack) xs)
+    (list_end setting (attempt_in setting stack) (λ m. completed setting (length stack) call false false m)))) at cs
+    ≡ run setting.table setting.limits (between setting (record { call = call; part = InList xs } ∷ stack)) at cs
+list_is setting stack call xs at cs h =
+    given_moves setting stack _ _ at at cs cs (items_are setting 41 (attempt_in setting stack)
+    (list_end setting (attempt_in setting stack) (λ m. completed setting (length stack) call false false m)) xs at cs (ends_in setting stack) h)
 
-pub until_is : (setting : Setting) (frames : List Frame) (call : InvokedCall) (close : ℕ) (xs : List Object) (at : ℕ) (cs : List ℕ) → at ≤ setting.limits.text
-    → run setting.table setting.limits (given setting frames (then_plan (items_after setting close (attempt_in setting frames) xs)
-    (undotted (λ m. completed setting (length frames) call false false m)))) at cs
-    ≡ run setting.table setting.limits (between setting (record { call = call; part = InUntil close xs } ∷ frames)) at cs
-until_is setting frames call close xs at cs h =
-    given_moves setting frames _ _ at at cs cs (items_are setting close (attempt_in setting frames)
-    (undotted (λ m. completed setting (length frames) call false false m)) xs at cs (ends_in setting frames) h)
+pub until_is : (setting : Setting) (stack : List Frame) (call : InvokedCall) (close : ℕ) (xs : List Object) (at : ℕ) (cs : List ℕ) → at ≤ setting.limits.text
+    → run setting.table setting.limits (given setting stack (then_plan (items_after setting close (attempt_in setting stack) xs)
+    (undotted (λ m. completed setting (length stack) call false false m)))) at cs
+    ≡ run setting.table setting.limits (between setting (record { call = call; part = InUntil close xs } ∷ stack)) at cs
+until_is setting stack call close xs at cs h =
+    given_moves setting stack _ _ at at cs cs (items_are setting close (attempt_in setting stack)
+    (undotted (λ m. completed setting (length stack) call false false m)) xs at cs (ends_in setting stack) h)
 
 -- ---- a whitespace character that may be discarded
 
-takes_given_at : {A : Type 0} (setting : Setting) (frames : List Frame) (p : Plan A) (test : ℕ → Bool) (on : A → Plan Found) (at c : ℕ) (cs : List ℕ) (b full : Bool)
+takes_given_at : {A : Type 0} (setting : Setting) (stack : List Frame) (p : Plan A) (test : ℕ → Bool) (on : A → Plan Found) (at c : ℕ) (cs : List ℕ) (b full : Bool)
     → test c ≡ b → nat_le setting.limits.text at ≡ full
-    → run setting.table setting.limits (given setting frames (then_plan (takes p test (λ d. p)) on)) at (c ∷ cs)
+    → run setting.table setting.limits (given setting stack (then_plan (takes p test (λ d. p)) on)) at (c ∷ cs)
     ≡ elim b [
-      | true ↦ within full at (run setting.table setting.limits (given setting frames (then_plan p on)) (at + 1) cs)
-      | false ↦ run setting.table setting.limits (given setting frames (then_plan p on)) at (c ∷ cs)
+      | true ↦ within full at (run setting.table setting.limits (given setting stack (then_plan p on)) (at + 1) cs)
+      | false ↦ run setting.table setting.limits (given setting stack (then_plan p on)) at (c ∷ cs)
     ]
 unfolding run then_plan
-takes_given_at {A = A} setting frames p test on at c cs b full e f =
+takes_given_at {A = A} setting stack p test on at c cs b full e f =
     let first : Bool → Bool → Read Found = λ b full. elim b [
       | true ↦ within full at (run setting.table setting.limits (then_plan p on) (at + 1) cs)
       | false ↦ run setting.table setting.limits (then_plan p on) at (c ∷ cs)
     ] in
     let last : Bool → Bool → Read Found = λ b full. elim b [
-      | true ↦ within full at (run setting.table setting.limits (given setting frames (then_plan p on)) (at + 1) cs)
-      | false ↦ run setting.table setting.limits (given setting frames (then_plan p on)) at (c ∷ cs)
+      | true ↦ within full at (run setting.table setting.limits (given setting stack (then_plan p on)) (at + 1) cs)
+      | false ↦ run setting.table setting.limits (given setting stack (then_plan p on)) at (c ∷ cs)
     ] in
     let begins : run setting.table setting.limits (then_plan (takes p test (λ d. p)) on) at (c ∷ cs) ≡ first b full = (λ i. first (e i) (f i)) in
     let by : (b full : Bool) → run setting.table setting.limits (then_plan (takes p test (λ d. p)) on) at (c ∷ cs) ≡ first b full
-    → run setting.table setting.limits (given setting frames (then_plan (takes p test (λ d. p)) on)) at (c ∷ cs) ≡ last b full =
+    → run setting.table setting.limits (given setting stack (then_plan (takes p test (λ d. p)) on)) at (c ∷ cs) ≡ last b full =
     λ b full. elim b as (λ b. run setting.table setting.limits (then_plan (takes p test (λ d. p)) on) at (c ∷ cs) ≡ first b full
-    → run setting.table setting.limits (given setting frames (then_plan (takes p test (λ d. p)) on)) at (c ∷ cs) ≡ last b full) [
+    → run setting.table setting.limits (given setting stack (then_plan (takes p test (λ d. p)) on)) at (c ∷ cs) ≡ last b full) [
       | true ↦ elim full as (λ full. run setting.table setting.limits (then_plan (takes p test (λ d. p)) on) at (c ∷ cs) ≡ first true full
-          → run setting.table setting.limits (given setting frames (then_plan (takes p test (λ d. p)) on)) at (c ∷ cs) ≡ last true full) [
-            | true ↦ λ e. given_fault setting frames (then_plan (takes p test (λ d. p)) on) at (c ∷ cs) (record { number = FORM_TOO_LONG; at = at }) e
-            | false ↦ λ e. given_moves setting frames (then_plan (takes p test (λ d. p)) on) (then_plan p on) at (at + 1) (c ∷ cs) cs e
+          → run setting.table setting.limits (given setting stack (then_plan (takes p test (λ d. p)) on)) at (c ∷ cs) ≡ last true full) [
+            | true ↦ λ e. given_fault setting stack (then_plan (takes p test (λ d. p)) on) at (c ∷ cs) (record { number = FORM_TOO_LONG; at = at }) e
+            | false ↦ λ e. given_moves setting stack (then_plan (takes p test (λ d. p)) on) (then_plan p on) at (at + 1) (c ∷ cs) cs e
           ]
-      | false ↦ λ e. given_moves setting frames (then_plan (takes p test (λ d. p)) on) (then_plan p on) at at (c ∷ cs) (c ∷ cs) e
+      | false ↦ λ e. given_moves setting stack (then_plan (takes p test (λ d. p)) on) (then_plan p on) at at (c ∷ cs) (c ∷ cs) e
     ] in
     by b full begins
 
 -- the whitespace that may be discarded in a call may be discarded before what all open calls go on with
-pub space_given : {A : Type 0} (setting : Setting) (frames : List Frame) (token : Bool) (p : Plan A) (on : A → Plan Found) (at : ℕ) (cs : List ℕ)
-    → run setting.table setting.limits (given setting frames (then_plan (without_space setting.table token p) on)) at cs
-    ≡ run setting.table setting.limits (without_space setting.table token (given setting frames (then_plan p on))) at cs
+pub space_given : {A : Type 0} (setting : Setting) (stack : List Frame) (token : Bool) (p : Plan A) (on : A → Plan Found) (at : ℕ) (cs : List ℕ)
+    → run setting.table setting.limits (given setting stack (then_plan (without_space setting.table token p) on)) at cs
+    ≡ run setting.table setting.limits (without_space setting.table token (given setting stack (then_plan p on))) at cs
 unfolding run then_plan
-space_given setting frames false p on at cs = refl
-space_given setting frames true p on at [] =
-    given_moves setting frames (then_plan (takes p (is_whitespace setting.table) (λ d. p)) on) (then_plan p on) at at [] [] refl
-space_given setting frames true p on at (c ∷ cs) =
-    takes_given_at setting frames p (is_whitespace setting.table) on at c cs (is_whitespace setting.table c) (nat_le setting.limits.text at) refl refl
+space_given setting stack false p on at cs = refl
+space_given setting stack true p on at [] =
+    given_moves setting stack (then_plan (takes p (is_whitespace setting.table) (λ d. p)) on) (then_plan p on) at at [] [] refl
+space_given setting stack true p on at (c ∷ cs) =
+    takes_given_at setting stack p (is_whitespace setting.table) on at c cs (is_whitespace setting.table c) (nat_le setting.limits.text at) refl refl
 
 reverse_onto : (xs onto : List Frame) (x : Frame) → reverse_aux (xs ++ x ∷ []) onto ≡ x ∷ reverse_aux xs onto
 reverse_onto [] onto x = refl

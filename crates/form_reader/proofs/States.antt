@@ -32,10 +32,10 @@ position_below at (AtLine call text) h = tt
 position_below at (AtBlock call levels) h = below levels.0 at h
 position_below at (AtNumber c number) h = tt
 
-pub standing_of : (limits : Limits) (frames : List Frame) (at : ℕ) (state : ReaderState) (position : Position) → state ≡ Open position → IsTrue (is_standing limits frames at state)
-    → IsStanding limits frames position at
-standing_of limits frames at state position e h =
-    let open_now : IsTrue (is_standing limits frames at (Open position)) = subst (λ (s : ReaderState). IsTrue (is_standing limits frames at s)) e h in
-    let first = both (nat_le at limits.text) (nat_le (length frames) limits.nesting && is_position_at at position) open_now in
-    let last = both (nat_le (length frames) limits.nesting) (is_position_at at position) first.1 in
-    record { within = below at limits.text first.0; nesting = below (length frames) limits.nesting last.0; levels = position_below at position last.1 }
+pub standing_of : (limits : Limits) (stack : List Frame) (at : ℕ) (state : ReaderState) (position : Position) → state ≡ Open position → IsTrue (is_standing limits stack at state)
+    → IsStanding limits stack position at
+standing_of limits stack at state position e h =
+    let open_now : IsTrue (is_standing limits stack at (Open position)) = subst (λ (s : ReaderState). IsTrue (is_standing limits stack at s)) e h in
+    let first = both (nat_le at limits.text) (nat_le (length stack) limits.nesting && is_position_at at position) open_now in
+    let last = both (nat_le (length stack) limits.nesting) (is_position_at at position) first.1 in
+    record { within = below at limits.text first.0; nesting = below (length stack) limits.nesting last.0; levels = position_below at position last.1 }

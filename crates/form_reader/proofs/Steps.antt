@@ -15,7 +15,7 @@ use Rattle.std.specs.declared.alloc.AllocError.{AllocError}
 use Rattle.form_reader.specs.declared.step.object.Passed.{Passed}
 use Rattle.form_reader.specs.declared.step.object.Passed.TheVariants.{Done as PassedDone}
 use Rattle.form_reader.specs.Step.{Passes, outcome_of, rest_of, Settles, ChangesTo, IsReadySettled, FeedsInPlace, is_space, StartsAt, StartsWith, FollowsNothing, Starts}
-use Rattle.form_reader.specs.Stack.{between, close_of_frames, is_closed_by, given}
+use Rattle.form_reader.specs.Stack.{between, close_of_stack, is_closed_by, given}
 use Rattle.lisp_reading.specs.Reading.{Outcome, is_blank, is_whitespace, stands_alone}
 use Rattle.lisp_reading.proofs.Forms.{reads_is}
 use Rattle.std.proofs.lemmas.Bool.{ltb-true, ltb-false}
@@ -31,11 +31,11 @@ use Rattle.form_reader.specs.State.{position_gives}
 
 -- ---- what the outermost attempt comes to
 
-module _ (setting : Setting) (frames : List Frame) (start at : ℕ) (cs : List ℕ) (read : Read Found) (settled : Settled) where
-  pub done_turns : (found : Found) (change : Change) → settled ≡ SettledDone found → Settles setting frames at cs settled read
-      → ChangesTo setting [] cs change (outcome_of setting start (Ok (found, at, cs))) → ChangesTo setting frames cs change (outcome_of setting start read)
+module _ (setting : Setting) (stack : List Frame) (start at : ℕ) (cs : List ℕ) (read : Read Found) (settled : Settled) where
+  pub done_turns : (found : Found) (change : Change) → settled ≡ SettledDone found → Settles setting stack at cs settled read
+      → ChangesTo setting [] cs change (outcome_of setting start (Ok (found, at, cs))) → ChangesTo setting stack cs change (outcome_of setting start read)
   done_turns found change e h turns =
-      let told : Settles setting frames at cs (SettledDone found) read = subst (λ (s : Settled). Settles setting frames at cs s read) e h in
+      let told : Settles setting stack at cs (SettledDone found) read = subst (λ (s : Settled). Settles setting stack at cs s read) e h in
       subst (λ (fs : List Frame). ChangesTo setting fs cs change (outcome_of setting start read)) (sym told.1)
       (subst (λ (r : Read Found). ChangesTo setting [] cs change (outcome_of setting start r)) (sym told.0) turns)
 
@@ -45,20 +45,20 @@ pub nothing_turns : (setting : Setting) (start at : ℕ) (cs : List ℕ) (found 
 nothing_turns setting start at cs found token e =
     ap (λ (f : Found). outcome_of setting start (Ok (f, at, cs))) e ∙ reads_is setting (start + at) cs
 
--- ---- the frames are within the nesting
+-- ---- the stack are within the nesting
 
-pub done_nesting : (limits : Limits) (frames : List Frame) (at : ℕ) (settled : Settled) (found : Found) → settled ≡ SettledDone found → IsReadySettled limits frames at settled
-    → length frames ≤ limits.nesting
-done_nesting limits frames at settled found e h =
-    let told : IsReadySettled limits frames at (SettledDone found) = subst (λ (s : Settled). IsReadySettled limits frames at s) e h in
+pub done_nesting : (limits : Limits) (stack : List Frame) (at : ℕ) (settled : Settled) (found : Found) → settled ≡ SettledDone found → IsReadySettled limits stack at settled
+    → length stack ≤ limits.nesting
+done_nesting limits stack at settled found e h =
+    let told : IsReadySettled limits stack at (SettledDone found) = subst (λ (s : Settled). IsReadySettled limits stack at s) e h in
     told.1
 
 -- ---- where the outermost attempt came to something before a byte, no call is open
 
-pub passed_none : (setting : Setting) (frames : List Frame) (at c : ℕ) (cs : List ℕ) (passed : Passed) (found : Found) (read : Read Found) → passed ≡ PassedDone found
-    → Passes setting frames at c cs passed read → frames ≡ []
-passed_none setting frames at c cs passed found read e h =
-    let told : Passes setting frames at c cs (PassedDone found) read = subst (λ (p : Passed). Passes setting frames at c cs p read) e h in
+pub passed_none : (setting : Setting) (stack : List Frame) (at c : ℕ) (cs : List ℕ) (passed : Passed) (found : Found) (read : Read Found) → passed ≡ PassedDone found
+    → Passes setting stack at c cs passed read → stack ≡ []
+passed_none setting stack at c cs passed found read e h =
+    let told : Passes setting stack at c cs (PassedDone found) read = subst (λ (p : Passed). Passes setting stack at c cs p read) e h in
     told.1
 
 pub nothing_before : (setting : Setting) (start at c : ℕ) (cs : List ℕ) (found : Found) (token : Bool) (before after : List Frame) (result : Result Change AllocError)
@@ -92,28 +92,28 @@ alone_blank SingleEscape e = refl
 alone_blank MultipleEscape e = refl
 alone_blank Invalid e = refl
 
-module _ (setting : Setting) (frames : List Frame) (at c : ℕ) where
+module _ (setting : Setting) (stack : List Frame) (at c : ℕ) where
   -- it is over the limit
-  pub no_space_over : setting.limits.text ≤ at → is_space setting frames AtObject at c ≡ false
+  pub no_space_over : setting.limits.text ≤ at → is_space setting stack AtObject at c ≡ false
   no_space_over le = by (nat_lt at setting.limits.text) refl
     where
-      by : (b : Bool) → nat_lt at setting.limits.text ≡ b → (b && (is_whitespace setting.table c && not (is_closed_by (close_of_frames frames) c))) ≡ false
+      by : (b : Bool) → nat_lt at setting.limits.text ≡ b → (b && (is_whitespace setting.table c && not (is_closed_by (close_of_stack stack) c))) ≡ false
       by true e = absurd (omega (arith, le, ltb-true at setting.limits.text e))
       by false e = refl
 
   -- it is the closing character
-  pub no_space_closed : (closed : Bool) → closed ≡ is_closed_by (close_of_frames frames) c → closed ≡ true → is_space setting frames AtObject at c ≡ false
+  pub no_space_closed : (closed : Bool) → closed ≡ is_closed_by (close_of_stack stack) c → closed ≡ true → is_space setting stack AtObject at c ≡ false
   no_space_closed closed is e =
       never_and (nat_lt at setting.limits.text) _ (never_and (is_whitespace setting.table c) _ (ap not (sym is ∙ e)))
 
   -- it begins a token
-  pub no_space_token : stands_alone (entry_at setting.table c).syntax ≡ false → is_space setting frames AtObject at c ≡ false
+  pub no_space_token : stands_alone (entry_at setting.table c).syntax ≡ false → is_space setting stack AtObject at c ≡ false
   no_space_token e =
       never_and (nat_lt at setting.limits.text) _
-      (ap (λ (b : Bool). b && not (is_closed_by (close_of_frames frames) c)) (alone_blank (entry_at setting.table c).syntax e))
+      (ap (λ (b : Bool). b && not (is_closed_by (close_of_stack stack) c)) (alone_blank (entry_at setting.table c).syntax e))
 
-  pub space_is : (closed blank : Bool) → at < setting.limits.text → closed ≡ is_closed_by (close_of_frames frames) c → closed ≡ false → blank ≡ is_whitespace setting.table c
-      → blank ≡ is_space setting frames AtObject at c
+  pub space_is : (closed blank : Bool) → at < setting.limits.text → closed ≡ is_closed_by (close_of_stack stack) c → closed ≡ false → blank ≡ is_whitespace setting.table c
+      → blank ≡ is_space setting stack AtObject at c
   space_is closed blank lt is e same = by (nat_lt at setting.limits.text) refl ∙ sym whole
     where
       plain : (b : Bool) → (b && true) ≡ b
@@ -124,7 +124,7 @@ module _ (setting : Setting) (frames : List Frame) (at c : ℕ) where
       by true f = same ∙ sym (plain (is_whitespace setting.table c))
       by false f = absurd (omega (arith, lt, ltb-false at setting.limits.text f))
 
-      whole : is_space setting frames AtObject at c ≡ (nat_lt at setting.limits.text && (is_whitespace setting.table c && true))
+      whole : is_space setting stack AtObject at c ≡ (nat_lt at setting.limits.text && (is_whitespace setting.table c && true))
       whole = ap (λ (b : Bool). nat_lt at setting.limits.text && (is_whitespace setting.table c && not b)) (sym is ∙ e)
 
 -- with nothing open, an attempt begins after it
@@ -136,36 +136,36 @@ passes_none setting start at c cs lt e =
     (attempts setting at c cs [] (omega (arith, lt)) (λ close is. cc) ∙ alone_by setting at c cs [] Whitespace (omega arith) lt (ap stands_alone e) e)
     ∙ nothing_turns setting start (at + 1) cs (nothing false) false refl
 
-pub blank_passes : (setting : Setting) (frames : List Frame) (start at c : ℕ) (cs : List ℕ) → at < setting.limits.text → frames ≡ [] → (entry_at setting.table c).syntax ≡ Whitespace
-    → rest_of setting frames AtObject start at (c ∷ cs) ≡ rest_of setting frames AtObject (start + (at + 1)) 0 cs
-blank_passes setting frames start at c cs lt none e =
+pub blank_passes : (setting : Setting) (stack : List Frame) (start at c : ℕ) (cs : List ℕ) → at < setting.limits.text → stack ≡ [] → (entry_at setting.table c).syntax ≡ Whitespace
+    → rest_of setting stack AtObject start at (c ∷ cs) ≡ rest_of setting stack AtObject (start + (at + 1)) 0 cs
+blank_passes setting stack start at c cs lt none e =
     subst (λ (fs : List Frame). rest_of setting fs AtObject start at (c ∷ cs) ≡ rest_of setting fs AtObject (start + (at + 1)) 0 cs) (sym none) (passes_none setting start at c cs lt e)
 
 -- no call is open
-pub none_open : (frames : List Frame) → length frames ≡ 0 → frames ≡ []
+pub none_open : (stack : List Frame) → length stack ≡ 0 → stack ≡ []
 none_open [] e = refl
 none_open (f ∷ fs) e = absurd (omega (arith, e))
 
 -- where it is known where the reader is
-pub discarded_there : (setting : Setting) (frames : List Frame) (at c : ℕ) (cs : List ℕ) (position : Position) (fed : InPlace) → position ≡ AtObject
-    → FeedsInPlace setting frames at c cs AtObject AtObject fed → FeedsInPlace setting frames at c cs position position fed
-discarded_there setting frames at c cs position fed e h = subst (λ (s : Position). FeedsInPlace setting frames at c cs s s fed) (sym e) h
+pub discarded_there : (setting : Setting) (stack : List Frame) (at c : ℕ) (cs : List ℕ) (position : Position) (fed : InPlace) → position ≡ AtObject
+    → FeedsInPlace setting stack at c cs AtObject AtObject fed → FeedsInPlace setting stack at c cs position position fed
+discarded_there setting stack at c cs position fed e h = subst (λ (s : Position). FeedsInPlace setting stack at c cs s s fed) (sym e) h
 
 -- ---- a byte with which an attempt begins
 
-module _ (setting : Setting) (start c : ℕ) (frames : List Frame) (none : frames ≡ []) where
+module _ (setting : Setting) (start c : ℕ) (stack : List Frame) (none : stack ≡ []) where
   -- it is discarded
-  pub discarded_turns : (cs : List ℕ) → rest_of setting frames AtObject start 0 (c ∷ cs) ≡ rest_of setting frames AtObject (start + 1) 0 cs
-      → rest_of setting [] AtObject start 0 (c ∷ cs) ≡ rest_of setting frames AtObject (start + 1) 0 cs
+  pub discarded_turns : (cs : List ℕ) → rest_of setting stack AtObject start 0 (c ∷ cs) ≡ rest_of setting stack AtObject (start + 1) 0 cs
+      → rest_of setting [] AtObject start 0 (c ∷ cs) ≡ rest_of setting stack AtObject (start + 1) 0 cs
   discarded_turns cs passes = ap (λ (fs : List Frame). rest_of setting fs AtObject start 0 (c ∷ cs)) (sym none) ∙ passes
 
   pub first_turns : (after : List Frame) (cs : List ℕ) (result : Result Change AllocError)
-      → IfOk result (λ change. ChangesTo setting after cs change (rest_of setting frames AtObject start 0 (c ∷ cs)))
+      → IfOk result (λ change. ChangesTo setting after cs change (rest_of setting stack AtObject start 0 (c ∷ cs)))
       → IfOk result (λ change. ChangesTo setting after cs change (rest_of setting [] AtObject start 0 (c ∷ cs)))
   first_turns after cs result turns =
       subst (λ (o : Outcome). IfOk result (λ change. ChangesTo setting after cs change o)) (ap (λ (fs : List Frame). rest_of setting fs AtObject start 0 (c ∷ cs)) none) turns
 
-  pub first_starts : (result : Result Change AllocError) (space : Bool) → space ≡ is_space setting frames AtObject 0 c → space ≡ false → IfOk result (StartsAt start)
+  pub first_starts : (result : Result Change AllocError) (space : Bool) → space ≡ is_space setting stack AtObject 0 c → space ≡ false → IfOk result (StartsAt start)
       → IfOk result (StartsWith setting start c)
   first_starts (Ok (Goes next count there)) space is other (inl same) =
       inr (same, ap (λ (fs : List Frame). is_space setting fs AtObject 0 c) (sym none) ∙ sym is ∙ other)
@@ -176,9 +176,9 @@ module _ (setting : Setting) (start c : ℕ) (frames : List Frame) (none : frame
 
 -- ---- a byte of an attempt
 
-module _ (setting : Setting) (frames : List Frame) (position : Position) (start at c : ℕ) where
+module _ (setting : Setting) (stack : List Frame) (position : Position) (start at c : ℕ) where
   -- it is taken in it
-  pub kept_starts : (result : Result Change AllocError) → IfOk result (StartsAt start) → IfOk result (Starts setting frames position start at c)
+  pub kept_starts : (result : Result Change AllocError) → IfOk result (StartsAt start) → IfOk result (Starts setting stack position start at c)
   kept_starts (Ok (Goes next count there)) (inl same) = inl same
   kept_starts (Ok (Goes next count there)) (inr here) = inr (inl here)
   kept_starts (Ok (Form x from «end» next)) h = tt
@@ -187,12 +187,12 @@ module _ (setting : Setting) (frames : List Frame) (position : Position) (start 
 
   -- the attempt ended before it
   pub done_starts : (after : List Frame) (passed : Passed) (found : Found) (result : Result Change AllocError) → passed ≡ PassedDone found
-      → ((cs : List ℕ) → Passes setting after at c cs passed (position_gives setting frames position at (c ∷ cs)))
-      → IfOk result (StartsWith setting (start + at) c) → IfOk result (FollowsNothing found) → IfOk result (Starts setting frames position start at c)
+      → ((cs : List ℕ) → Passes setting after at c cs passed (position_gives setting stack position at (c ∷ cs)))
+      → IfOk result (StartsWith setting (start + at) c) → IfOk result (FollowsNothing found) → IfOk result (Starts setting stack position start at c)
   done_starts after passed found (Ok (Goes next count there)) is passes (inl none) follows = inr (inl none)
   done_starts after passed found (Ok (Goes next count there)) is passes (inr here) follows =
-      let told : (cs : List ℕ) → Passes setting after at c cs (PassedDone found) (position_gives setting frames position at (c ∷ cs)) =
-      λ cs. subst (λ (p : Passed). Passes setting after at c cs p (position_gives setting frames position at (c ∷ cs))) is (passes cs) in
+      let told : (cs : List ℕ) → Passes setting after at c cs (PassedDone found) (position_gives setting stack position at (c ∷ cs)) =
+      λ cs. subst (λ (p : Passed). Passes setting after at c cs p (position_gives setting stack position at (c ∷ cs))) is (passes cs) in
       inr (inr (here.0, record { token = follows.0; found = λ cs. (told cs).0 ∙ ap (λ (f : Found). Ok (f, at, c ∷ cs)) follows.1; other = here.1 }))
   done_starts after passed found (Ok (Form x from «end» next)) is passes h follows = tt
   done_starts after passed found (Ok (Refused number offset)) is passes h follows = tt

@@ -238,7 +238,7 @@ module _ (setting : Setting) where
   found_at_end f fs lone_dot = gives_at_end Whatever dot tt
   found_at_end f fs the_end = refuses_at_end Whatever END_OF_FILE 0 refl
 
-  given_at_end : (frames : List Frame) (plan : Plan Found) → AtEnd Whatever plan → AtEnd Whatever (given setting frames plan)
+  given_at_end : (stack : List Frame) (plan : Plan Found) → AtEnd Whatever plan → AtEnd Whatever (given setting stack plan)
   unfolding given
   given_at_end [] plan h = h
   given_at_end (f ∷ fs) plan h =
@@ -247,7 +247,7 @@ module _ (setting : Setting) where
       (then_at_end Whatever Whatever plan (λ found. piece_of setting.table (next_item_in setting f fs) found) h (λ found none. found_at_end f fs found))
       (λ p none. part_at_end setting (length fs) _ f.call f.part p))
 
-  between_at_end : (frames : List Frame) → AtEnd Whatever (between setting frames)
+  between_at_end : (stack : List Frame) → AtEnd Whatever (between setting stack)
   unfolding AtEnd
   between_at_end [] = tt
   between_at_end (f ∷ fs) =
@@ -256,46 +256,46 @@ module _ (setting : Setting) where
 
   -- ---- at each position
 
-  module _ (frames : List Frame) (at : ℕ) (le : at ≤ setting.limits.text) where
-    last : (plan : Plan Found) → AtEnd Whatever plan → LastRead Whatever (run setting.table setting.limits (given setting frames plan) at [])
-    last plan h = run_at_end Whatever setting.table setting.limits at le (given setting frames plan) (given_at_end frames plan h)
+  module _ (stack : List Frame) (at : ℕ) (le : at ≤ setting.limits.text) where
+    last : (plan : Plan Found) → AtEnd Whatever plan → LastRead Whatever (run setting.table setting.limits (given setting stack plan) at [])
+    last plan h = run_at_end Whatever setting.table setting.limits at le (given setting stack plan) (given_at_end stack plan h)
 
-    never : {A : Type 0} (plan : Plan A) (on : A → Plan Found) → AtEnd Never plan → LastRead Whatever (run setting.table setting.limits (given setting frames (then_plan plan on)) at [])
+    never : {A : Type 0} (plan : Plan A) (on : A → Plan Found) → AtEnd Never plan → LastRead Whatever (run setting.table setting.limits (given setting stack (then_plan plan on)) at [])
     never plan on h = last (then_plan plan on) (never_then Whatever plan on h)
 
     token_last : (on : List Mark → Plan Found) (stage : ScanStage) (marks : List Mark) (left : ℕ) → ((marks : List Mark) → AtEnd Whatever (on marks)) → IsTrue (is_going stage)
-        → LastRead Whatever (token_goes_on setting frames on (cut setting.limits.text (with_front marks (from_stage stage left at []))))
+        → LastRead Whatever (token_goes_on setting stack on (cut setting.limits.text (with_front marks (from_stage stage left at []))))
     unfolding outside
     token_last on Outside marks left all going =
-        let by : Bool → Read Found = λ b. token_goes_on setting frames on (elim b [ true ↦ Ok (marks ++ [], at, []) | false ↦ Err (record { number = FORM_TOO_LONG; at = setting.limits.text }) ]) in
+        let by : Bool → Read Found = λ b. token_goes_on setting stack on (elim b [ true ↦ Ok (marks ++ [], at, []) | false ↦ Err (record { number = FORM_TOO_LONG; at = setting.limits.text }) ]) in
         subst (LastRead Whatever) (sym (ap by (le-leb at setting.limits.text le))) (last (on (marks ++ [])) (all (marks ++ [])))
     token_last on Inside marks left all going =
-        subst (LastRead Whatever) (sym (ap (token_goes_on setting frames on) (refused_cut setting.limits.text EndOfFile at le))) refl
+        subst (LastRead Whatever) (sym (ap (token_goes_on setting stack on) (refused_cut setting.limits.text EndOfFile at le))) refl
     token_last on EscapedOutside marks left all going =
-        subst (LastRead Whatever) (sym (ap (token_goes_on setting frames on) (refused_cut setting.limits.text EndOfFile at le))) refl
+        subst (LastRead Whatever) (sym (ap (token_goes_on setting stack on) (refused_cut setting.limits.text EndOfFile at le))) refl
     token_last on EscapedInside marks left all going =
-        subst (LastRead Whatever) (sym (ap (token_goes_on setting frames on) (refused_cut setting.limits.text EndOfFile at le))) refl
+        subst (LastRead Whatever) (sym (ap (token_goes_on setting stack on) (refused_cut setting.limits.text EndOfFile at le))) refl
     token_last on (ScanRefused refusal) marks left all going = cc
 
-    pub position_last : (position : Position) → IsPositionAt at position → LastRead Whatever (position_gives setting frames position at [])
-    position_last AtObject h = run_at_end Whatever setting.table setting.limits at le (between setting frames) (between_at_end frames)
+    pub position_last : (position : Position) → IsPositionAt at position → LastRead Whatever (position_gives setting stack position at [])
+    position_last AtObject h = run_at_end Whatever setting.table setting.limits at le (between setting stack) (between_at_end stack)
     position_last (AtToken scan) h = token_last (token_found setting) scan.stage scan.marks scan.left (token_at_end setting) h
     position_last (AtCallToken call scan) h =
-        token_last (λ marks. completed setting (length frames) call true false (marked marks)) scan.stage scan.marks scan.left
-        (λ marks. completed_at_end setting (length frames) call true false (marked marks)) h
+        token_last (λ marks. completed setting (length stack) call true false (marked marks)) scan.stage scan.marks scan.left
+        (λ marks. completed_at_end setting (length stack) call true false (marked marks)) h
     position_last (AtText call terminator text) h =
         never (text_to setting terminator text) _ (loop_at_end Never setting.limits (text_turn setting.table terminator) text (λ more. next_byte_at_end Never _))
     position_last (AtEscaped call terminator text) h = never (next_byte (λ d. text_to setting terminator (text ++ d ∷ []))) _ (next_byte_at_end Never _)
     position_last (AtLine call text) h =
-        last (then_plan (line_after setting (keep_of call.function) text) (λ cs. completed setting (length frames) call false false (letters cs)))
-        (then_at_end Whatever Whatever (line_after setting (keep_of call.function) text) (λ cs. completed setting (length frames) call false false (letters cs))
+        last (then_plan (line_after setting (keep_of call.function) text) (λ cs. completed setting (length stack) call false false (letters cs)))
+        (then_at_end Whatever Whatever (line_after setting (keep_of call.function) text) (λ cs. completed setting (length stack) call false false (letters cs))
         (loop_at_end Whatever setting.limits (line_turn (keep_of call.function)) text (λ more. takes_at_end Whatever (gives text) (λ c. true) _ (gives_at_end Whatever text tt)))
-        (λ cs none. completed_at_end setting (length frames) call false false (letters cs)))
+        (λ cs none. completed_at_end setting (length stack) call false false (letters cs)))
     position_last (AtBlock call levels) h =
         never (block_after setting levels) _ (loop_at_end Never setting.limits block_turn levels (λ more. next_byte_at_end Never _))
     position_last (AtNumber c argument) h =
-        last (dispatched setting (length frames) (inner_at setting (length frames)) c argument)
-        (then_at_end Whatever Whatever (number_after setting argument) (sub_there setting (length frames) (inner_at setting (length frames)) c)
+        last (dispatched setting (length stack) (inner_at setting (length stack)) c argument)
+        (then_at_end Whatever Whatever (number_after setting argument) (sub_there setting (length stack) (inner_at setting (length stack)) c)
         (loop_at_end Whatever setting.limits number_turn argument (λ more. takes_at_end Whatever (gives argument) _ _ (gives_at_end Whatever argument tt)))
         (λ n none. next_byte_at_end Whatever _))
 

@@ -44,28 +44,28 @@ space_moves : (setting : Setting) (token : Bool) (p q : Plan Found) (at : ℕ) (
 space_moves setting token p q at cs h same =
     space_same setting.table setting.limits token p q at cs h (λ at2 cs2 from le. same at2 cs2 le)
 
-module _ (setting : Setting) (frames : List Frame) (call : InvokedCall) (at : ℕ) (cs : List ℕ) where
+module _ (setting : Setting) (stack : List Frame) (call : InvokedCall) (at : ℕ) (cs : List ℕ) where
   abbrev pub delivered : Part → Found → Read Found
-  delivered part found = run setting.table setting.limits (given setting (framed_by call part ∷ frames) (gives found)) at cs
+  delivered part found = run setting.table setting.limits (given setting (framed_by call part ∷ stack) (gives found)) at cs
 
   abbrev waiting : Bool → Part → Read Found
-  waiting token part = run setting.table setting.limits (without_space setting.table token (between setting (framed_by call part ∷ frames))) at cs
+  waiting token part = run setting.table setting.limits (without_space setting.table token (between setting (framed_by call part ∷ stack))) at cs
 
   -- only discarded text
   pub nothing_stays : (token : Bool) (part : Part) → delivered part (nothing token) ≡ waiting token part
   unfolding given then_plan
   nothing_stays token part =
-      space_given setting frames token (next_item_in setting (framed_by call part) frames) (λ p. call_in setting (framed_by call part) frames p) at cs
+      space_given setting stack token (next_item_in setting (framed_by call part) stack) (λ p. call_in setting (framed_by call part) stack p) at cs
 
   -- the end of the input
   pub end_fails : (part : Part) → delivered part the_end ≡ fault END_OF_FILE at
   unfolding given then_plan
   end_fails part =
-      given_refused setting frames at cs END_OF_FILE 0 ∙ (let e : at - 0 ≡ at = omega arith in ap (λ (n : ℕ). fault END_OF_FILE n) e)
+      given_refused setting stack at cs END_OF_FILE 0 ∙ (let e : at - 0 ≡ at = omega arith in ap (λ (n : ℕ). fault END_OF_FILE n) e)
 
-  dot_fails : (part : Part) → given setting (framed_by call part ∷ frames) (gives lone_dot) ≡ given setting frames (refuses DOT_CONTEXT 0) → delivered part lone_dot ≡ fault DOT_CONTEXT at
+  dot_fails : (part : Part) → given setting (framed_by call part ∷ stack) (gives lone_dot) ≡ given setting stack (refuses DOT_CONTEXT 0) → delivered part lone_dot ≡ fault DOT_CONTEXT at
   dot_fails part e =
-      ap (λ (p : Plan Found). run setting.table setting.limits p at cs) e ∙ given_refused setting frames at cs DOT_CONTEXT 0
+      ap (λ (p : Plan Found). run setting.table setting.limits p at cs) e ∙ given_refused setting stack at cs DOT_CONTEXT 0
       ∙ (let e : at - 0 ≡ at = omega arith in ap (λ (n : ℕ). fault DOT_CONTEXT n) e)
 
   pub dot_in_next : delivered InNext lone_dot ≡ fault DOT_CONTEXT at
@@ -95,42 +95,42 @@ module _ (setting : Setting) (frames : List Frame) (call : InvokedCall) (at : �
 
   -- an object
   pub one_in_next : (token : Bool) (x : Object)
-      → delivered InNext (one token x) ≡ run setting.table setting.limits (given setting frames (completed setting (length frames) call token token (one_object x))) at cs
+      → delivered InNext (one token x) ≡ run setting.table setting.limits (given setting stack (completed setting (length stack) call token token (one_object x))) at cs
   unfolding given then_plan
   one_in_next token x = refl
 
   pub one_in_tailed : (token : Bool) (xs : List Object) (tail x : Object) → delivered (InTailed xs tail) (one token x) ≡ fault DOT_CONTEXT at
   unfolding given then_plan
   one_in_tailed token xs tail x =
-      given_refused setting frames at cs DOT_CONTEXT 0 ∙ (let e : at - 0 ≡ at = omega arith in ap (λ (n : ℕ). fault DOT_CONTEXT n) e)
+      given_refused setting stack at cs DOT_CONTEXT 0 ∙ (let e : at - 0 ≡ at = omega arith in ap (λ (n : ℕ). fault DOT_CONTEXT n) e)
 
   pub one_in_dotted : (token : Bool) (xs : List Object) (x : Object) → delivered (InDotted xs) (one token x) ≡ waiting token (InTailed xs x)
   unfolding given then_plan
   one_in_dotted true xs x =
-      space_given setting frames true (next_item setting (Some 41) (attempt_in setting frames))
-      (after_tail (λ m. completed setting (length frames) call false false m) xs x) at cs
+      space_given setting stack true (next_item setting (Some 41) (attempt_in setting stack))
+      (after_tail (λ m. completed setting (length stack) call false false m) xs x) at cs
   one_in_dotted false xs x =
-      space_given setting frames false (next_item setting (Some 41) (attempt_in setting frames))
-      (after_tail (λ m. completed setting (length frames) call false false m) xs x) at cs
+      space_given setting stack false (next_item setting (Some 41) (attempt_in setting stack))
+      (after_tail (λ m. completed setting (length stack) call false false m) xs x) at cs
 
   pub one_in_list : (token : Bool) (xs ys : List Object) (x : Object) → at ≤ setting.limits.text → ys ≡ xs ++ x ∷ []
       → delivered (InList xs) (one token x) ≡ waiting token (InList ys)
   unfolding given then_plan
   one_in_list token xs ys x h e =
-      space_given setting frames token (items_after setting 41 (attempt_in setting frames) (xs ++ x ∷ []))
-      (list_end setting (attempt_in setting frames) (λ m. completed setting (length frames) call false false m)) at cs
-      ∙ space_moves setting token _ (between setting (framed_by call (InList (xs ++ x ∷ [])) ∷ frames)) at cs h
-      (λ at2 cs2 le. list_is setting frames call (xs ++ x ∷ []) at2 cs2 le)
+      space_given setting stack token (items_after setting 41 (attempt_in setting stack) (xs ++ x ∷ []))
+      (list_end setting (attempt_in setting stack) (λ m. completed setting (length stack) call false false m)) at cs
+      ∙ space_moves setting token _ (between setting (framed_by call (InList (xs ++ x ∷ [])) ∷ stack)) at cs h
+      (λ at2 cs2 le. list_is setting stack call (xs ++ x ∷ []) at2 cs2 le)
       ∙ ap (λ (ys : List Object). waiting token (InList ys)) (sym e)
 
   pub one_in_until : (token : Bool) (close : ℕ) (xs ys : List Object) (x : Object) → at ≤ setting.limits.text → ys ≡ xs ++ x ∷ []
       → delivered (InUntil close xs) (one token x) ≡ waiting token (InUntil close ys)
   unfolding given then_plan
   one_in_until token close xs ys x h e =
-      space_given setting frames token (items_after setting close (attempt_in setting frames) (xs ++ x ∷ []))
-      (undotted (λ m. completed setting (length frames) call false false m)) at cs
-      ∙ space_moves setting token _ (between setting (framed_by call (InUntil close (xs ++ x ∷ [])) ∷ frames)) at cs h
-      (λ at2 cs2 le. until_is setting frames call close (xs ++ x ∷ []) at2 cs2 le)
+      space_given setting stack token (items_after setting close (attempt_in setting stack) (xs ++ x ∷ []))
+      (undotted (λ m. completed setting (length stack) call false false m)) at cs
+      ∙ space_moves setting token _ (between setting (framed_by call (InUntil close (xs ++ x ∷ [])) ∷ stack)) at cs h
+      (λ at2 cs2 le. until_is setting stack call close (xs ++ x ∷ []) at2 cs2 le)
       ∙ ap (λ (ys : List Object). waiting token (InUntil close ys)) (sym e)
 
   -- ---- what the call makes of it
@@ -174,19 +174,19 @@ some_same x y e = cc
 
 module _ (setting : Setting) (at : ℕ) (cs : List ℕ) where
   abbrev found_in : List Frame → Found → Read Found
-  found_in frames found = run setting.table setting.limits (given setting frames (gives found)) at cs
+  found_in stack found = run setting.table setting.limits (given setting stack (gives found)) at cs
 
   -- discarded text changes nothing
-  pub nothing_there : (frames : List Frame) (token : Bool) (found : Found) → found ≡ nothing token → 0 < length frames → found_in frames found ≡ next_item_gives setting token frames at cs
+  pub nothing_there : (stack : List Frame) (token : Bool) (found : Found) → found ≡ nothing token → 0 < length stack → found_in stack found ≡ next_item_gives setting token stack at cs
   nothing_there [] token found e some = absurd (omega (arith, some))
   nothing_there (f ∷ fs) token found e some = ap (found_in (f ∷ fs)) e ∙ nothing_stays setting fs f.call at cs token f.part
 
-  pub end_there : (frames : List Frame) (found : Found) → found ≡ the_end → 0 < length frames → found_in frames found ≡ fault END_OF_FILE at
+  pub end_there : (stack : List Frame) (found : Found) → found ≡ the_end → 0 < length stack → found_in stack found ≡ fault END_OF_FILE at
   end_there [] found e some = absurd (omega (arith, some))
   end_there (f ∷ fs) found e some = ap (found_in (f ∷ fs)) e ∙ end_fails setting fs f.call at cs f.part
 
-  pub object_goes_on : (frames after : List Frame) (token : Bool) (x : Object) → at ≤ setting.limits.text → calls_with frames (one token x) ≡ Some after
-      → found_in frames (one token x) ≡ next_item_gives setting token after at cs
+  pub object_goes_on : (stack after : List Frame) (token : Bool) (x : Object) → at ≤ setting.limits.text → calls_with stack (one token x) ≡ Some after
+      → found_in stack (one token x) ≡ next_item_gives setting token after at cs
   object_goes_on [] after token x h e = cc
   object_goes_on (f ∷ fs) after token x h e = by (with_object f.part x) refl
     where
@@ -199,8 +199,8 @@ module _ (setting : Setting) (at : ℕ) (cs : List ℕ) where
           object_taken setting fs f.call at cs token x f.part new h n
           ∙ ap (λ (gs : List Frame). next_item_gives setting token gs at cs) (some_same (calls new) after (sym (ap (option_map calls) n) ∙ e))
 
-  pub object_stops : (frames : List Frame) (token : Bool) (x : Object) → 0 < length frames → calls_with frames (one token x) ≡ None → is_waiting frames ≡ false
-      → found_in frames (one token x) ≡ fault DOT_CONTEXT at
+  pub object_stops : (stack : List Frame) (token : Bool) (x : Object) → 0 < length stack → calls_with stack (one token x) ≡ None → is_waiting stack ≡ false
+      → found_in stack (one token x) ≡ fault DOT_CONTEXT at
   object_stops [] token x some e other = absurd (omega (arith, some))
   object_stops (f ∷ fs) token x some e other = by (with_object f.part x) refl
     where
@@ -211,7 +211,7 @@ module _ (setting : Setting) (at : ℕ) (cs : List ℕ) where
       by None n = object_refused setting fs f.call at cs token x f.part n other
       by (Some new) n = let never : Some (calls new) ≡ None = sym (ap (option_map calls) n) ∙ e in cc
 
-  pub dot_goes_on : (frames after : List Frame) → calls_with frames lone_dot ≡ Some after → found_in frames lone_dot ≡ next_item_gives setting false after at cs
+  pub dot_goes_on : (stack after : List Frame) → calls_with stack lone_dot ≡ Some after → found_in stack lone_dot ≡ next_item_gives setting false after at cs
   dot_goes_on [] after e = cc
   dot_goes_on (f ∷ fs) after e = by (with_dot f.part) refl
     where
@@ -224,7 +224,7 @@ module _ (setting : Setting) (at : ℕ) (cs : List ℕ) where
           dot_taken setting fs f.call at cs f.part new n
           ∙ ap (λ (gs : List Frame). next_item_gives setting false gs at cs) (some_same (calls new) after (sym (ap (option_map calls) n) ∙ e))
 
-  pub dot_stops : (frames : List Frame) → 0 < length frames → calls_with frames lone_dot ≡ None → found_in frames lone_dot ≡ fault DOT_CONTEXT at
+  pub dot_stops : (stack : List Frame) → 0 < length stack → calls_with stack lone_dot ≡ None → found_in stack lone_dot ≡ fault DOT_CONTEXT at
   dot_stops [] some e = absurd (omega (arith, some))
   dot_stops (f ∷ fs) some e = by (with_dot f.part) refl
     where
@@ -236,23 +236,23 @@ module _ (setting : Setting) (at : ℕ) (cs : List ℕ) where
       by (Some new) n = let never : Some (calls new) ≡ None = sym (ap (option_map calls) n) ∙ e in cc
 
   -- it waited for its one object
-  pub next_comes : (old frames : List Frame) (call : InvokedCall) (token : Bool) (x y : Object) (depth : ℕ) (done : Completed) (received : Received) → old ≡ record { call = call; part = InNext } ∷ frames
-      → depth ≡ length frames → y ≡ x → completed setting depth call token token (one_object y) ≡ plan_of done
-      → Takes setting frames at cs received (run setting.table setting.limits (given setting frames (plan_of done)) at cs)
-      → Takes setting frames at cs received (found_in old (one token x))
-  next_comes old frames call token x y depth done received is open_calls same comes takes =
-      let whole : found_in old (one token x) ≡ run setting.table setting.limits (given setting frames (plan_of done)) at cs =
-      ap (λ (fs : List Frame). found_in fs (one token x)) is ∙ one_in_next setting frames call at cs token x
-      ∙ ap (λ (plan : Plan Found). run setting.table setting.limits (given setting frames plan) at cs)
+  pub next_comes : (old stack : List Frame) (call : InvokedCall) (token : Bool) (x y : Object) (depth : ℕ) (done : Completed) (received : Received) → old ≡ record { call = call; part = InNext } ∷ stack
+      → depth ≡ length stack → y ≡ x → completed setting depth call token token (one_object y) ≡ plan_of done
+      → Takes setting stack at cs received (run setting.table setting.limits (given setting stack (plan_of done)) at cs)
+      → Takes setting stack at cs received (found_in old (one token x))
+  next_comes old stack call token x y depth done received is open_calls same comes takes =
+      let whole : found_in old (one token x) ≡ run setting.table setting.limits (given setting stack (plan_of done)) at cs =
+      ap (λ (fs : List Frame). found_in fs (one token x)) is ∙ one_in_next setting stack call at cs token x
+      ∙ ap (λ (plan : Plan Found). run setting.table setting.limits (given setting stack plan) at cs)
       ((λ i. completed setting (sym open_calls i) call token token (one_object (sym same i))) ∙ comes) in
-      subst (λ (r : Read Found). Takes setting frames at cs received r) (sym whole) takes
+      subst (λ (r : Read Found). Takes setting stack at cs received r) (sym whole) takes
 
-  pub found_dot : (frames after : List Frame) (found : Found) (received : Received) → found ≡ lone_dot → Takes setting after at cs received (found_in frames lone_dot)
-      → Takes setting after at cs received (found_in frames found)
-  found_dot frames after found received e takes = subst (λ (f : Found). Takes setting after at cs received (found_in frames f)) (sym e) takes
+  pub found_dot : (stack after : List Frame) (found : Found) (received : Received) → found ≡ lone_dot → Takes setting after at cs received (found_in stack lone_dot)
+      → Takes setting after at cs received (found_in stack found)
+  found_dot stack after found received e takes = subst (λ (f : Found). Takes setting after at cs received (found_in stack f)) (sym e) takes
 
 -- as many calls are open
-pub as_many : (frames after : List Frame) (found : Found) → calls_with frames found ≡ Some after → length after ≡ length frames
+pub as_many : (stack after : List Frame) (found : Found) → calls_with stack found ≡ Some after → length after ≡ length stack
 as_many [] after found e = cc
 as_many (f ∷ fs) after found e = by (with_found f.part found) refl
   where
@@ -263,28 +263,28 @@ as_many (f ∷ fs) after found e = by (with_found f.part found) refl
     by None n = let never : None ≡ Some after = sym (ap (option_map calls) n) ∙ e in cc
     by (Some new) n = ap length (sym (some_same (calls new) after (sym (ap (option_map calls) n) ∙ e)))
 
-pub stays_open : (frames after : List Frame) (found : Found) (token : Bool) → calls_with frames found ≡ Some after → Shortens frames after (Stays token)
-stays_open frames after found token e = let many : length after ≡ length frames = as_many frames after found e in omega (arith, many)
+pub stays_open : (stack after : List Frame) (found : Found) (token : Bool) → calls_with stack found ≡ Some after → Shortens stack after (Stays token)
+stays_open stack after found token e = let many : length after ≡ length stack = as_many stack after found e in omega (arith, many)
 
 -- the innermost ended
-pub fewer_open : (frames after : List Frame) (received : Received) → length after < length frames → Shortens frames after received
-fewer_open frames after (Stays token) less = omega (arith, less)
-fewer_open frames after (ReceivedGives found) less = less
-fewer_open frames after (ReceivedRefused code offset) less = omega (arith, less)
+pub fewer_open : (stack after : List Frame) (received : Received) → length after < length stack → Shortens stack after received
+fewer_open stack after (Stays token) less = omega (arith, less)
+fewer_open stack after (ReceivedGives found) less = less
+fewer_open stack after (ReceivedRefused code offset) less = omega (arith, less)
 
 -- ---- call after call
 
-pub none_left : (setting : Setting) (old frames : List Frame) (x found : Found) (at : ℕ) (cs : List ℕ)
-    → ((cs : List ℕ) → run setting.table setting.limits (given setting old (gives x)) at cs ≡ run setting.table setting.limits (given setting frames (gives found)) at cs)
-    → frames ≡ [] → run setting.table setting.limits (given setting old (gives x)) at cs ≡ Ok (found, at, cs)
+pub none_left : (setting : Setting) (old stack : List Frame) (x found : Found) (at : ℕ) (cs : List ℕ)
+    → ((cs : List ℕ) → run setting.table setting.limits (given setting old (gives x)) at cs ≡ run setting.table setting.limits (given setting stack (gives found)) at cs)
+    → stack ≡ [] → run setting.table setting.limits (given setting old (gives x)) at cs ≡ Ok (found, at, cs)
 unfolding given run
-none_left setting old frames x found at cs before none =
+none_left setting old stack x found at cs before none =
     before cs ∙ ap (λ (fs : List Frame). run setting.table setting.limits (given setting fs (gives found)) at cs) none
 
 -- the outermost attempt came to this
-pub done_told : (setting : Setting) (frames : List Frame) (at : ℕ) (cs : List ℕ) (read : Read Found) (delivered : Delivered) (found : Found) → delivered ≡ Done found
-    → Delivers setting frames at cs delivered read → (read ≡ Ok (found, at, cs)) × (frames ≡ [])
-done_told setting frames at cs read delivered found e h = subst (λ (d : Delivered). Delivers setting frames at cs d read) e h
+pub done_told : (setting : Setting) (stack : List Frame) (at : ℕ) (cs : List ℕ) (read : Read Found) (delivered : Delivered) (found : Found) → delivered ≡ Done found
+    → Delivers setting stack at cs delivered read → (read ≡ Ok (found, at, cs)) × (stack ≡ [])
+done_told setting stack at cs read delivered found e h = subst (λ (d : Delivered). Delivers setting stack at cs d read) e h
 
 -- what was found before the byte is passed on
 pub before_passes : (setting : Setting) (after last : List Frame) (at c : ℕ) (cs : List ℕ) (moved : Moved) (event : Event) (found : Found) (read : Read Found) (result : Result Passed AllocError)
@@ -296,6 +296,6 @@ before_passes setting after last at c cs moved event found read result e is move
     subst (λ (r : Read Found). IfOk result (λ passed. Passes setting last at c cs passed r)) (sym told) passes
 
 -- a byte that was taken
-pub taken_brings : (setting : Setting) (frames : List Frame) (at c : ℕ) (cs : List ℕ) (passed : Passed) (event : Event) (read : Read Found) → passed ≡ PassedBrings event
-    → Passes setting frames at c cs passed read → Brings setting frames (at + 1) cs event read
-taken_brings setting frames at c cs passed event read e passes = subst (λ (p : Passed). Passes setting frames at c cs p read) e passes
+pub taken_brings : (setting : Setting) (stack : List Frame) (at c : ℕ) (cs : List ℕ) (passed : Passed) (event : Event) (read : Read Found) → passed ≡ PassedBrings event
+    → Passes setting stack at c cs passed read → Brings setting stack (at + 1) cs event read
+taken_brings setting stack at c cs passed event read e passes = subst (λ (p : Passed). Passes setting stack at c cs p read) e passes

@@ -23,5 +23,5 @@ completed_lookahead (Refused number back) = 0
 
 -- a call comes to this in these open calls
 abbrev pub ComesTo : Setting → List Frame → Completed → ℕ → List ℕ → Event → Type 0
-ComesTo setting frames completed at cs event =
-    Brings setting frames at cs event (plan_gives setting frames (plan_of completed) at cs)
+ComesTo setting stack completed at cs event =
+    Brings setting stack at cs event (plan_gives setting stack (plan_of completed) at cs)

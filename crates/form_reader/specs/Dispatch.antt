@@ -19,10 +19,10 @@ reads_objects _ = false
 
 -- a call begins in these open calls, after which there are those
 abbrev pub Begins : Setting → List Frame → List Frame → InvokedCall → ℕ → List ℕ → Event → Type 0
-Begins setting after frames call at cs event =
-    Brings setting after at cs event (plan_gives setting frames (called setting (length frames) (inner_at setting (length frames)) call) at cs)
+Begins setting after stack call at cs event =
+    Brings setting after at cs event (plan_gives setting stack (called setting (length stack) (inner_at setting (length stack)) call) at cs)
 
 -- it gathers in this way
 abbrev pub Gathers : Setting → List Frame → List Frame → InvokedCall → Way → ℕ → List ℕ → Event → Type 0
-Gathers setting after frames call way at cs event =
-    Brings setting after at cs event (plan_gives setting frames (gathered setting (length frames) (inner_at setting (length frames)) call way) at cs)
+Gathers setting after stack call way at cs event =
+    Brings setting after at cs event (plan_gives setting stack (gathered setting (length stack) (inner_at setting (length stack)) call way) at cs)

@@ -58,13 +58,13 @@ DecideNothing setting bytes =
 pub record IsNew (reader : FormReader) : Type 0 where
   pub start : reader.start ≡ 0
   pub at : reader.at ≡ 0
-  pub frames : reader.frames ≡ []
+  pub stack : reader.stack ≡ []
   pub state : reader.state ≡ Open AtObject
 
 -- It is between forms: nothing is open, and no attempt at an object has taken a byte.
 pub record IsBetween (reader : FormReader) : Type 0 where
   pub at : reader.at ≡ 0
-  pub frames : reader.frames ≡ []
+  pub stack : reader.stack ≡ []
   pub state : reader.state ≡ Open AtObject
 
 -- after a form it is between forms
@@ -77,7 +77,7 @@ LeavesBetween new _ = Unit {0}
 abbrev pub IsAfterIn : Setting → FormReader → ReaderState → List ℕ → Type 0
 IsAfterIn setting reader (Open position) bytes =
     (fed reader ≡ length bytes)
-    × ((cs : List ℕ) → reads setting (bytes ++ cs) ≡ rest_of setting reader.frames position reader.start reader.at cs)
+    × ((cs : List ℕ) → reads setting (bytes ++ cs) ≡ rest_of setting reader.stack position reader.start reader.at cs)
 IsAfterIn setting reader (Refused number offset) bytes = (cs : List ℕ) → reads setting (bytes ++ cs) ≡ refused number offset
 IsAfterIn setting reader OutOfMemory bytes = ⊥
 
@@ -149,10 +149,10 @@ IsSoundStep _ = Unit {0}
 -- what a change makes of a reader, and what is answered
 abbrev pub Becomes : Change → FormReader → FormReader → Advance → Type 0
 Becomes (Goes start at position) old new step =
-    (step ≡ AdvanceMore) × (new.start ≡ start) × (new.at ≡ at) × (new.frames ≡ old.frames) × (new.state ≡ Open position)
+    (step ≡ AdvanceMore) × (new.start ≡ start) × (new.at ≡ at) × (new.stack ≡ old.stack) × (new.state ≡ Open position)
 Becomes (ChangeForm x start «end» next) old new (AdvanceForm datum s e n) =
     (object_of datum ≡ x) × (is_proper datum ≡ true) × (s ≡ start) × (e ≡ «end») × (n ≡ next)
-    × (new.start ≡ 0) × (new.at ≡ 0) × (new.frames ≡ old.frames) × (new.state ≡ Open AtObject)
+    × (new.start ≡ 0) × (new.at ≡ 0) × (new.stack ≡ old.stack) × (new.state ≡ Open AtObject)
 Becomes (ChangeForm x start «end» next) old new _ = ⊥
 Becomes (ChangeRefused number offset) old new step =
     (step ≡ AdvanceRefused number offset) × (new.state ≡ Refused number offset) × (new.start ≡ old.start) × (new.at ≡ old.at)

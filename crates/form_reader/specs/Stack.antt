@@ -22,9 +22,9 @@ close_of (InUntil close xs) = Some close
 close_of (InDotted xs) = Some 41
 close_of (InTailed xs tail) = Some 41
 
-abbrev pub close_of_frames : List Frame → Option ℕ
-close_of_frames [] = None
-close_of_frames (f ∷ fs) = close_of f.part
+abbrev pub close_of_stack : List Frame → Option ℕ
+close_of_stack [] = None
+close_of_stack (f ∷ fs) = close_of f.part
 
 -- this character is the one
 abbrev pub is_closed_by : Option ℕ → ℕ → Bool
@@ -33,7 +33,7 @@ is_closed_by (Some close) c = c == close
 
 -- this character is not the closing one of the innermost call, if that looks for one
 abbrev pub IsNoClose : ℕ → List Frame → Type 0
-IsNoClose c frames = (close : ℕ) → close_of_frames frames ≡ Some close → (c == close) ≡ false
+IsNoClose c stack = (close : ℕ) → close_of_stack stack ≡ Some close → (c == close) ≡ false
 
 -- ---- what the innermost call takes, where it goes on as the same call
 
@@ -90,13 +90,13 @@ part_gives setting depth attempt call (InTailed xs tail) p = after_tail (λ m. c
 
 -- the attempts in a call that is open in these
 abbrev pub attempt_in : Setting → List Frame → Plan Found
-attempt_in setting frames = attempt setting (setting.limits.nesting - (length frames + 1))
+attempt_in setting stack = attempt setting (setting.limits.nesting - (length stack + 1))
 
 abbrev pub next_item_in : Setting → Frame → List Frame → Plan Piece
-next_item_in setting f frames = next_item setting (close_of f.part) (attempt_in setting frames)
+next_item_in setting f stack = next_item setting (close_of f.part) (attempt_in setting stack)
 
 abbrev pub call_in : Setting → Frame → List Frame → Piece → Plan Found
-call_in setting f frames p = part_gives setting (length frames) (attempt_in setting frames) f.call f.part p
+call_in setting f stack p = part_gives setting (length stack) (attempt_in setting stack) f.call f.part p
 
 -- what the outermost attempt comes to, if the attempt in the innermost call comes to this
 unfoldable pub given : Setting → List Frame → Plan Found → Plan Found
@@ -113,14 +113,14 @@ between setting (f ∷ fs) = given setting fs (then_plan (next_item_in setting f
 
 -- if the attempt in the innermost call comes to this
 abbrev pub plan_gives : Setting → List Frame → Plan Found → ℕ → List ℕ → Read Found
-plan_gives setting frames plan at cs = run setting.table setting.limits (given setting frames plan) at cs
+plan_gives setting stack plan at cs = run setting.table setting.limits (given setting stack plan) at cs
 
 -- where an object may begin: where a token ended before it, one whitespace character is discarded first
 abbrev pub next_item_gives : Setting → Bool → List Frame → ℕ → List ℕ → Read Found
-next_item_gives setting token frames at cs = run setting.table setting.limits (without_space setting.table token (between setting frames)) at cs
+next_item_gives setting token stack at cs = run setting.table setting.limits (without_space setting.table token (between setting stack)) at cs
 
 -- ---- a token, whose bytes are not kept: what is given where it has come to this
 
 abbrev pub token_goes_on : Setting → List Frame → (List Mark → Plan Found) → Read (List Mark) → Read Found
-token_goes_on setting frames on (Ok p) = plan_gives setting frames (on p.0) p.1 p.2
-token_goes_on setting frames on (Err e) = Err e
+token_goes_on setting stack on (Ok p) = plan_gives setting stack (on p.0) p.1 p.2
+token_goes_on setting stack on (Err e) = Err e

@@ -30,26 +30,26 @@ inner_at setting open_calls = inner setting (setting.limits.nesting - open_calls
 
 -- what the outermost attempt comes to, at an offset counted from where it began
 abbrev pub position_gives : Setting → List Frame → Position → ℕ → List ℕ → Read Found
-position_gives setting frames AtObject at cs = run setting.table setting.limits (between setting frames) at cs
-position_gives setting frames (AtToken scan) at cs =
-    token_goes_on setting frames (token_found setting) (token_read setting.table setting.limits scan at cs)
-position_gives setting frames (AtCallToken call scan) at cs =
-    token_goes_on setting frames (λ marks. completed setting (length frames) call true false (marked marks))
+position_gives setting stack AtObject at cs = run setting.table setting.limits (between setting stack) at cs
+position_gives setting stack (AtToken scan) at cs =
+    token_goes_on setting stack (token_found setting) (token_read setting.table setting.limits scan at cs)
+position_gives setting stack (AtCallToken call scan) at cs =
+    token_goes_on setting stack (λ marks. completed setting (length stack) call true false (marked marks))
     (token_read setting.table setting.limits scan at cs)
-position_gives setting frames (AtText call terminator text) at cs =
-    plan_gives setting frames (then_plan (text_to setting terminator text)
-    (λ cs. completed setting (length frames) call false false (letters cs))) at cs
-position_gives setting frames (AtEscaped call terminator text) at cs =
-    plan_gives setting frames (then_plan (next_byte (λ d. text_to setting terminator (text ++ d ∷ [])))
-    (λ cs. completed setting (length frames) call false false (letters cs))) at cs
-position_gives setting frames (AtLine call text) at cs =
-    plan_gives setting frames (then_plan (line_after setting (keep_of call.function) text)
-    (λ cs. completed setting (length frames) call false false (letters cs))) at cs
-position_gives setting frames (AtBlock call levels) at cs =
-    plan_gives setting frames (then_plan (block_after setting levels)
-    (λ u. completed setting (length frames) call false false no_material)) at cs
-position_gives setting frames (AtNumber c number) at cs =
-    plan_gives setting frames (dispatched setting (length frames) (inner_at setting (length frames)) c number) at cs
+position_gives setting stack (AtText call terminator text) at cs =
+    plan_gives setting stack (then_plan (text_to setting terminator text)
+    (λ cs. completed setting (length stack) call false false (letters cs))) at cs
+position_gives setting stack (AtEscaped call terminator text) at cs =
+    plan_gives setting stack (then_plan (next_byte (λ d. text_to setting terminator (text ++ d ∷ [])))
+    (λ cs. completed setting (length stack) call false false (letters cs))) at cs
+position_gives setting stack (AtLine call text) at cs =
+    plan_gives setting stack (then_plan (line_after setting (keep_of call.function) text)
+    (λ cs. completed setting (length stack) call false false (letters cs))) at cs
+position_gives setting stack (AtBlock call levels) at cs =
+    plan_gives setting stack (then_plan (block_after setting levels)
+    (λ u. completed setting (length stack) call false false no_material)) at cs
+position_gives setting stack (AtNumber c number) at cs =
+    plan_gives setting stack (dispatched setting (length stack) (inner_at setting (length stack)) c number) at cs
 
 -- What holds of where it is, at this offset: a token is not refused, and each block inside a block took a byte.
 abbrev pub IsPositionAt : ℕ → Position → Type 0
@@ -60,14 +60,14 @@ IsPositionAt at _ = Unit {0}
 
 -- what was read is what this brings
 abbrev pub Brings : Setting → List Frame → ℕ → List ℕ → Event → Read Found → Type 0
-Brings setting frames at cs (IsAt position) read = read ≡ position_gives setting frames position at cs
-Brings setting frames at cs (IsGiven found) read = read ≡ plan_gives setting frames (gives found) at cs
-Brings setting frames at cs (IsRefused number offset) read = read ≡ fault number offset
+Brings setting stack at cs (IsAt position) read = read ≡ position_gives setting stack position at cs
+Brings setting stack at cs (IsGiven found) read = read ≡ plan_gives setting stack (gives found) at cs
+Brings setting stack at cs (IsRefused number offset) read = read ≡ fault number offset
 
 -- the same before the byte at this offset
 abbrev pub Moves : Setting → List Frame → ℕ → ℕ → List ℕ → Moved → Read Found → Type 0
-Moves setting frames at c cs (AfterByte event) read = Brings setting frames (at + 1) cs event read
-Moves setting frames at c cs (BeforeByte event) read = Brings setting frames at (c ∷ cs) event read
+Moves setting stack at c cs (AfterByte event) read = Brings setting stack (at + 1) cs event read
+Moves setting stack at c cs (BeforeByte event) read = Brings setting stack at (c ∷ cs) event read
 
 -- a token is not refused, and each block inside a block took a byte
 abbrev pub is_position_at : ℕ → Position → Bool
@@ -78,9 +78,9 @@ is_position_at at _ = true
 
 -- The offset and the open calls are within the limits. After a refusal, or out of memory, nothing is asked.
 abbrev pub is_standing : Limits → List Frame → ℕ → ReaderState → Bool
-is_standing limits frames at (Open position) = nat_le at limits.text && (nat_le (length frames) limits.nesting && is_position_at at position)
-is_standing limits frames at (Refused number offset) = true
-is_standing limits frames at OutOfMemory = true
+is_standing limits stack at (Open position) = nat_le at limits.text && (nat_le (length stack) limits.nesting && is_position_at at position)
+is_standing limits stack at (Refused number offset) = true
+is_standing limits stack at OutOfMemory = true
 
 -- one character, where a token ended
 abbrev pub space : Bool → ℕ

@@ -18,7 +18,7 @@ use Rattle.form_reader.specs.declared.step.object.Passed.TheVariants.{Brings as 
 use Rattle.form_reader.specs.declared.step.in_place.InPlace.{InPlace}
 use Rattle.form_reader.specs.declared.step.in_place.InPlace.TheVariants.{GoesOn, Passed as PassedOver, Left, Refused as RefusedInPlace}
 use Rattle.token_scan.specs.Scans.{Scan}
-use Rattle.form_reader.specs.Stack.{close_of_frames, is_closed_by}
+use Rattle.form_reader.specs.Stack.{close_of_stack, is_closed_by}
 use Rattle.form_reader.specs.Token.{is_going}
 use Rattle.lisp_reading.specs.declared.found.Found.TheVariants.{Nothing as nothing}
 
@@ -28,36 +28,36 @@ outcome_of setting start read = outcome setting.table start (λ next cs. reads_a
 
 -- the same, where the attempt is at this position, so many bytes after it began, and these bytes follow
 abbrev pub rest_of : Setting → List Frame → Position → ℕ → ℕ → List ℕ → Outcome
-rest_of setting frames position start at cs = outcome_of setting start (position_gives setting frames position at cs)
+rest_of setting stack position start at cs = outcome_of setting start (position_gives setting stack position at cs)
 
 -- what a byte brings, after the open calls took what was found
 abbrev pub Settles : Setting → List Frame → ℕ → List ℕ → Settled → Read Found → Type 0
-Settles setting frames at cs (SettledOpen position) read = read ≡ position_gives setting frames position at cs
-Settles setting frames at cs (SettledDone found) read = (read ≡ Ok (found, at, cs)) × (frames ≡ [])
-Settles setting frames at cs (SettledRefused number offset) read = read ≡ fault number offset
+Settles setting stack at cs (SettledOpen position) read = read ≡ position_gives setting stack position at cs
+Settles setting stack at cs (SettledDone found) read = (read ≡ Ok (found, at, cs)) × (stack ≡ [])
+Settles setting stack at cs (SettledRefused number offset) read = read ≡ fault number offset
 
 -- What a change is to the outcome: more bytes decide it, or it is a form, or a refusal.
 abbrev pub ChangesTo : Setting → List Frame → List ℕ → Change → Outcome → Type 0
-ChangesTo setting frames cs (Goes start at position) o = o ≡ rest_of setting frames position start at cs
-ChangesTo setting frames cs (Form x start «end» next) o = (o ≡ form x start «end» next) × (frames ≡ [])
-ChangesTo setting frames cs (Refused number offset) o = o ≡ refused number offset
+ChangesTo setting stack cs (Goes start at position) o = o ≡ rest_of setting stack position start at cs
+ChangesTo setting stack cs (Form x start «end» next) o = (o ≡ form x start «end» next) × (stack ≡ [])
+ChangesTo setting stack cs (Refused number offset) o = o ≡ refused number offset
 
 -- where a reader may be in a form, so many bytes after it began
-pub record IsStanding (limits : Limits) (frames : List Frame) (position : Position) (at : ℕ) : Type 0 where
+pub record IsStanding (limits : Limits) (stack : List Frame) (position : Position) (at : ℕ) : Type 0 where
   pub within : at ≤ limits.text
-  pub nesting : length frames ≤ limits.nesting
+  pub nesting : length stack ≤ limits.nesting
   pub levels : IsPositionAt at position
 
 -- after so many bytes of the text
 abbrev pub IsReadyChange : Limits → List Frame → ℕ → Change → Type 0
-IsReadyChange limits frames count (Goes start at position) = IsStanding limits frames position at × (start + at ≡ count)
-IsReadyChange limits frames count (Form x start «end» next) = (next ≤ count) × (count ≤ next + 1) × (length frames ≤ limits.nesting)
-IsReadyChange limits frames count (Refused number offset) = offset ≤ count
+IsReadyChange limits stack count (Goes start at position) = IsStanding limits stack position at × (start + at ≡ count)
+IsReadyChange limits stack count (Form x start «end» next) = (next ≤ count) × (count ≤ next + 1) × (length stack ≤ limits.nesting)
+IsReadyChange limits stack count (Refused number offset) = offset ≤ count
 
 abbrev pub IsReadySettled : Limits → List Frame → ℕ → Settled → Type 0
-IsReadySettled limits frames at (SettledOpen position) = IsStanding limits frames position at
-IsReadySettled limits frames at (SettledDone found) = (lookahead found ≡ 0) × (length frames ≤ limits.nesting)
-IsReadySettled limits frames at (SettledRefused number offset) = offset ≤ at
+IsReadySettled limits stack at (SettledOpen position) = IsStanding limits stack position at
+IsReadySettled limits stack at (SettledDone found) = (lookahead found ≡ 0) × (length stack ≤ limits.nesting)
+IsReadySettled limits stack at (SettledRefused number offset) = offset ≤ at
 
 -- what is open after it, or the object of the form, began at this offset or later
 abbrev pub BeginsFrom : ℕ → Change → Type 0
@@ -67,15 +67,15 @@ BeginsFrom from (Refused number offset) = Unit {0}
 
 -- where the attempt that is open has no byte, nothing is open
 abbrev pub BeginsAnew : List Frame → Change → Type 0
-BeginsAnew frames (Goes start at position) = at ≡ 0 → (frames ≡ []) × (position ≡ AtObject)
-BeginsAnew frames (Form x start «end» next) = Unit {0}
-BeginsAnew frames (Refused number offset) = Unit {0}
+BeginsAnew stack (Goes start at position) = at ≡ 0 → (stack ≡ []) × (position ≡ AtObject)
+BeginsAnew stack (Form x start «end» next) = Unit {0}
+BeginsAnew stack (Refused number offset) = Unit {0}
 
 -- What a byte is to them after what was found before it: it is taken, and brings this; or the outermost attempt came to this
 -- before it.
 abbrev pub Passes : Setting → List Frame → ℕ → ℕ → List ℕ → Passed → Read Found → Type 0
-Passes setting frames at c cs (PassedBrings event) read = Brings setting frames (at + 1) cs event read
-Passes setting frames at c cs (PassedDone found) read = (read ≡ Ok (found, at, c ∷ cs)) × (frames ≡ [])
+Passes setting stack at c cs (PassedBrings event) read = Brings setting stack (at + 1) cs event read
+Passes setting stack at c cs (PassedDone found) read = (read ≡ Ok (found, at, c ∷ cs)) × (stack ≡ [])
 
 abbrev pub IsReadyPass : Limits → ℕ → Passed → Type 0
 IsReadyPass limits at (PassedBrings event) = IsReady limits (at + 1) event
@@ -84,22 +84,22 @@ IsReadyPass limits at (PassedDone found) = lookahead found ≤ 1
 -- the byte at this offset is taken, and what is given is what the new position gives after it; or it is passed over, and what is
 -- read is what is read of a new attempt after it; or nothing has changed; or the byte is refused where it is
 abbrev pub FeedsInPlace : Setting → List Frame → ℕ → ℕ → List ℕ → Position → Position → InPlace → Type 0
-FeedsInPlace setting frames at c cs old new GoesOn = position_gives setting frames old at (c ∷ cs) ≡ position_gives setting frames new (at + 1) cs
-FeedsInPlace setting frames at c cs old new PassedOver =
-    (start : ℕ) → rest_of setting frames old start at (c ∷ cs) ≡ rest_of setting frames new (start + (at + 1)) 0 cs
-FeedsInPlace setting frames at c cs old new Left = new ≡ old
-FeedsInPlace setting frames at c cs old new (RefusedInPlace number) = position_gives setting frames old at (c ∷ cs) ≡ fault number at
+FeedsInPlace setting stack at c cs old new GoesOn = position_gives setting stack old at (c ∷ cs) ≡ position_gives setting stack new (at + 1) cs
+FeedsInPlace setting stack at c cs old new PassedOver =
+    (start : ℕ) → rest_of setting stack old start at (c ∷ cs) ≡ rest_of setting stack new (start + (at + 1)) 0 cs
+FeedsInPlace setting stack at c cs old new Left = new ≡ old
+FeedsInPlace setting stack at c cs old new (RefusedInPlace number) = position_gives setting stack old at (c ∷ cs) ≡ fault number at
 
 -- The byte at this offset is whitespace that is discarded where an object may begin: it is below the limit of the text, and not
 -- the closing character that is looked for.
 abbrev pub is_space : Setting → List Frame → Position → ℕ → ℕ → Bool
-is_space setting frames AtObject at c =
-    nat_lt at setting.limits.text && (is_whitespace setting.table c && not (is_closed_by (close_of_frames frames) c))
-is_space setting frames _ at c = false
+is_space setting stack AtObject at c =
+    nat_lt at setting.limits.text && (is_whitespace setting.table c && not (is_closed_by (close_of_stack stack) c))
+is_space setting stack _ at c = false
 
 -- a token begins at the byte at this offset, where an object may begin
 abbrev pub BeginsToken : Setting → List Frame → ℕ → ℕ → List ℕ → Scan → Type 0
-BeginsToken setting frames at c cs scan = position_gives setting frames AtObject at (c ∷ cs) ≡ position_gives setting frames (AtToken scan) (at + 1) cs
+BeginsToken setting stack at c cs scan = position_gives setting stack AtObject at (c ∷ cs) ≡ position_gives setting stack (AtToken scan) (at + 1) cs
 
 -- such a token goes on after the byte at this offset, which is below the limit of the text
 abbrev pub IsBegunAt : Limits → ℕ → Scan → Type 0
@@ -107,7 +107,7 @@ IsBegunAt limits at scan = (at < limits.text) × IsTrue (is_going scan.stage)
 
 -- the byte at this offset is discarded, where an object may begin
 abbrev pub Stays : Setting → List Frame → ℕ → ℕ → List ℕ → Type 0
-Stays setting frames at c cs = position_gives setting frames AtObject at (c ∷ cs) ≡ position_gives setting frames AtObject (at + 1) cs
+Stays setting stack at c cs = position_gives setting stack AtObject at (c ∷ cs) ≡ position_gives setting stack AtObject (at + 1) cs
 
 -- where the reader may be after it
 abbrev pub IsReadyInPlace : Limits → ℕ → Position → InPlace → Type 0
@@ -135,14 +135,14 @@ FollowsNothing found (Form x start «end» next) = Unit {0}
 FollowsNothing found (Refused number offset) = Unit {0}
 
 -- An attempt that has so many bytes comes to nothing before this byte, which is not discarded where an attempt begins.
-pub record EndsBefore (setting : Setting) (frames : List Frame) (position : Position) (at c : ℕ) : Type 0 where
+pub record EndsBefore (setting : Setting) (stack : List Frame) (position : Position) (at c : ℕ) : Type 0 where
   pub token : Bool
-  pub found : (cs : List ℕ) → position_gives setting frames position at (c ∷ cs) ≡ Ok (nothing token, at, c ∷ cs)
+  pub found : (cs : List ℕ) → position_gives setting stack position at (c ∷ cs) ≡ Ok (nothing token, at, c ∷ cs)
   pub other : is_space setting [] AtObject 0 c ≡ false
 
 -- where the attempt began in which this byte is taken; or nothing is open; or at this byte, before which that attempt ended
 abbrev pub Starts : Setting → List Frame → Position → ℕ → ℕ → ℕ → Change → Type 0
-Starts setting frames position start at c (Goes next count there) =
-    (next ≡ start) ⊎ ((count ≡ 0) ⊎ ((next ≡ start + at) × EndsBefore setting frames position at c))
-Starts setting frames position start at c (Form x from «end» next) = Unit {0}
-Starts setting frames position start at c (Refused number offset) = Unit {0}
+Starts setting stack position start at c (Goes next count there) =
+    (next ≡ start) ⊎ ((count ≡ 0) ⊎ ((next ≡ start + at) × EndsBefore setting stack position at c))
+Starts setting stack position start at c (Form x from «end» next) = Unit {0}
+Starts setting stack position start at c (Refused number offset) = Unit {0}

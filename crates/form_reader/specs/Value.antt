@@ -14,21 +14,21 @@ use Rattle.form_reader.specs.State.{space, lookahead}
 -- What the innermost makes of it, after which these calls are open: it goes on, perhaps after one whitespace character; or it
 -- comes to this; or it is refused.
 abbrev pub Takes : Setting → List Frame → ℕ → List ℕ → Received → Read Found → Type 0
-Takes setting frames at cs (Stays token) read = read ≡ next_item_gives setting token frames at cs
-Takes setting frames at cs (Gives found) read = read ≡ plan_gives setting frames (gives found) at cs
-Takes setting frames at cs (ReceivedRefused number offset) read = read ≡ fault number offset
+Takes setting stack at cs (Stays token) read = read ≡ next_item_gives setting token stack at cs
+Takes setting stack at cs (Gives found) read = read ≡ plan_gives setting stack (gives found) at cs
+Takes setting stack at cs (ReceivedRefused number offset) read = read ≡ fault number offset
 
 -- No more calls are open after it, and fewer where the innermost ended.
 abbrev pub Shortens : List Frame → List Frame → Received → Type 0
-Shortens frames after (Stays token) = length after ≤ length frames
-Shortens frames after (Gives found) = length after < length frames
-Shortens frames after (ReceivedRefused number offset) = length after ≤ length frames
+Shortens stack after (Stays token) = length after ≤ length stack
+Shortens stack after (Gives found) = length after < length stack
+Shortens stack after (ReceivedRefused number offset) = length after ≤ length stack
 
 -- What all open calls make of it.
 abbrev pub Delivers : Setting → List Frame → ℕ → List ℕ → Delivered → Read Found → Type 0
-Delivers setting frames at cs (Waits token) read = read ≡ next_item_gives setting token frames at cs
-Delivers setting frames at cs (Done found) read = (read ≡ Ok (found, at, cs)) × (frames ≡ [])
-Delivers setting frames at cs (Refused number offset) read = read ≡ fault number offset
+Delivers setting stack at cs (Waits token) read = read ≡ next_item_gives setting token stack at cs
+Delivers setting stack at cs (Done found) read = (read ≡ Ok (found, at, cs)) × (stack ≡ [])
+Delivers setting stack at cs (Refused number offset) read = read ≡ fault number offset
 
 -- What open calls make of what is found at this offset: no more of the text matters to it.
 abbrev pub IsReceivedAt : ℕ → ℕ → Received → Type 0

@@ -192,8 +192,8 @@ fn user_gathered(alloc: Global, gathered: StdGathered) -> Result<Gathered, Alloc
 #[tactic(auto, using(crate::proofs::Dispatches::refused_is))]
 #[inline(always)]
 pub(crate) fn event_of(completed: Completed, at: usize) -> Event
-    ensures comes { (setting : Setting) (frames : List Frame) (cs : List ℕ)
-        → ComesTo setting frames completed at cs result }
+    ensures comes { (setting : Setting) (stack : List Frame) (cs : List ℕ)
+        → ComesTo setting stack completed at cs result }
     ensures ends { IsEnd (completed_lookahead completed) at result }
 {
     match completed {
@@ -215,9 +215,9 @@ pub(crate) fn ended<R: MacroFunctions>(
     requires answers { R.answers with.now.macros.now }
     requires proper { IsProperGathered gathered }
     ensures brings { let setting = setting R.functions with.now in
-        (frames : List Frame) (cs : List ℕ) → depth ≡ length frames
-        → IfOk result (λ event. Brings setting frames at cs event
-        (plan_gives setting frames (completed setting (length frames) call.now token false (view_gathered gathered)) at cs)) }
+        (stack : List Frame) (cs : List ℕ) → depth ≡ length stack
+        → IfOk result (λ event. Brings setting stack at cs event
+        (plan_gives setting stack (completed setting (length stack) call.now token false (view_gathered gathered)) at cs)) }
     ensures ends { IfOk result (IsEnd (space token) at) }
 {
     Ok(event_of(complete(with, depth, call, token, false, gathered)?, at))
@@ -236,9 +236,9 @@ pub(crate) fn close<R: MacroFunctions>(
     requires within { at ≤ with.now.limits.text }
     requires some { 0 < at }
     ensures brings { let setting = setting R.functions with.now in
-        (frames : List Frame) (cs : List ℕ) → depth ≡ length frames
-        → IfOk result (λ event. Brings setting frames at cs event
-        (plan_gives setting frames (call_in setting frame frames closed) at cs)) }
+        (stack : List Frame) (cs : List ℕ) → depth ≡ length stack
+        → IfOk result (λ event. Brings setting stack at cs event
+        (plan_gives setting stack (call_in setting frame stack closed) at cs)) }
     ensures ready { IfOk result (IsReady with.now.limits at) }
 {
     let Frame { call, part } = frame;

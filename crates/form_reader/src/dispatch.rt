@@ -13,7 +13,7 @@ ghost use Rattle.form_reader.specs.Dispatch.{Begins, Gathers, reads_objects};
 use crate::call::ended;
 use crate::context::Context;
 use crate::gather::{LineByte, number_byte};
-use crate::stack::{Frame, Frames, Part};
+use crate::stack::{Frame, Part, Stack};
 use crate::state::{Event, Position};
 use lisp_object::refusal::{
     FORM_TOO_LONG, INVALID_CHARACTER, NO_DISPATCH, OUT_OF_PROFILE, TOO_DEEP,
@@ -31,20 +31,20 @@ use user_macros::MacroFunctions;
 #[inline(always)]
 pub(crate) fn begin_macro<R: MacroFunctions>(
     with: &Context<'_, R>,
-    frames: &mut Frames,
+    stack: &mut Stack,
     c: u8,
     at: usize,
 ) -> Result<Event, AllocError>
     requires answers { R.answers with.now.macros.now }
     requires within { at ≤ with.now.limits.text }
     requires character { c < 128 }
-    requires nesting { length frames.old ≤ with.now.limits.nesting }
+    requires nesting { length stack.old ≤ with.now.limits.nesting }
     ensures brings { let setting = setting R.functions with.now in
-        (cs : List ℕ) → IfOk result (λ event. Brings setting frames.new at cs event
-        (plan_gives setting frames.old (macro_called setting (length frames.old) (inner_at setting (length frames.old)) c
+        (cs : List ℕ) → IfOk result (λ event. Brings setting stack.new at cs event
+        (plan_gives setting stack.old (macro_called setting (length stack.old) (inner_at setting (length stack.old)) c
         (entry_at setting.table c).function) at cs)) }
     ensures ready { IfOk result (IsReady with.now.limits at) }
-    ensures nesting { IfOk result (λ _. length frames.new ≤ with.now.limits.nesting) }
+    ensures nesting { IfOk result (λ _. length stack.new ≤ with.now.limits.nesting) }
 {
     match with.readtable.macro_of(c) {
         None => Ok(Event::Refused(OUT_OF_PROFILE, at.saturating_sub(1))),
@@ -53,7 +53,7 @@ pub(crate) fn begin_macro<R: MacroFunctions>(
                 let character = HeldCharacter::new(c);
                 return Ok(Event::Open(Position::Number(character, HeldNumber::none())));
             }
-            begin_call(with, frames, Invoked::of_macro(function_of(name), c), at)
+            begin_call(with, stack, Invoked::of_macro(function_of(name), c), at)
         }
     }
 }
@@ -61,7 +61,7 @@ pub(crate) fn begin_macro<R: MacroFunctions>(
 /// The byte `c` at `at`, in the number of the dispatching character `character`, or its sub-character.
 pub(crate) fn in_number<R: MacroFunctions>(
     with: &Context<'_, R>,
-    frames: &mut Frames,
+    stack: &mut Stack,
     character: HeldCharacter,
     mut number: HeldNumber,
     at: usize,
@@ -69,16 +69,16 @@ pub(crate) fn in_number<R: MacroFunctions>(
 ) -> Result<Event, AllocError>
     requires answers { R.answers with.now.macros.now }
     requires within { at ≤ with.now.limits.text }
-    requires nesting { length frames.old ≤ with.now.limits.nesting }
+    requires nesting { length stack.old ≤ with.now.limits.nesting }
     ensures brings { let setting = setting R.functions with.now in
-        (cs : List ℕ) → IfOk result (λ event. Brings setting frames.new (at + 1) cs event
-        (position_gives setting frames.old (AtNumber character number) at (c ∷ cs))) }
+        (cs : List ℕ) → IfOk result (λ event. Brings setting stack.new (at + 1) cs event
+        (position_gives setting stack.old (AtNumber character number) at (c ∷ cs))) }
     ensures ready { IfOk result (IsReady with.now.limits (at + 1)) }
-    ensures nesting { IfOk result (λ _. length frames.new ≤ with.now.limits.nesting) }
+    ensures nesting { IfOk result (λ _. length stack.new ≤ with.now.limits.nesting) }
 {
     match number_byte(with.readtable, &with.limits, &mut number, at, c) {
         LineByte::More => Ok(Event::Open(Position::Number(character, number))),
-        LineByte::Ended => sub_byte(with, frames, character.get(), number, at, c),
+        LineByte::Ended => sub_byte(with, stack, character.get(), number, at, c),
         LineByte::Refused(code) => Ok(Event::Refused(code, at)),
     }
 }
@@ -86,7 +86,7 @@ pub(crate) fn in_number<R: MacroFunctions>(
 /// The byte `c` at `at`, which is the sub-character.
 fn sub_byte<R: MacroFunctions>(
     with: &Context<'_, R>,
-    frames: &mut Frames,
+    stack: &mut Stack,
     character: u8,
     number: HeldNumber,
     at: usize,
@@ -95,13 +95,13 @@ fn sub_byte<R: MacroFunctions>(
     requires answers { R.answers with.now.macros.now }
     requires within { at ≤ with.now.limits.text }
     requires character { character < 128 }
-    requires nesting { length frames.old ≤ with.now.limits.nesting }
+    requires nesting { length stack.old ≤ with.now.limits.nesting }
     ensures brings { let setting = setting R.functions with.now in
-        (cs : List ℕ) → IfOk result (λ event. Brings setting frames.new (at + 1) cs event
-        (plan_gives setting frames.old (sub_there setting (length frames.old) (inner_at setting (length frames.old))
+        (cs : List ℕ) → IfOk result (λ event. Brings setting stack.new (at + 1) cs event
+        (plan_gives setting stack.old (sub_there setting (length stack.old) (inner_at setting (length stack.old))
         character number) at (c ∷ cs))) }
     ensures ready { IfOk result (IsReady with.now.limits (at + 1)) }
-    ensures nesting { IfOk result (λ _. length frames.new ≤ with.now.limits.nesting) }
+    ensures nesting { IfOk result (λ _. length stack.new ≤ with.now.limits.nesting) }
 {
     if at >= with.limits.text {
         return Ok(Event::Refused(FORM_TOO_LONG, at));
@@ -115,7 +115,7 @@ fn sub_byte<R: MacroFunctions>(
             let function = function_of(name);
             let sub = c.to_ascii_uppercase();
             let call = Invoked::of_sub(function, character, sub, number.get());
-            begin_call(with, frames, call, at + 1)
+            begin_call(with, stack, call, at + 1)
         }
     }
 }
@@ -125,21 +125,21 @@ fn sub_byte<R: MacroFunctions>(
 #[inline(always)]
 pub(crate) fn begin_call<R: MacroFunctions>(
     with: &Context<'_, R>,
-    frames: &mut Frames,
+    stack: &mut Stack,
     call: Invoked,
     at: usize,
 ) -> Result<Event, AllocError>
     requires answers { R.answers with.now.macros.now }
     requires within { at ≤ with.now.limits.text }
-    requires nesting { length frames.old ≤ with.now.limits.nesting }
+    requires nesting { length stack.old ≤ with.now.limits.nesting }
     ensures begins { let setting = setting R.functions with.now in
-        (cs : List ℕ) → IfOk result (λ event. Begins setting frames.new frames.old call at cs event) }
+        (cs : List ℕ) → IfOk result (λ event. Begins setting stack.new stack.old call at cs event) }
     ensures ready { IfOk result (IsReady with.now.limits at) }
-    ensures nesting { IfOk result (λ _. length frames.new ≤ with.now.limits.nesting) }
+    ensures nesting { IfOk result (λ _. length stack.new ≤ with.now.limits.nesting) }
 {
     match way_of(with, &call) {
         None => Ok(Event::Refused(OUT_OF_PROFILE, at.saturating_sub(1))),
-        Some(way) => gather(with, frames, call, way, at),
+        Some(way) => gather(with, stack, call, way, at),
     }
 }
 
@@ -148,7 +148,7 @@ pub(crate) fn begin_call<R: MacroFunctions>(
 #[inline(always)]
 fn gather<R: MacroFunctions>(
     with: &Context<'_, R>,
-    frames: &mut Frames,
+    stack: &mut Stack,
     call: Invoked,
     way: Way,
     at: usize,
@@ -157,17 +157,17 @@ fn gather<R: MacroFunctions>(
     requires way { let setting = setting R.functions with.now in
         way_in setting call ≡ Some way }
     requires within { at ≤ with.now.limits.text }
-    requires nesting { length frames.old ≤ with.now.limits.nesting }
+    requires nesting { length stack.old ≤ with.now.limits.nesting }
     ensures gathers { let setting = setting R.functions with.now in
-        (cs : List ℕ) → IfOk result (λ event. Gathers setting frames.new frames.old call way at cs event) }
+        (cs : List ℕ) → IfOk result (λ event. Gathers setting stack.new stack.old call way at cs event) }
     ensures ready { IfOk result (IsReady with.now.limits at) }
-    ensures nesting { IfOk result (λ _. length frames.new ≤ with.now.limits.nesting) }
+    ensures nesting { IfOk result (λ _. length stack.new ≤ with.now.limits.nesting) }
 {
     match way {
-        Way::Nothing => ended(with, frames.len(), &call, false, StdGathered::Nothing, at),
-        Way::Next => gather_objects(with, frames, call, way, at),
-        Way::List => gather_objects(with, frames, call, way, at),
-        Way::Until(_) => gather_objects(with, frames, call, way, at),
+        Way::Nothing => ended(with, stack.len(), &call, false, StdGathered::Nothing, at),
+        Way::Next => gather_objects(with, stack, call, way, at),
+        Way::List => gather_objects(with, stack, call, way, at),
+        Way::Until(_) => gather_objects(with, stack, call, way, at),
         Way::Text(close) => {
             let text = HeldText::new(with.alloc);
             Ok(Event::Open(Position::Text(call, close, text)))
@@ -193,27 +193,27 @@ fn gather<R: MacroFunctions>(
 #[inline(always)]
 fn gather_objects<R: MacroFunctions>(
     with: &Context<'_, R>,
-    frames: &mut Frames,
+    stack: &mut Stack,
     call: Invoked,
     way: Way,
     at: usize,
 ) -> Result<Event, AllocError>
     requires objects { reads_objects way ≡ true }
     requires within { at ≤ with.now.limits.text }
-    requires nesting { length frames.old ≤ with.now.limits.nesting }
+    requires nesting { length stack.old ≤ with.now.limits.nesting }
     ensures gathers { let setting = setting R.functions with.now in
-        (cs : List ℕ) → IfOk result (λ event. Gathers setting frames.new frames.old call way at cs event) }
+        (cs : List ℕ) → IfOk result (λ event. Gathers setting stack.new stack.old call way at cs event) }
     ensures ready { IfOk result (IsReady with.now.limits at) }
-    ensures nesting { IfOk result (λ _. length frames.new ≤ with.now.limits.nesting) }
+    ensures nesting { IfOk result (λ _. length stack.new ≤ with.now.limits.nesting) }
 {
-    let deep = frames.len() >= with.limits.nesting as usize;
+    let deep = stack.len() >= with.limits.nesting as usize;
     match way {
         Way::Next => {
             if deep {
                 return Ok(Event::Refused(TOO_DEEP, at.saturating_sub(1)));
             }
             let part = Part::Next;
-            frames.push(Frame { call, part })?;
+            stack.push(Frame { call, part })?;
             Ok(Event::Open(Position::Object))
         }
         Way::List => {
@@ -221,7 +221,7 @@ fn gather_objects<R: MacroFunctions>(
                 return Ok(Event::Refused(TOO_DEEP, at.saturating_sub(1)));
             }
             let part = Part::List(HeldObjects::new(with.alloc));
-            frames.push(Frame { call, part })?;
+            stack.push(Frame { call, part })?;
             Ok(Event::Open(Position::Object))
         }
         Way::Until(close) => {
@@ -229,7 +229,7 @@ fn gather_objects<R: MacroFunctions>(
                 return Ok(Event::Refused(TOO_DEEP, at.saturating_sub(1)));
             }
             let part = Part::Until(close, HeldObjects::new(with.alloc));
-            frames.push(Frame { call, part })?;
+            stack.push(Frame { call, part })?;
             Ok(Event::Open(Position::Object))
         }
         Way::Nothing | Way::Text(_) | Way::Line(_) | Way::Block | Way::Token | Way::EscapedToken =>

@@ -17,7 +17,7 @@ ghost use Rattle.form_reader.specs.Reader.{IsOutcome};
 use crate::call::ended;
 use crate::context::Context;
 use crate::reader::ReadOutcome;
-use crate::stack::Frames;
+use crate::stack::Stack;
 use crate::state::{Event, Position};
 use crate::step::Settled;
 use crate::token::{BegunScan, refused, token_end};
@@ -49,8 +49,8 @@ fn last_token<R: MacroFunctions>(
 ) -> Result<Event, AllocError>
     requires within { at ≤ with.now.limits.text }
     ensures brings { let setting = setting R.functions with.now in
-        (frames : List Frame) → IfOk result (λ event. Brings setting frames at [] event
-        (position_gives setting frames (AtToken scan) at [])) }
+        (stack : List Frame) → IfOk result (λ event. Brings setting stack at [] event
+        (position_gives setting stack (AtToken scan) at [])) }
     ensures last { IfOk result (IsLastEvent at) }
 {
     let mut scan = scan.into_scan();
@@ -71,8 +71,8 @@ fn last_call_token<R: MacroFunctions>(
     requires answers { R.answers with.now.macros.now }
     requires within { at ≤ with.now.limits.text }
     ensures brings { let setting = setting R.functions with.now in
-        (frames : List Frame) → depth ≡ length frames → IfOk result (λ event. Brings setting frames at [] event
-        (position_gives setting frames (AtCallToken call scan) at [])) }
+        (stack : List Frame) → depth ≡ length stack → IfOk result (λ event. Brings setting stack at [] event
+        (position_gives setting stack (AtCallToken call scan) at [])) }
     ensures last { IfOk result (IsLastEvent at) }
 {
     match token_stop(&with.limits, &mut scan, at) {
@@ -95,9 +95,9 @@ fn last_line<R: MacroFunctions>(
     requires answers { R.answers with.now.macros.now }
     requires within { at ≤ with.now.limits.text }
     ensures brings { let setting = setting R.functions with.now in
-        (frames : List Frame) → depth ≡ length frames
-        → IfOk result (λ event. Brings setting frames at [] event
-        (position_gives setting frames (AtLine call text) at [])) }
+        (stack : List Frame) → depth ≡ length stack
+        → IfOk result (λ event. Brings setting stack at [] event
+        (position_gives setting stack (AtLine call text) at [])) }
     ensures last { IfOk result (IsLastEvent at) }
 {
     let gathered = StdGathered::Text(text.into_bytes());
@@ -114,8 +114,8 @@ fn last<R: MacroFunctions>(
     requires answers { R.answers with.now.macros.now }
     requires within { at ≤ with.now.limits.text }
     ensures brings { let setting = setting R.functions with.now in
-        (frames : List Frame) → depth ≡ length frames → IfOk result (λ event. Brings setting frames at [] event
-        (position_gives setting frames position at [])) }
+        (stack : List Frame) → depth ≡ length stack → IfOk result (λ event. Brings setting stack at [] event
+        (position_gives setting stack position at [])) }
     ensures last { IfOk result (IsLastEvent at) }
     ensures object { position ≡ AtObject → result ≡ Ok (IsAt AtObject) }
 {
@@ -133,9 +133,9 @@ fn last<R: MacroFunctions>(
 
 /// The end of the text at `at`, where an object may begin.
 fn waited(calls: usize, at: usize) -> Settled
-    ensures settles { (setting : Setting) (frames : List Frame) → calls ≡ length frames
+    ensures settles { (setting : Setting) (stack : List Frame) → calls ≡ length stack
         → at ≤ setting.limits.text
-        → Settles setting frames at [] result (position_gives setting frames AtObject at []) }
+        → Settles setting stack at [] result (position_gives setting stack AtObject at []) }
     ensures last { IsLastSettled at result }
     ensures none { calls ≡ 0 → result ≡ IsDone the_end }
 {
@@ -148,22 +148,22 @@ fn waited(calls: usize, at: usize) -> Settled
 /// What the outermost attempt comes to at the end of the text, which is at `at`.
 fn settle_last<R: MacroFunctions>(
     with: &Context<'_, R>,
-    frames: &mut Frames,
+    stack: &mut Stack,
     position: Position,
     at: usize,
 ) -> Result<Settled, AllocError>
     requires answers { R.answers with.now.macros.now }
     requires within { at ≤ with.now.limits.text }
     ensures settles { let setting = setting R.functions with.now in
-        IfOk result (λ settled. Settles setting frames.new at [] settled
-        (position_gives setting frames.old position at [])) }
+        IfOk result (λ settled. Settles setting stack.new at [] settled
+        (position_gives setting stack.old position at [])) }
     ensures last { IfOk result (IsLastSettled at) }
-    ensures between { frames.old ≡ [] → position ≡ AtObject → result ≡ Ok (IsDone the_end) }
+    ensures between { stack.old ≡ [] → position ≡ AtObject → result ≡ Ok (IsDone the_end) }
 {
-    match last(with, frames.len(), position, at)? {
-        Event::Open(_) => Ok(waited(frames.len(), at)),
-        Event::Gives(found) => match deliver(with, frames, found, at)? {
-            Delivered::Waits(_) => Ok(waited(frames.len(), at)),
+    match last(with, stack.len(), position, at)? {
+        Event::Open(_) => Ok(waited(stack.len(), at)),
+        Event::Gives(found) => match deliver(with, stack, found, at)? {
+            Delivered::Waits(_) => Ok(waited(stack.len(), at)),
             Delivered::Done(found) => Ok(Settled::Done(found)),
             Delivered::Refused(code, offset) => Ok(Settled::Refused(code, offset)),
         },
@@ -200,7 +200,7 @@ fn done_last(found: Found, start: usize, at: usize) -> ReadOutcome
 /// The end of the text, where the attempt began at `start` and has `at` bytes.
 pub(crate) fn last_outcome<R: MacroFunctions>(
     with: &Context<'_, R>,
-    frames: &mut Frames,
+    stack: &mut Stack,
     position: Position,
     start: usize,
     at: usize,
@@ -209,10 +209,10 @@ pub(crate) fn last_outcome<R: MacroFunctions>(
     requires within { at ≤ with.now.limits.text }
     requires count { start + at ≤ 2 ^ 63 }
     ensures outcome { let setting = setting R.functions with.now in
-        IfOk result (λ outcome. IsOutcome outcome (rest_of setting frames.old position start at [])) }
-    ensures between { frames.old ≡ [] → position ≡ AtObject → result ≡ Ok IsEmpty }
+        IfOk result (λ outcome. IsOutcome outcome (rest_of setting stack.old position start at [])) }
+    ensures between { stack.old ≡ [] → position ≡ AtObject → result ≡ Ok IsEmpty }
 {
-    match settle_last(with, frames, position, at)? {
+    match settle_last(with, stack, position, at)? {
         Settled::Open(_) => unreachable!(),
         Settled::Done(found) => Ok(done_last(found, start, at)),
         Settled::Refused(code, offset) => Ok(ReadOutcome::Refused {

@@ -234,9 +234,9 @@ pub(crate) fn in_text<R: MacroFunctions>(
     requires within { at ≤ with.now.limits.text }
     requires count { at < 2 ^ 63 }
     ensures brings { let setting = setting R.functions with.now in
-        (frames : List Frame) (cs : List ℕ) → depth ≡ length frames
-        → IfOk result (λ event. Brings setting frames (at + 1) cs event
-        (position_gives setting frames (AtText call terminator text) at (c ∷ cs))) }
+        (stack : List Frame) (cs : List ℕ) → depth ≡ length stack
+        → IfOk result (λ event. Brings setting stack (at + 1) cs event
+        (position_gives setting stack (AtText call terminator text) at (c ∷ cs))) }
     ensures ready { IfOk result (IsReady with.now.limits (at + 1)) }
 {
     match text_byte(with.readtable, &with.limits, terminator, &mut text, at, c)? {
@@ -261,9 +261,9 @@ pub(crate) fn in_escaped<R: MacroFunctions>(
     c: u8,
 ) -> Result<Event, AllocError>
     ensures brings { let setting = setting R.functions with.now in
-        (frames : List Frame) (cs : List ℕ) → depth ≡ length frames
-        → IfOk result (λ event. Brings setting frames (at + 1) cs event
-        (position_gives setting frames (AtEscaped call terminator text) at (c ∷ cs))) }
+        (stack : List Frame) (cs : List ℕ) → depth ≡ length stack
+        → IfOk result (λ event. Brings setting stack (at + 1) cs event
+        (position_gives setting stack (AtEscaped call terminator text) at (c ∷ cs))) }
     ensures ready { IfOk result (IsReady with.now.limits (at + 1)) }
 {
     match escaped_byte(with.readtable, &with.limits, terminator, &mut text, at, c)? {
@@ -286,9 +286,9 @@ pub(crate) fn in_line<R: MacroFunctions>(
     requires within { at ≤ with.now.limits.text }
     requires count { at < 2 ^ 63 }
     ensures brings { let setting = setting R.functions with.now in
-        (frames : List Frame) (cs : List ℕ) → depth ≡ length frames
-        → IfOk result (λ event. Brings setting frames (at + 1) cs event
-        (position_gives setting frames (AtLine call text) at (c ∷ cs))) }
+        (stack : List Frame) (cs : List ℕ) → depth ≡ length stack
+        → IfOk result (λ event. Brings setting stack (at + 1) cs event
+        (position_gives setting stack (AtLine call text) at (c ∷ cs))) }
     ensures ready { IfOk result (IsReady with.now.limits (at + 1)) }
 {
     let keep = call.keep();
@@ -317,9 +317,9 @@ pub(crate) fn in_block<R: MacroFunctions>(
     requires count { at < 2 ^ 63 }
     requires level { levels.0 ≤ at }
     ensures brings { let setting = setting R.functions with.now in
-        (frames : List Frame) (cs : List ℕ) → depth ≡ length frames
-        → IfOk result (λ event. Brings setting frames (at + 1) cs event
-        (position_gives setting frames (AtBlock call levels) at (c ∷ cs))) }
+        (stack : List Frame) (cs : List ℕ) → depth ≡ length stack
+        → IfOk result (λ event. Brings setting stack (at + 1) cs event
+        (position_gives setting stack (AtBlock call levels) at (c ∷ cs))) }
     ensures ready { IfOk result (IsReady with.now.limits (at + 1)) }
 {
     match block_byte(with.readtable, &with.limits, &mut levels, at, c) {

@@ -5,7 +5,7 @@ ghost use Rattle.form_reader.specs.declared.reader.ReaderState.TheVariants.{Refu
 
 use crate::context::Context;
 use crate::end_of_text::last_outcome;
-use crate::stack::Frames;
+use crate::stack::Stack;
 use crate::state::Position;
 use crate::step::in_place::{InPlace, in_place};
 use crate::step::{Change, take_byte};
@@ -29,9 +29,9 @@ pub struct FormReader {
     alloc: Global,
     start: usize,
     at: usize,
-    frames: Frames,
+    stack: Stack,
     state: ReaderState,
-    ghost standing: { IsTrue (is_standing limits frames at state) },
+    ghost standing: { IsTrue (is_standing limits stack at state) },
 }
 
 /// Where a reader is.
@@ -90,7 +90,7 @@ impl FormReader {
             alloc,
             start: 0,
             at: 0,
-            frames: Frames::new(alloc),
+            stack: Stack::new(alloc),
             state: ReaderState::Open(Position::Object),
         }
     }
@@ -171,7 +171,7 @@ impl FormReader {
         };
         let at = self.at;
         match &mut self.state {
-            ReaderState::Open(position) => match in_place(&with, &self.frames, position, at, byte) {
+            ReaderState::Open(position) => match in_place(&with, &self.stack, position, at, byte) {
                 Ok(InPlace::GoesOn) => {
                     self.at += 1;
                     Ok(Advance::More)
@@ -231,7 +231,7 @@ impl FormReader {
         // Until the byte has come to something: where that fails, the reader answers the same again.
         match mem::replace(&mut self.state, ReaderState::OutOfMemory) {
             ReaderState::Open(position) => {
-                let next = take_byte(with, &mut self.frames, position, self.start, self.at, byte)?;
+                let next = take_byte(with, &mut self.stack, position, self.start, self.at, byte)?;
                 Ok(self.take(next))
             }
             ReaderState::Refused(..) => unreachable!(),
@@ -242,7 +242,7 @@ impl FormReader {
     /// Becomes what a byte is to the text.
     #[inline(always)]
     fn take(&mut self, change: Change) -> Advance
-        requires ready { IsReadyChange (limits_of self.old) self.old.frames (fed self.old + 1) change }
+        requires ready { IsReadyChange (limits_of self.old) self.old.stack (fed self.old + 1) change }
         ensures limits { limits_of self.new ≡ limits_of self.old }
         ensures takes { Becomes change self.old self.new result }
         ensures sound { IsSoundStep result }
@@ -304,7 +304,7 @@ impl FormReader {
             alloc,
             start,
             at,
-            mut frames,
+            mut stack,
             state,
         } = self;
         match state {
@@ -318,7 +318,7 @@ impl FormReader {
                     current,
                     macros,
                 };
-                last_outcome(&with, &mut frames, position, start, at)
+                last_outcome(&with, &mut stack, position, start, at)
             }
             ReaderState::Refused(code, at) => Ok(ReadOutcome::Refused { code, at }),
             ReaderState::OutOfMemory => Err(AllocError),

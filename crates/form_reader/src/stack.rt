@@ -2,7 +2,7 @@
 ghost use Rattle.std.specs.Prelude.{◌≡◌, ◌==◌, Bool, Some, None, true, false, [], ◌∷◌, length, MatchOption, OnOk, IfOk};
 ghost use Rattle.form_reader.specs.declared.stack.Part.TheVariants.{Next as InNext};
 ghost use Rattle.lisp_reading.specs.declared.found.Found.TheVariants.{One as one, LoneDot as lone_dot};
-ghost use Rattle.form_reader.specs.Stack.{close_of, close_of_frames, is_closed_by, IsNoClose, with_object, with_dot, calls_with, is_next, is_waiting};
+ghost use Rattle.form_reader.specs.Stack.{close_of, close_of_stack, is_closed_by, IsNoClose, with_object, with_dot, calls_with, is_next, is_waiting};
 
 use lisp_reading::{HeldObject, HeldObjects, Invoked};
 use std::alloc::{AllocError, Global};
@@ -33,11 +33,11 @@ pub enum Part {
 
 /// The open calls, which contracts see innermost first.
 #[derive(Drop)]
-pub struct Frames {
+pub struct Stack {
     frames: Vec<Frame>,
 }
 
-impl Model for Frames {
+impl Model for Stack {
     ghost use Rattle.std.specs.Prelude.{List, reverse};
     ghost use Rattle.form_reader.specs.declared.stack.Frame.{Frame};
     ghost use Rattle.form_reader.specs.contracts.stack.Frame as frame_contract;
@@ -50,12 +50,12 @@ impl Model for Frames {
     ghost view = { λ f. reverse f.frames.items };
 }
 
-impl Frames {
+impl Stack {
     /// No open call. It keeps `alloc` for later ones.
-    pub(crate) fn new(alloc: Global) -> Frames
+    pub(crate) fn new(alloc: Global) -> Stack
         ensures { result ≡ [] }
     {
-        Frames {
+        Stack {
             frames: Vec::new(alloc),
         }
     }
@@ -85,7 +85,7 @@ impl Frames {
 
     /// The closing character that the innermost call looks for.
     pub(crate) fn close(&self) -> Option<u8>
-        ensures { result ≡ close_of_frames self.now }
+        ensures { result ≡ close_of_stack self.now }
     {
         match self.frames.last() {
             None => None,
@@ -95,7 +95,7 @@ impl Frames {
 
     /// Whether `c` is the closing character that the innermost call looks for.
     pub(crate) fn is_closed_by(&self, c: u8) -> bool
-        ensures value { result ≡ is_closed_by (close_of_frames self.now) c }
+        ensures value { result ≡ is_closed_by (close_of_stack self.now) c }
         ensures other { result ≡ false → IsNoClose c self.now }
     {
         self.close() == Some(c)

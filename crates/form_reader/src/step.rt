@@ -13,7 +13,7 @@ ghost use Rattle.form_reader.specs.State.{Brings, position_gives, lookahead, IsR
 use crate::context::Context;
 use crate::dispatch::in_number;
 use crate::gather::{in_block, in_escaped, in_line, in_text};
-use crate::stack::Frames;
+use crate::stack::Stack;
 use crate::state::{Event, Moved, Position};
 use crate::step::in_place::is_discarded;
 use crate::step::object::{Passed, after_found, at_object, is_blank};
@@ -53,25 +53,25 @@ pub enum Change {
 #[inline(always)]
 pub(crate) fn feed<R: MacroFunctions>(
     with: &Context<'_, R>,
-    frames: &mut Frames,
+    stack: &mut Stack,
     position: Position,
     at: usize,
     c: u8,
 ) -> Result<Passed, AllocError>
     requires answers { R.answers with.now.macros.now }
-    requires standing { IsStanding with.now.limits frames.old position at }
+    requires standing { IsStanding with.now.limits stack.old position at }
     requires count { at < 2 ^ 63 }
     ensures passes { let setting = setting R.functions with.now in
-        (cs : List ℕ) → IfOk result (λ passed. Passes setting frames.new at c cs passed
-        (position_gives setting frames.old position at (c ∷ cs))) }
+        (cs : List ℕ) → IfOk result (λ passed. Passes setting stack.new at c cs passed
+        (position_gives setting stack.old position at (c ∷ cs))) }
     ensures ready { IfOk result (IsReadyPass with.now.limits at) }
-    ensures nesting { IfOk result (λ _. length frames.new ≤ with.now.limits.nesting) }
+    ensures nesting { IfOk result (λ _. length stack.new ≤ with.now.limits.nesting) }
 {
-    match advance(with, frames, position, at, c)? {
+    match advance(with, stack, position, at, c)? {
         Moved::After(event) => Ok(Passed::Brings(event)),
         Moved::Before(event) => match event {
             Event::Open(_) => unreachable!(),
-            Event::Gives(found) => after_found(with, frames, found, at, c),
+            Event::Gives(found) => after_found(with, stack, found, at, c),
             Event::Refused(code, offset) => Ok(Passed::Brings(Event::Refused(code, offset))),
         },
     }
@@ -81,21 +81,21 @@ pub(crate) fn feed<R: MacroFunctions>(
 #[inline(always)]
 fn settle<R: MacroFunctions>(
     with: &Context<'_, R>,
-    frames: &mut Frames,
+    stack: &mut Stack,
     event: Event,
     at: usize,
 ) -> Result<Settled, AllocError>
     requires answers { R.answers with.now.macros.now }
-    requires nesting { length frames.old ≤ with.now.limits.nesting }
+    requires nesting { length stack.old ≤ with.now.limits.nesting }
     requires ready { IsReady with.now.limits at event }
     ensures settles { let setting = setting R.functions with.now in
-        (cs : List ℕ) (read : Read FoundThere) → Brings setting frames.old at cs event read
-        → IfOk result (λ settled. Settles setting frames.new at cs settled read) }
-    ensures ready { IfOk result (IsReadySettled with.now.limits frames.new at) }
+        (cs : List ℕ) (read : Read FoundThere) → Brings setting stack.old at cs event read
+        → IfOk result (λ settled. Settles setting stack.new at cs settled read) }
+    ensures ready { IfOk result (IsReadySettled with.now.limits stack.new at) }
 {
     match event {
         Event::Open(position) => Ok(Settled::Open(position)),
-        Event::Gives(found) => match deliver(with, frames, found, at)? {
+        Event::Gives(found) => match deliver(with, stack, found, at)? {
             Delivered::Waits(_) => Ok(Settled::Open(Position::Object)),
             Delivered::Done(found) => Ok(Settled::Done(found)),
             Delivered::Refused(code, offset) => Ok(Settled::Refused(code, offset)),
@@ -111,8 +111,8 @@ fn done_after(found: Found, start: usize, at: usize) -> Change
     requires count { start + at ≤ 2 ^ 63 }
     ensures turns { (setting : Setting) (cs : List ℕ)
         → ChangesTo setting [] cs result (outcome_of setting start (Ok (found, at, cs))) }
-    ensures ready { (limits : Bounds) (frames : List Frame) → length frames ≤ limits.nesting
-        → IsReadyChange limits frames (start + at) result }
+    ensures ready { (limits : Bounds) (stack : List Frame) → length stack ≤ limits.nesting
+        → IsReadyChange limits stack (start + at) result }
     ensures begins { BeginsFrom start result }
     ensures anew { BeginsAnew [] result }
     ensures starts { StartsAt start result }
@@ -129,24 +129,24 @@ fn done_after(found: Found, start: usize, at: usize) -> Change
 #[inline(always)]
 fn change_of<R: MacroFunctions>(
     with: &Context<'_, R>,
-    frames: &mut Frames,
+    stack: &mut Stack,
     event: Event,
     start: usize,
     at: usize,
 ) -> Result<Change, AllocError>
     requires answers { R.answers with.now.macros.now }
-    requires nesting { length frames.old ≤ with.now.limits.nesting }
+    requires nesting { length stack.old ≤ with.now.limits.nesting }
     requires ready { IsReady with.now.limits at event }
     requires count { start + at ≤ 2 ^ 63 }
     ensures turns { let setting = setting R.functions with.now in
-        (cs : List ℕ) (read : Read FoundThere) → Brings setting frames.old at cs event read
-        → IfOk result (λ change. ChangesTo setting frames.new cs change (outcome_of setting start read)) }
-    ensures ready { IfOk result (IsReadyChange with.now.limits frames.new (start + at)) }
+        (cs : List ℕ) (read : Read FoundThere) → Brings setting stack.old at cs event read
+        → IfOk result (λ change. ChangesTo setting stack.new cs change (outcome_of setting start read)) }
+    ensures ready { IfOk result (IsReadyChange with.now.limits stack.new (start + at)) }
     ensures begins { IfOk result (BeginsFrom start) }
-    ensures anew { 0 < at → IfOk result (BeginsAnew frames.new) }
+    ensures anew { 0 < at → IfOk result (BeginsAnew stack.new) }
     ensures starts { IfOk result (StartsAt start) }
 {
-    match settle(with, frames, event, at)? {
+    match settle(with, stack, event, at)? {
         Settled::Open(position) => Ok(Change::Goes(start, at, position)),
         Settled::Done(found) => Ok(done_after(found, start, at)),
         Settled::Refused(code, offset) => Ok(Change::Refused(code, start + offset)),
@@ -157,33 +157,33 @@ fn change_of<R: MacroFunctions>(
 #[inline(always)]
 fn first_change<R: MacroFunctions>(
     with: &Context<'_, R>,
-    frames: &mut Frames,
+    stack: &mut Stack,
     start: usize,
     c: u8,
 ) -> Result<Change, AllocError>
     requires answers { R.answers with.now.macros.now }
-    requires none { frames.old ≡ [] }
+    requires none { stack.old ≡ [] }
     requires count { start < 2 ^ 63 }
     ensures turns { let setting = setting R.functions with.now in
-        (cs : List ℕ) → IfOk result (λ change. ChangesTo setting frames.new cs change
+        (cs : List ℕ) → IfOk result (λ change. ChangesTo setting stack.new cs change
         (rest_of setting [] AtObject start 0 (c ∷ cs))) }
-    ensures ready { IfOk result (IsReadyChange with.now.limits frames.new (start + 1)) }
+    ensures ready { IfOk result (IsReadyChange with.now.limits stack.new (start + 1)) }
     ensures begins { IfOk result (BeginsFrom start) }
-    ensures anew { IfOk result (BeginsAnew frames.new) }
+    ensures anew { IfOk result (BeginsAnew stack.new) }
     ensures starts { IfOk result (StartsWith (setting R.functions with.now) start c) }
 {
-    if is_discarded(with, frames, 0, c) {
+    if is_discarded(with, stack, 0, c) {
         return Ok(Change::Goes(start + 1, 0, Position::Object));
     }
-    let event = at_object(with, frames, 0, c)?;
-    change_of(with, frames, event, start, 1)
+    let event = at_object(with, stack, 0, c)?;
+    change_of(with, stack, event, start, 1)
 }
 
 /// What the attempt that began at `start` came to before the byte `c`, at the offset `at` in it, with no open call.
 #[inline(always)]
 fn done_before<R: MacroFunctions>(
     with: &Context<'_, R>,
-    frames: &mut Frames,
+    stack: &mut Stack,
     found: Found,
     start: usize,
     at: usize,
@@ -191,19 +191,19 @@ fn done_before<R: MacroFunctions>(
 ) -> Result<Change, AllocError>
     requires answers { R.answers with.now.macros.now }
     requires found { lookahead found ≤ 1 }
-    requires none { frames.old ≡ [] }
+    requires none { stack.old ≡ [] }
     requires count { start + at < 2 ^ 63 }
     ensures turns { let setting = setting R.functions with.now in
-        (cs : List ℕ) → IfOk result (λ change. ChangesTo setting frames.new cs change
+        (cs : List ℕ) → IfOk result (λ change. ChangesTo setting stack.new cs change
         (outcome_of setting start (Ok (found, at, c ∷ cs)))) }
-    ensures ready { IfOk result (IsReadyChange with.now.limits frames.new (start + at + 1)) }
+    ensures ready { IfOk result (IsReadyChange with.now.limits stack.new (start + at + 1)) }
     ensures begins { IfOk result (BeginsFrom start) }
-    ensures anew { IfOk result (BeginsAnew frames.new) }
+    ensures anew { IfOk result (BeginsAnew stack.new) }
     ensures starts { IfOk result (StartsWith (setting R.functions with.now) (start + at) c) }
     ensures nothing { IfOk result (FollowsNothing found) }
 {
     match found {
-        Found::Nothing(_) => first_change(with, frames, start + at, c),
+        Found::Nothing(_) => first_change(with, stack, start + at, c),
         Found::One(token, x) => {
             let end = start + at;
             if token && is_blank(with.readtable.syntax(c)) {
@@ -219,30 +219,30 @@ fn done_before<R: MacroFunctions>(
 /// The byte `c`, where the attempt began at `start` and has `at` bytes.
 pub(crate) fn take_byte<R: MacroFunctions>(
     with: &Context<'_, R>,
-    frames: &mut Frames,
+    stack: &mut Stack,
     position: Position,
     start: usize,
     at: usize,
     c: u8,
 ) -> Result<Change, AllocError>
     requires answers { R.answers with.now.macros.now }
-    requires standing { IsStanding with.now.limits frames.old position at }
+    requires standing { IsStanding with.now.limits stack.old position at }
     requires count { start + at < 2 ^ 63 }
     ensures turns { let setting = setting R.functions with.now in
-        (cs : List ℕ) → IfOk result (λ change. ChangesTo setting frames.new cs change
-        (rest_of setting frames.old position start at (c ∷ cs))) }
-    ensures ready { IfOk result (IsReadyChange with.now.limits frames.new (start + at + 1)) }
+        (cs : List ℕ) → IfOk result (λ change. ChangesTo setting stack.new cs change
+        (rest_of setting stack.old position start at (c ∷ cs))) }
+    ensures ready { IfOk result (IsReadyChange with.now.limits stack.new (start + at + 1)) }
     ensures begins { IfOk result (BeginsFrom start) }
-    ensures anew { IfOk result (BeginsAnew frames.new) }
-    ensures starts { IfOk result (Starts (setting R.functions with.now) frames.old position start at c) }
+    ensures anew { IfOk result (BeginsAnew stack.new) }
+    ensures starts { IfOk result (Starts (setting R.functions with.now) stack.old position start at c) }
 {
     if let Position::Object = &position {
-        let brought = at_object(with, frames, at, c)?;
-        return change_of(with, frames, brought, start, at + 1);
+        let brought = at_object(with, stack, at, c)?;
+        return change_of(with, stack, brought, start, at + 1);
     }
-    match feed(with, frames, position, at, c)? {
-        Passed::Brings(event) => change_of(with, frames, event, start, at + 1),
-        Passed::Done(found) => done_before(with, frames, found, start, at, c),
+    match feed(with, stack, position, at, c)? {
+        Passed::Brings(event) => change_of(with, stack, event, start, at + 1),
+        Passed::Done(found) => done_before(with, stack, found, start, at, c),
     }
 }
 
@@ -250,23 +250,23 @@ pub(crate) fn take_byte<R: MacroFunctions>(
 #[inline(always)]
 pub(crate) fn advance<R: MacroFunctions>(
     with: &Context<'_, R>,
-    frames: &mut Frames,
+    stack: &mut Stack,
     position: Position,
     at: usize,
     c: u8,
 ) -> Result<Moved, AllocError>
     requires answers { R.answers with.now.macros.now }
-    requires standing { IsStanding with.now.limits frames.old position at }
+    requires standing { IsStanding with.now.limits stack.old position at }
     requires count { at < 2 ^ 63 }
     ensures moves { let setting = setting R.functions with.now in
-        (cs : List ℕ) → IfOk result (λ moved. Moves setting frames.new at c cs moved
-        (position_gives setting frames.old position at (c ∷ cs))) }
+        (cs : List ℕ) → IfOk result (λ moved. Moves setting stack.new at c cs moved
+        (position_gives setting stack.old position at (c ∷ cs))) }
     ensures ready { IfOk result (IsReadyMove with.now.limits at) }
-    ensures nesting { IfOk result (λ _. length frames.new ≤ with.now.limits.nesting) }
+    ensures nesting { IfOk result (λ _. length stack.new ≤ with.now.limits.nesting) }
 {
-    let depth = frames.len();
+    let depth = stack.len();
     match position {
-        Position::Object => Ok(Moved::After(at_object(with, frames, at, c)?)),
+        Position::Object => Ok(Moved::After(at_object(with, stack, at, c)?)),
         Position::Token(scan) => in_token(with, scan, at, c),
         Position::CallToken(call, scan) => in_call_token(with, depth, call, scan, at, c),
         Position::Text(call, terminator, text) => {
@@ -280,7 +280,7 @@ pub(crate) fn advance<R: MacroFunctions>(
             Ok(Moved::After(in_block(with, depth, call, levels, at, c)?))
         }
         Position::Number(character, number) => {
-            Ok(Moved::After(in_number(with, frames, character, number, at, c)?))
+            Ok(Moved::After(in_number(with, stack, character, number, at, c)?))
         }
     }
 }

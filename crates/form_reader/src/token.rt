@@ -216,9 +216,9 @@ pub(crate) fn begin_token<R: MacroFunctions>(
     requires within { at ≤ with.now.limits.text }
     requires begins { stands_alone (entry_at with.now.readtable.now c).syntax ≡ false }
     ensures brings { let setting = setting R.functions with.now in
-        (frames : List Frame) (cs : List ℕ) → length frames ≤ with.now.limits.nesting
-        → IfOk result (λ event. Brings setting frames (at + 1) cs event
-        (plan_gives setting frames (attempt_at setting (length frames)) at (c ∷ cs))) }
+        (stack : List Frame) (cs : List ℕ) → length stack ≤ with.now.limits.nesting
+        → IfOk result (λ event. Brings setting stack (at + 1) cs event
+        (plan_gives setting stack (attempt_at setting (length stack)) at (c ∷ cs))) }
     ensures ready { IfOk result (IsReady with.now.limits (at + 1)) }
 {
     match first_byte(with.alloc, with.readtable, &with.limits, at, c)? {
@@ -237,8 +237,8 @@ pub(crate) fn in_token<R: MacroFunctions>(
 ) -> Result<Moved, AllocError>
     requires within { at ≤ with.now.limits.text }
     ensures moves { let setting = setting R.functions with.now in
-        (frames : List Frame) (cs : List ℕ) → IfOk result (λ moved. Moves setting frames at c cs moved
-        (position_gives setting frames (AtToken scan) at (c ∷ cs))) }
+        (stack : List Frame) (cs : List ℕ) → IfOk result (λ moved. Moves setting stack at c cs moved
+        (position_gives setting stack (AtToken scan) at (c ∷ cs))) }
     ensures ready { IfOk result (IsReadyMove with.now.limits at) }
 {
     match scan.byte(with.readtable, &with.limits, at, c)? {
@@ -258,8 +258,8 @@ pub(crate) fn token_end<R: MacroFunctions>(
     requires some { 0 < length marks.items }
     requires ascii { IsTrue (are_ascii marks.items) }
     ensures brings { let setting = setting R.functions with.now in
-        (frames : List Frame) (cs : List ℕ) → IfOk result (λ event. Brings setting frames at cs event
-        (plan_gives setting frames (token_found setting marks.items) at cs)) }
+        (stack : List Frame) (cs : List ℕ) → IfOk result (λ event. Brings setting stack at cs event
+        (plan_gives setting stack (token_found setting marks.items) at cs)) }
     ensures ends { IfOk result (IsEnd 1 at) }
 {
     let case = with.readtable.case();
@@ -290,9 +290,9 @@ pub(crate) fn in_call_token<R: MacroFunctions>(
     requires answers { R.answers with.now.macros.now }
     requires within { at ≤ with.now.limits.text }
     ensures moves { let setting = setting R.functions with.now in
-        (frames : List Frame) (cs : List ℕ) → depth ≡ length frames
-        → IfOk result (λ moved. Moves setting frames at c cs moved
-        (position_gives setting frames (AtCallToken call scan) at (c ∷ cs))) }
+        (stack : List Frame) (cs : List ℕ) → depth ≡ length stack
+        → IfOk result (λ moved. Moves setting stack at c cs moved
+        (position_gives setting stack (AtCallToken call scan) at (c ∷ cs))) }
     ensures ready { IfOk result (IsReadyMove with.now.limits at) }
 {
     match token_byte(with.readtable, &with.limits, &mut scan, at, c)? {

@@ -12,7 +12,7 @@ ghost use Rattle.form_reader.specs.State.{space, lookahead};
 
 use crate::call::{Completed, complete};
 use crate::context::Context;
-use crate::stack::Frames;
+use crate::stack::Stack;
 use lisp_object::refusal::{DOT_CONTEXT, END_OF_FILE};
 use lisp_reading::{Found, HeldObject};
 use std::alloc::AllocError;
@@ -44,23 +44,23 @@ pub enum Delivered {
 /// What the innermost open call makes of what is found in it at `at`.
 fn take<R: MacroFunctions>(
     with: &Context<'_, R>,
-    frames: &mut Frames,
+    stack: &mut Stack,
     found: Found,
     at: usize,
 ) -> Result<Received, AllocError>
     requires answers { R.answers with.now.macros.now }
     requires within { at ≤ with.now.limits.text }
-    requires open { 0 < length frames.old }
+    requires open { 0 < length stack.old }
     ensures takes { let setting = setting R.functions with.now in
-        (cs : List ℕ) → IfOk result (λ received. Takes setting frames.new at cs received
-        (plan_gives setting frames.old (gives found) at cs)) }
+        (cs : List ℕ) → IfOk result (λ received. Takes setting stack.new at cs received
+        (plan_gives setting stack.old (gives found) at cs)) }
     ensures leaves { IfOk result (IsReceivedAt (lookahead found) at) }
-    ensures shorter { IfOk result (Shortens frames.old frames.new) }
+    ensures shorter { IfOk result (Shortens stack.old stack.new) }
 {
     match found {
         Found::Nothing(token) => Ok(Received::Stays(token)),
-        Found::One(token, x) => take_one(with, frames, token, x, at),
-        Found::LoneDot => Ok(take_dot(frames, at)),
+        Found::One(token, x) => take_one(with, stack, token, x, at),
+        Found::LoneDot => Ok(take_dot(stack, at)),
         Found::TheEnd => Ok(Received::Refused(END_OF_FILE, at)),
     }
 }
@@ -68,28 +68,28 @@ fn take<R: MacroFunctions>(
 /// What the innermost open call makes of an object.
 fn take_one<R: MacroFunctions>(
     with: &Context<'_, R>,
-    frames: &mut Frames,
+    stack: &mut Stack,
     token: bool,
     x: HeldObject,
     at: usize,
 ) -> Result<Received, AllocError>
     requires answers { R.answers with.now.macros.now }
     requires within { at ≤ with.now.limits.text }
-    requires open { 0 < length frames.old }
+    requires open { 0 < length stack.old }
     ensures takes { let setting = setting R.functions with.now in
-        (cs : List ℕ) → IfOk result (λ received. Takes setting frames.new at cs received
-        (plan_gives setting frames.old (gives (one token x)) at cs)) }
+        (cs : List ℕ) → IfOk result (λ received. Takes setting stack.new at cs received
+        (plan_gives setting stack.old (gives (one token x)) at cs)) }
     ensures leaves { IfOk result (IsReceivedAt (space token) at) }
-    ensures shorter { IfOk result (Shortens frames.old frames.new) }
+    ensures shorter { IfOk result (Shortens stack.old stack.new) }
 {
-    match frames.pop_waiting() {
+    match stack.pop_waiting() {
         Some(call) => {
-            let depth = frames.len();
+            let depth = stack.len();
             let gathered = StdGathered::One(x.into_datum());
             Ok(received_of(complete(with, depth, &call, token, token, gathered)?, at))
         }
         None => {
-            if frames.take_object(x)? {
+            if stack.take_object(x)? {
                 Ok(Received::Stays(token))
             } else {
                 Ok(Received::Refused(DOT_CONTEXT, at))
@@ -99,15 +99,15 @@ fn take_one<R: MacroFunctions>(
 }
 
 /// What the innermost open call makes of a dot.
-fn take_dot(frames: &mut Frames, at: usize) -> Received
-    requires open { 0 < length frames.old }
+fn take_dot(stack: &mut Stack, at: usize) -> Received
+    requires open { 0 < length stack.old }
     ensures takes { (setting : Setting) (cs : List ℕ) → at ≤ setting.limits.text
-        → Takes setting frames.new at cs result
-        (plan_gives setting frames.old (gives lone_dot) at cs) }
+        → Takes setting stack.new at cs result
+        (plan_gives setting stack.old (gives lone_dot) at cs) }
     ensures leaves { IsReceivedAt 1 at result }
-    ensures shorter { Shortens frames.old frames.new result }
+    ensures shorter { Shortens stack.old stack.new result }
 {
-    if frames.take_dot() {
+    if stack.take_dot() {
         Received::Stays(false)
     } else {
         Received::Refused(DOT_CONTEXT, at)
@@ -116,9 +116,9 @@ fn take_dot(frames: &mut Frames, at: usize) -> Received
 
 /// What an open call that ends at `at` comes to.
 fn received_of(completed: Completed, at: usize) -> Received
-    ensures takes { (setting : Setting) (frames : List Frame) (cs : List ℕ)
-        → Takes setting frames at cs result
-        (plan_gives setting frames (plan_of completed) at cs) }
+    ensures takes { (setting : Setting) (stack : List Frame) (cs : List ℕ)
+        → Takes setting stack at cs result
+        (plan_gives setting stack (plan_of completed) at cs) }
     ensures leaves { IsReceivedAt (completed_lookahead completed) at result }
 {
     match completed {
@@ -130,21 +130,21 @@ fn received_of(completed: Completed, at: usize) -> Received
 /// What the open calls make of what is found in the innermost at `at`.
 pub(crate) fn deliver<R: MacroFunctions>(
     with: &Context<'_, R>,
-    frames: &mut Frames,
+    stack: &mut Stack,
     found: Found,
     at: usize,
 ) -> Result<Delivered, AllocError>
     requires answers { R.answers with.now.macros.now }
     requires within { at ≤ with.now.limits.text }
     ensures delivers { let setting = setting R.functions with.now in
-        (cs : List ℕ) → IfOk result (λ delivered. Delivers setting frames.new at cs delivered
-        (plan_gives setting frames.old (gives found) at cs)) }
-    ensures shorter { IfOk result (λ delivered. length frames.new ≤ length frames.old) }
+        (cs : List ℕ) → IfOk result (λ delivered. Delivers setting stack.new at cs delivered
+        (plan_gives setting stack.old (gives found) at cs)) }
+    ensures shorter { IfOk result (λ delivered. length stack.new ≤ length stack.old) }
     ensures leaves { IfOk result (IsDeliveredAt (lookahead found) at) }
 {
     let mut found = found;
-    'calls: while frames.len() > 0 {
-        match take(with, frames, found, at)? {
+    'calls: while stack.len() > 0 {
+        match take(with, stack, found, at)? {
             Received::Stays(token) => return Ok(Delivered::Waits(token)),
             Received::Gives(next) => found = next,
             Received::Refused(code, offset) => return Ok(Delivered::Refused(code, offset)),

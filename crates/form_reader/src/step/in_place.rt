@@ -7,7 +7,7 @@ ghost use Rattle.form_reader.specs.declared.step.in_place.InPlace.TheVariants.{P
 
 use crate::context::Context;
 use crate::gather::LineByte;
-use crate::stack::Frames;
+use crate::stack::Stack;
 use crate::state::Position;
 use crate::step::object::{is_blank, stands_alone};
 use crate::token::{BegunScan, FirstByte, first_byte};
@@ -32,22 +32,22 @@ pub enum InPlace {
 #[inline(always)]
 pub(crate) fn in_place<R: MacroFunctions>(
     with: &Context<'_, R>,
-    frames: &Frames,
+    stack: &Stack,
     position: &mut Position,
     at: usize,
     c: u8,
 ) -> Result<InPlace, AllocError>
     requires within { at ≤ with.now.limits.text }
-    requires nesting { length frames.now ≤ with.now.limits.nesting }
+    requires nesting { length stack.now ≤ with.now.limits.nesting }
     ensures feeds { let setting = setting R.functions with.now in
-        (cs : List ℕ) → IfOk result (FeedsInPlace setting frames.now at c cs position.old position.new) }
+        (cs : List ℕ) → IfOk result (FeedsInPlace setting stack.now at c cs position.old position.new) }
     ensures ready { IfOk result (IsReadyInPlace with.now.limits at position.new) }
     ensures passed { let setting = setting R.functions with.now in
-        frames.now ≡ [] → is_space setting frames.now position.old at c ≡ true → (result ≡ Ok IsPassed) × (position.new ≡ AtObject) }
-    ensures anew { result ≡ Ok IsPassed → (frames.now ≡ []) × (position.new ≡ AtObject) }
+        stack.now ≡ [] → is_space setting stack.now position.old at c ≡ true → (result ≡ Ok IsPassed) × (position.new ≡ AtObject) }
+    ensures anew { result ≡ Ok IsPassed → (stack.now ≡ []) × (position.new ≡ AtObject) }
 {
     match position {
-        Position::Object => begin_in_place(with, frames, position, at, c),
+        Position::Object => begin_in_place(with, stack, position, at, c),
         Position::Token(scan) => match scan.feed(with.readtable, &with.limits, at, c)? {
             LineByte::More => Ok(InPlace::GoesOn),
             LineByte::Ended => Ok(InPlace::Left),
@@ -61,27 +61,27 @@ pub(crate) fn in_place<R: MacroFunctions>(
 #[inline(never)]
 fn begin_in_place<R: MacroFunctions>(
     with: &Context<'_, R>,
-    frames: &Frames,
+    stack: &Stack,
     position: &mut Position,
     at: usize,
     c: u8,
 ) -> Result<InPlace, AllocError>
     requires within { at ≤ with.now.limits.text }
-    requires nesting { length frames.now ≤ with.now.limits.nesting }
+    requires nesting { length stack.now ≤ with.now.limits.nesting }
     requires object { position.old ≡ AtObject }
     ensures feeds { let setting = setting R.functions with.now in
-        (cs : List ℕ) → IfOk result (FeedsInPlace setting frames.now at c cs position.old position.new) }
+        (cs : List ℕ) → IfOk result (FeedsInPlace setting stack.now at c cs position.old position.new) }
     ensures ready { IfOk result (IsReadyInPlace with.now.limits at position.new) }
     ensures passed { let setting = setting R.functions with.now in
-        frames.now ≡ [] → is_space setting frames.now position.old at c ≡ true → (result ≡ Ok IsPassed) × (position.new ≡ AtObject) }
-    ensures anew { result ≡ Ok IsPassed → (frames.now ≡ []) × (position.new ≡ AtObject) }
+        stack.now ≡ [] → is_space setting stack.now position.old at c ≡ true → (result ≡ Ok IsPassed) × (position.new ≡ AtObject) }
+    ensures anew { result ≡ Ok IsPassed → (stack.now ≡ []) × (position.new ≡ AtObject) }
 {
-    match begun_at(with, frames, at, c)? {
+    match begun_at(with, stack, at, c)? {
         Some(scan) => {
             *position = Position::Token(scan);
             Ok(InPlace::GoesOn)
         }
-        None => Ok(discarded(with, frames, at, c)),
+        None => Ok(discarded(with, stack, at, c)),
     }
 }
 
@@ -89,19 +89,19 @@ fn begin_in_place<R: MacroFunctions>(
 #[tactic(auto, using(crate::proofs::Objects::begins_token))]
 fn begun_at<R: MacroFunctions>(
     with: &Context<'_, R>,
-    frames: &Frames,
+    stack: &Stack,
     at: usize,
     c: u8,
 ) -> Result<Option<BegunScan>, AllocError>
     requires within { at ≤ with.now.limits.text }
-    requires nesting { length frames.now ≤ with.now.limits.nesting }
+    requires nesting { length stack.now ≤ with.now.limits.nesting }
     ensures begins { let setting = setting R.functions with.now in
-        (cs : List ℕ) → IfOk result (λ begun. IfSome begun (λ scan. BeginsToken setting frames.now at c cs scan)) }
+        (cs : List ℕ) → IfOk result (λ begun. IfSome begun (λ scan. BeginsToken setting stack.now at c cs scan)) }
     ensures ready { IfOk result (λ begun. IfSome begun (IsBegunAt with.now.limits at)) }
     ensures none { let setting = setting R.functions with.now in
-        is_space setting frames.now AtObject at c ≡ true → result ≡ Ok None }
+        is_space setting stack.now AtObject at c ≡ true → result ≡ Ok None }
 {
-    if frames.is_closed_by(c) {
+    if stack.is_closed_by(c) {
         return Ok(None);
     }
     if stands_alone(with.readtable.syntax(c)) {
@@ -114,19 +114,19 @@ fn begun_at<R: MacroFunctions>(
 }
 
 /// The byte `c` at `at`, where an object may begin, if it begins no token.
-fn discarded<R: MacroFunctions>(with: &Context<'_, R>, frames: &Frames, at: usize, c: u8) -> InPlace
-    requires nesting { length frames.now ≤ with.now.limits.nesting }
+fn discarded<R: MacroFunctions>(with: &Context<'_, R>, stack: &Stack, at: usize, c: u8) -> InPlace
+    requires nesting { length stack.now ≤ with.now.limits.nesting }
     ensures feeds { let setting = setting R.functions with.now in
-        (cs : List ℕ) → FeedsInPlace setting frames.now at c cs AtObject AtObject result }
+        (cs : List ℕ) → FeedsInPlace setting stack.now at c cs AtObject AtObject result }
     ensures ready { IsReadyInPlace with.now.limits at AtObject result }
     ensures passed { let setting = setting R.functions with.now in
-        frames.now ≡ [] → is_space setting frames.now AtObject at c ≡ true → result ≡ IsPassed }
-    ensures anew { result ≡ IsPassed → frames.now ≡ [] }
+        stack.now ≡ [] → is_space setting stack.now AtObject at c ≡ true → result ≡ IsPassed }
+    ensures anew { result ≡ IsPassed → stack.now ≡ [] }
 {
-    if !is_discarded(with, frames, at, c) {
+    if !is_discarded(with, stack, at, c) {
         return InPlace::Left;
     }
-    if frames.len() == 0 {
+    if stack.len() == 0 {
         return InPlace::Passed;
     }
     InPlace::GoesOn
@@ -135,24 +135,24 @@ fn discarded<R: MacroFunctions>(with: &Context<'_, R>, frames: &Frames, at: usiz
 /// Whether the byte `c` at `at`, where an object may begin, is whitespace that is discarded.
 pub(crate) fn is_discarded<R: MacroFunctions>(
     with: &Context<'_, R>,
-    frames: &Frames,
+    stack: &Stack,
     at: usize,
     c: u8,
 ) -> bool
-    requires nesting { length frames.now ≤ with.now.limits.nesting }
+    requires nesting { length stack.now ≤ with.now.limits.nesting }
     ensures stays { let setting = setting R.functions with.now in
-        (cs : List ℕ) → result ≡ true → 0 < length frames.now → Stays setting frames.now at c cs }
+        (cs : List ℕ) → result ≡ true → 0 < length stack.now → Stays setting stack.now at c cs }
     ensures passes { let setting = setting R.functions with.now in
-        (start : ℕ) (cs : List ℕ) → result ≡ true → frames.now ≡ []
-        → rest_of setting frames.now AtObject start at (c ∷ cs) ≡ rest_of setting frames.now AtObject (start + (at + 1)) 0 cs }
+        (start : ℕ) (cs : List ℕ) → result ≡ true → stack.now ≡ []
+        → rest_of setting stack.now AtObject start at (c ∷ cs) ≡ rest_of setting stack.now AtObject (start + (at + 1)) 0 cs }
     ensures below { result ≡ true → at < with.now.limits.text }
     ensures space { let setting = setting R.functions with.now in
-        result ≡ is_space setting frames.now AtObject at c }
+        result ≡ is_space setting stack.now AtObject at c }
 {
     if at >= with.limits.text {
         return false;
     }
-    if frames.is_closed_by(c) {
+    if stack.is_closed_by(c) {
         return false;
     }
     is_blank(with.readtable.syntax(c))

@@ -12,7 +12,7 @@ ghost use Rattle.readtable_core.specs.Tables.{entry_at};
 use crate::call::close;
 use crate::context::Context;
 use crate::dispatch::begin_macro;
-use crate::stack::Frames;
+use crate::stack::Stack;
 use crate::state::{Event, Position};
 use crate::token::begin_token;
 use crate::value::{Delivered, deliver};
@@ -26,28 +26,28 @@ use user_macros::MacroFunctions;
 #[inline(always)]
 pub(crate) fn at_object<R: MacroFunctions>(
     with: &Context<'_, R>,
-    frames: &mut Frames,
+    stack: &mut Stack,
     at: usize,
     c: u8,
 ) -> Result<Event, AllocError>
     requires answers { R.answers with.now.macros.now }
     requires within { at ≤ with.now.limits.text }
-    requires nesting { length frames.old ≤ with.now.limits.nesting }
+    requires nesting { length stack.old ≤ with.now.limits.nesting }
     ensures brings { let setting = setting R.functions with.now in
-        (cs : List ℕ) → IfOk result (λ event. Brings setting frames.new (at + 1) cs event
-        (position_gives setting frames.old AtObject at (c ∷ cs))) }
+        (cs : List ℕ) → IfOk result (λ event. Brings setting stack.new (at + 1) cs event
+        (position_gives setting stack.old AtObject at (c ∷ cs))) }
     ensures ready { IfOk result (IsReady with.now.limits (at + 1)) }
-    ensures nesting { IfOk result (λ _. length frames.new ≤ with.now.limits.nesting) }
+    ensures nesting { IfOk result (λ _. length stack.new ≤ with.now.limits.nesting) }
 {
     // The closing character is looked for before its own syntax, which may be any.
-    if let Some(frame) = frames.pop_closed_by(c) {
+    if let Some(frame) = stack.pop_closed_by(c) {
         if at >= with.limits.text {
             return Ok(Event::Refused(FORM_TOO_LONG, at));
         }
-        return close(with, frames.len(), frame, at + 1);
+        return close(with, stack.len(), frame, at + 1);
     }
     if stands_alone(with.readtable.syntax(c)) {
-        alone(with, frames, at, c)
+        alone(with, stack, at, c)
     } else {
         begin_token(with, at, c)
     }
@@ -57,18 +57,18 @@ pub(crate) fn at_object<R: MacroFunctions>(
 #[inline(always)]
 pub(crate) fn after_token<R: MacroFunctions>(
     with: &Context<'_, R>,
-    frames: &mut Frames,
+    stack: &mut Stack,
     at: usize,
     c: u8,
 ) -> Result<Event, AllocError>
     requires answers { R.answers with.now.macros.now }
     requires within { at ≤ with.now.limits.text }
-    requires nesting { length frames.old ≤ with.now.limits.nesting }
+    requires nesting { length stack.old ≤ with.now.limits.nesting }
     ensures brings { let setting = setting R.functions with.now in
-        (cs : List ℕ) → IfOk result (λ event. Brings setting frames.new (at + 1) cs event
-        (next_item_gives setting true frames.old at (c ∷ cs))) }
+        (cs : List ℕ) → IfOk result (λ event. Brings setting stack.new (at + 1) cs event
+        (next_item_gives setting true stack.old at (c ∷ cs))) }
     ensures ready { IfOk result (IsReady with.now.limits (at + 1)) }
-    ensures nesting { IfOk result (λ _. length frames.new ≤ with.now.limits.nesting) }
+    ensures nesting { IfOk result (λ _. length stack.new ≤ with.now.limits.nesting) }
 {
     // Whitespace that ended a token is discarded with it, also where it is the closing character.
     if is_blank(with.readtable.syntax(c)) {
@@ -77,7 +77,7 @@ pub(crate) fn after_token<R: MacroFunctions>(
         }
         return Ok(Event::Open(Position::Object));
     }
-    at_object(with, frames, at, c)
+    at_object(with, stack, at, c)
 }
 
 /// Whether it is the syntax type of whitespace.
@@ -109,27 +109,27 @@ pub enum Passed {
 #[inline(always)]
 pub(crate) fn after_found<R: MacroFunctions>(
     with: &Context<'_, R>,
-    frames: &mut Frames,
+    stack: &mut Stack,
     found: Found,
     at: usize,
     c: u8,
 ) -> Result<Passed, AllocError>
     requires answers { R.answers with.now.macros.now }
     requires within { at ≤ with.now.limits.text }
-    requires nesting { length frames.old ≤ with.now.limits.nesting }
+    requires nesting { length stack.old ≤ with.now.limits.nesting }
     requires found { lookahead found ≤ 1 }
     ensures passes { let setting = setting R.functions with.now in
-        (cs : List ℕ) → IfOk result (λ passed. Passes setting frames.new at c cs passed
-        (plan_gives setting frames.old (gives found) at (c ∷ cs))) }
+        (cs : List ℕ) → IfOk result (λ passed. Passes setting stack.new at c cs passed
+        (plan_gives setting stack.old (gives found) at (c ∷ cs))) }
     ensures ready { IfOk result (IsReadyPass with.now.limits at) }
-    ensures nesting { IfOk result (λ _. length frames.new ≤ with.now.limits.nesting) }
+    ensures nesting { IfOk result (λ _. length stack.new ≤ with.now.limits.nesting) }
 {
-    match deliver(with, frames, found, at)? {
+    match deliver(with, stack, found, at)? {
         Delivered::Waits(token) => {
             if token {
-                Ok(Passed::Brings(after_token(with, frames, at, c)?))
+                Ok(Passed::Brings(after_token(with, stack, at, c)?))
             } else {
-                Ok(Passed::Brings(at_object(with, frames, at, c)?))
+                Ok(Passed::Brings(at_object(with, stack, at, c)?))
             }
         }
         Delivered::Done(found) => Ok(Passed::Done(found)),
@@ -157,19 +157,19 @@ pub(crate) fn stands_alone(syntax: Syntax) -> bool
 #[inline(always)]
 pub(crate) fn alone<R: MacroFunctions>(
     with: &Context<'_, R>,
-    frames: &mut Frames,
+    stack: &mut Stack,
     at: usize,
     c: u8,
 ) -> Result<Event, AllocError>
     requires answers { R.answers with.now.macros.now }
     requires within { at ≤ with.now.limits.text }
-    requires nesting { length frames.old ≤ with.now.limits.nesting }
+    requires nesting { length stack.old ≤ with.now.limits.nesting }
     requires alone { stands_alone (entry_at with.now.readtable.now c).syntax ≡ true }
     ensures brings { let setting = setting R.functions with.now in
-        (cs : List ℕ) → IfOk result (λ event. Brings setting frames.new (at + 1) cs event
-        (plan_gives setting frames.old (attempt_at setting (length frames.old)) at (c ∷ cs))) }
+        (cs : List ℕ) → IfOk result (λ event. Brings setting stack.new (at + 1) cs event
+        (plan_gives setting stack.old (attempt_at setting (length stack.old)) at (c ∷ cs))) }
     ensures ready { IfOk result (IsReady with.now.limits (at + 1)) }
-    ensures nesting { IfOk result (λ _. length frames.new ≤ with.now.limits.nesting) }
+    ensures nesting { IfOk result (λ _. length stack.new ≤ with.now.limits.nesting) }
 {
     with.readtable.soundness();
     // One byte too many is refused as that (23), also where it is no character (2).
@@ -181,8 +181,8 @@ pub(crate) fn alone<R: MacroFunctions>(
     }
     match with.readtable.syntax(c) {
         Syntax::Whitespace => Ok(Event::Gives(Found::Nothing(false))),
-        Syntax::TerminatingMacro => begin_macro(with, frames, c, at + 1),
-        Syntax::NonTerminatingMacro => begin_macro(with, frames, c, at + 1),
+        Syntax::TerminatingMacro => begin_macro(with, stack, c, at + 1),
+        Syntax::NonTerminatingMacro => begin_macro(with, stack, c, at + 1),
         _ => Ok(Event::Refused(INVALID_CHARACTER, at)),
     }
 }

@@ -7,5 +7,5 @@ use Rattle.form_reader.proofs.value.deliver.Goals as goal
 pub returns-clause-delivers : goal.returns-clause-delivers
 returns-clause-delivers g c = λ cs.
     let setting = setting g.R.MacroFunctions.functions c.args.with.now in
-    let none = none_open c.calls.frames (omega (arith, c.len.ensures, c.calls-test.false)) in
-    (none_left setting c.args.frames.now c.calls.frames c.args.found c.calls.found c.args.at cs c.calls.invariant.0 none, none)
+    let none = none_open c.calls.stack (omega (arith, c.len.ensures, c.calls-test.false)) in
+    (none_left setting c.args.stack.now c.calls.stack c.args.found c.calls.found c.args.at cs c.calls.invariant.0 none, none)

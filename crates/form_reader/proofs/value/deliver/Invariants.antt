@@ -8,10 +8,10 @@ use Rattle.form_reader.proofs.value.deliver.Given as goal
 abbrev pub invariant-calls : goal.invariant-calls
 invariant-calls g l =
     let setting = setting g.R.MacroFunctions.functions l.fn.with in
-    ((cs : List ℕ) → run setting.table setting.limits (given setting l.fn.frames (gives l.fn.found)) l.fn.at cs
-    ≡ run setting.table setting.limits (given setting l.frames (gives l.found)) l.fn.at cs)
-    × (length l.frames ≤ length l.fn.frames)
+    ((cs : List ℕ) → run setting.table setting.limits (given setting l.fn.stack (gives l.fn.found)) l.fn.at cs
+    ≡ run setting.table setting.limits (given setting l.stack (gives l.found)) l.fn.at cs)
+    × (length l.stack ≤ length l.fn.stack)
     × (lookahead l.found ≤ lookahead l.fn.found)
 
 abbrev pub decreases-calls : goal.decreases-calls
-decreases-calls g l = length l.frames
+decreases-calls g l = length l.stack

@@ -1,7 +1,7 @@
 use Rattle.std.proofs.Common.{sym, rules}
 use Rattle.lisp_reading.specs.declared.found.Found.TheVariants.{LoneDot as lone_dot}
 use Rattle.form_reader.proofs.Stacks.{last_takes}
-use Rattle.form_reader.proofs.stack.Frames.take_dot.Goals as goal
+use Rattle.form_reader.proofs.stack.Stack.take_dot.Goals as goal
 
 pub returns-in-Some-clause-takes : goal.returns-in-Some-clause-takes
 returns-in-Some-clause-takes c = λ e.

@@ -1,7 +1,7 @@
 use Rattle.std.proofs.Common.{sym, rules}
 use Rattle.lisp_reading.specs.declared.found.Found.TheVariants.{One as one}
 use Rattle.form_reader.proofs.Stacks.{last_takes, taken_so}
-use Rattle.form_reader.proofs.stack.Frames.take_object.Goals as goal
+use Rattle.form_reader.proofs.stack.Stack.take_object.Goals as goal
 
 pub returns-in-Some-clause-takes : goal.returns-in-Some-clause-takes
 returns-in-Some-clause-takes c = λ token.
