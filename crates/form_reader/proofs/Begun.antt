@@ -17,8 +17,8 @@ use Rattle.form_reader.specs.declared.reader.ReaderState.{ReaderState}
 use Rattle.form_reader.specs.declared.reader.ReaderState.TheVariants.{Open}
 use Rattle.form_reader.specs.declared.reader.Advance.{Advance}
 use Rattle.form_reader.specs.declared.reader.Advance.TheVariants.{More as AdvanceMore, Form as AdvanceForm, Refused as AdvanceRefused}
-use Rattle.form_reader.specs.declared.state.Position.{Position}
-use Rattle.form_reader.specs.declared.state.Position.TheVariants.{Object as AtObject}
+use Rattle.form_reader.specs.declared.state.State.{State}
+use Rattle.form_reader.specs.declared.state.State.TheVariants.{Object as AtObject}
 use Rattle.form_reader.specs.declared.step.Change.{Change}
 use Rattle.form_reader.specs.declared.step.Change.TheVariants.{Goes, Form as ChangeForm, Refused as ChangeRefused}
 use Rattle.form_reader.specs.declared.step.in_place.InPlace.{InPlace}
@@ -174,13 +174,13 @@ other_byte setting c is some = sym (plain (is_whitespace setting.table c)) ∙ a
     plain false = refl
 
 -- where a reader is between forms, a byte that is not passed over is not discarded
-pub other_there : (setting : Setting) (reader : FormReader) (position : Position) (byte : ℕ) (result : Result InPlace AllocError) → reader.state ≡ Open position
-    → (reader.stack ≡ [] → is_space setting reader.stack position reader.at byte ≡ true → result ≡ Ok IsPassed) → (result ≡ Ok IsPassed → ⊥)
+pub other_there : (setting : Setting) (reader : FormReader) (state : State) (byte : ℕ) (result : Result InPlace AllocError) → reader.state ≡ Open state
+    → (reader.stack ≡ [] → is_space setting reader.stack state reader.at byte ≡ true → result ≡ Ok IsPassed) → (result ≡ Ok IsPassed → ⊥)
     → IsBetween reader → 0 < setting.limits.text → is_whitespace setting.table byte ≡ false
-other_there setting reader position byte result is passes never between some = by (is_whitespace setting.table byte) refl
+other_there setting reader state byte result is passes never between some = by (is_whitespace setting.table byte) refl
   where
-    here : position ≡ AtObject
-    here = let same : Open position ≡ Open AtObject = sym is ∙ between.state in cc
+    here : state ≡ AtObject
+    here = let same : Open state ≡ Open AtObject = sym is ∙ between.state in cc
 
     by : (b : Bool) → is_whitespace setting.table byte ≡ b → is_whitespace setting.table byte ≡ false
     by false e = e
@@ -188,7 +188,7 @@ other_there setting reader position byte result is passes never between some = b
         absurd (never (passes between.stack ((λ i. is_space setting (between.stack i) (here i) (between.at i) byte)
         ∙ ap (λ (b : Bool). b && (is_whitespace setting.table byte && true)) (lt-ltb 0 setting.limits.text some) ∙ ap (λ (b : Bool). true && (b && true)) e)))
 
-module _ (setting : Setting) (old : FormReader) (position : Position) (bytes : List ℕ) (byte : ℕ) (after : IsAfterIn setting old (Open position) bytes) (has : HasBegun setting old bytes) where
+module _ (setting : Setting) (old : FormReader) (state : State) (bytes : List ℕ) (byte : ℕ) (after : IsAfterIn setting old (Open state) bytes) (has : HasBegun setting old bytes) where
   -- the byte, where it is the first of what is open
   abbrev IsOther : Type 0
   IsOther = IsBetween old → 0 < setting.limits.text → is_whitespace setting.table byte ≡ false
@@ -202,9 +202,9 @@ module _ (setting : Setting) (old : FormReader) (position : Position) (bytes : L
       ap (is_whitespace setting.table) (sym same) ∙ other (has.between (omega (arith, after.0, here))) some)
 
   -- it came to nothing before the byte
-  ended_begins : EndsBefore setting old.stack position old.at byte → BeginsAt setting (bytes ++ byte ∷ []) (old.start + old.at)
+  ended_begins : EndsBefore setting old.stack state old.at byte → BeginsAt setting (bytes ++ byte ∷ []) (old.start + old.at)
   ended_begins ends =
-      let at_end = ended_there setting old.stack old.at byte (nothing ends.token) position (ends.found []) in
+      let at_end = ended_there setting old.stack old.at byte (nothing ends.token) state (ends.found []) in
       let none : reads setting bytes ≡ empty =
       ap (reads setting) (sym (append-nil bytes)) ∙ after.1 [] ∙ ap (outcome_of setting old.start) at_end
       ∙ reads_further setting (old.start + old.at) [] ∙ ap (further (old.start + old.at)) (reads_none setting) in
@@ -222,7 +222,7 @@ module _ (setting : Setting) (old : FormReader) (position : Position) (bytes : L
   }
 
   pub stepped_begun : (mid new : FormReader) (stack : List Frame) (change : Change) (step : Advance) → IsOther
-      → Starts setting old.stack position old.start old.at byte change → BeginsAnew stack change → Becomes change mid new step → mid.stack ≡ stack → mid.start ≡ old.start
+      → Starts setting old.stack state old.start old.at byte change → BeginsAnew stack change → Becomes change mid new step → mid.stack ≡ stack → mid.start ≡ old.start
       → Steps setting new (bytes ++ byte ∷ []) step → StepsBegun setting new (bytes ++ byte ∷ []) step
   stepped_begun mid new stack (Goes start at there) step other starts anew takes same began steps =
       subst (λ (s : Advance). StepsBegun setting new (bytes ++ byte ∷ []) s) (sym takes.0) (by starts)
@@ -236,7 +236,7 @@ module _ (setting : Setting) (old : FormReader) (position : Position) (bytes : L
       has_begun : BeginsAt setting (bytes ++ byte ∷ []) start → HasBegun setting new (bytes ++ byte ∷ [])
       has_begun begins = record { goes_on = (there, takes.4); begins = subst (BeginsAt setting (bytes ++ byte ∷ [])) (sym takes.1) begins; between = between }
 
-      by : (start ≡ old.start) ⊎ ((at ≡ 0) ⊎ ((start ≡ old.start + old.at) × EndsBefore setting old.stack position old.at byte)) → HasBegun setting new (bytes ++ byte ∷ [])
+      by : (start ≡ old.start) ⊎ ((at ≡ 0) ⊎ ((start ≡ old.start + old.at) × EndsBefore setting old.stack state old.at byte)) → HasBegun setting new (bytes ++ byte ∷ [])
       by (inl stays) = has_begun (subst (BeginsAt setting (bytes ++ byte ∷ [])) (sym stays) (stays_begun other))
       by (inr (inl none)) = between_begun setting new (bytes ++ byte ∷ []) told.0 (between (omega (arith, takes.2, none)))
       by (inr (inr here)) = has_begun (subst (BeginsAt setting (bytes ++ byte ∷ [])) (sym here.0) (ended_begins here.1))

@@ -52,7 +52,7 @@ all_proper (x ∷ xs) h =
 
 -- a call that ends with a byte, and no token in it
 pub ended_ready : (limits : Limits) (most at : ℕ) (event : Event) → IsEnd most at event → most ≤ 0 → at ≤ limits.text → IsReady limits at event
-ended_ready limits most at (IsAt position) h none le = absurd h
+ended_ready limits most at (IsAt state) h none le = absurd h
 ended_ready limits most at (IsGiven found) h none le = (le, omega (arith, h, none))
 ended_ready limits most at (IsRefused code offset) h none le = h
 
@@ -62,7 +62,7 @@ all_ready limits at (Ok event) h le = ended_ready limits 0 at event h (omega ari
 all_ready limits at (Err e) h le = tt
 
 pub end_within : (less most at : ℕ) (event : Event) → IsEnd less at event → less ≤ most → IsEnd most at event
-end_within less most at (IsAt position) h le = h
+end_within less most at (IsAt state) h le = h
 end_within less most at (IsGiven found) h le = omega (arith, h, le)
 end_within less most at (IsRefused code offset) h le = h
 

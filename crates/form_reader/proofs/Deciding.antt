@@ -17,8 +17,8 @@ use Rattle.token_scan.proofs.Steps.{outside_invalid, inside_invalid}
 use Rattle.lisp_reading.specs.declared.found.Found.{Found}
 use Rattle.form_reader.specs.declared.stack.Frame.{Frame}
 use Rattle.lisp_reading.specs.declared.limits.Limits.{Limits}
-use Rattle.form_reader.specs.declared.state.Position.{Position}
-use Rattle.form_reader.specs.declared.state.Position.TheVariants.{Object as AtObject, Token as AtToken, CallToken as AtCallToken, Text as AtText, Escaped as AtEscaped, Line as AtLine, Block as AtBlock, Number as AtNumber}
+use Rattle.form_reader.specs.declared.state.State.{State}
+use Rattle.form_reader.specs.declared.state.State.TheVariants.{Object as AtObject, Token as AtToken, CallToken as AtCallToken, Text as AtText, Escaped as AtEscaped, Line as AtLine, Block as AtBlock, Number as AtNumber}
 use Rattle.lisp_reading.specs.declared.way.Keep.{Keep}
 use Rattle.lisp_reading.specs.Plans.{Plan, gives, refuses, takes, then_plan, character, next_byte, loop, Read, fault, within, run}
 use Rattle.lisp_reading.specs.Calls.{keep_of}
@@ -27,7 +27,7 @@ use Rattle.form_reader.specs.Token.{is_going, token_read, refused_number}
 use Rattle.form_reader.specs.Stack.{close_of, close_of_stack, next_item_in, call_in, given, between, token_goes_on}
 use Rattle.lisp_reading.specs.Gathering.{text_turn, kept, line_turn, block_turn}
 use Rattle.lisp_reading.specs.Reading.{Piece, Outcome, form, empty, refused, piece_of, closed, or_closed, next_item_turn, next_item, stands_alone, alone, inner, attempt, reads, number_after, sub_there, dispatched}
-use Rattle.form_reader.specs.State.{IsPositionAt, inner_at, position_gives}
+use Rattle.form_reader.specs.State.{IsStateAt, inner_at, state_gives}
 use Rattle.form_reader.specs.Reader.{MayGoOn, DecideNothing}
 use Rattle.form_reader.specs.Step.{outcome_of, rest_of}
 use Rattle.form_reader.proofs.Tokens.{cut, refused_cut}
@@ -38,7 +38,7 @@ use Rattle.form_reader.proofs.Stacks.{given_fault, gathering_ends, gathering_fai
 use Rattle.lisp_reading.proofs.Refusals.{refusal_stays}
 use Rattle.lisp_reading.proofs.Steps.{and_then, run_then}
 use Rattle.form_reader.proofs.PlanEnds.{blames_byte}
-use Rattle.form_reader.proofs.TextEnds.{position_last, last_blames, last_refused}
+use Rattle.form_reader.proofs.TextEnds.{state_last, last_blames, last_refused}
 use Rattle.lisp_reading.proofs.Turns.{attempt_ends, loop_is, text_guarded, line_guarded, block_guarded, next_item_guarded}
 
 -- ---- a byte that is no character
@@ -185,18 +185,18 @@ token_fails setting stack on scan at c going le beyond =
       elim (nat_lt at setting.limits.text) as (λ b. blames_byte (if b then INVALID_CHARACTER else FORM_TOO_LONG) ≡ true) [ true ↦ refl | false ↦ refl ],
     )
 
--- ---- at each position
+-- ---- at each state
 
-position_fails : (setting : Setting) (stack : List Frame) (position : Position) (at c : ℕ) → IsPositionAt at position → at ≤ setting.limits.text → IsAlien setting (close_of_stack stack) c
-    → Fails at (position_gives setting stack position at (c ∷ []))
-position_fails setting stack AtObject at c stands le alien = between_fails setting stack at c le alien
-position_fails setting stack (AtToken scan) at c stands le alien = token_fails setting stack _ scan at c stands le alien.beyond
-position_fails setting stack (AtCallToken call scan) at c stands le alien = token_fails setting stack _ scan at c stands le alien.beyond
-position_fails setting stack (AtText call terminator text) at c stands le alien = gathering setting stack at c _ _ (text_fails setting stack at c le alien.beyond terminator text)
-position_fails setting stack (AtEscaped call terminator text) at c stands le alien = gathering setting stack at c _ _ (next_fails setting.table setting.limits _ at c alien.beyond)
-position_fails setting stack (AtLine call text) at c stands le alien = gathering setting stack at c _ _ (line_fails setting stack at c le alien.beyond (keep_of call.function) text)
-position_fails setting stack (AtBlock call levels) at c stands le alien = gathering setting stack at c _ _ (block_fails setting stack at c le alien.beyond levels)
-position_fails setting stack (AtNumber character number) at c stands le alien = number_fails setting stack at c le alien.beyond character number
+state_fails : (setting : Setting) (stack : List Frame) (state : State) (at c : ℕ) → IsStateAt at state → at ≤ setting.limits.text → IsAlien setting (close_of_stack stack) c
+    → Fails at (state_gives setting stack state at (c ∷ []))
+state_fails setting stack AtObject at c stands le alien = between_fails setting stack at c le alien
+state_fails setting stack (AtToken scan) at c stands le alien = token_fails setting stack _ scan at c stands le alien.beyond
+state_fails setting stack (AtCallToken call scan) at c stands le alien = token_fails setting stack _ scan at c stands le alien.beyond
+state_fails setting stack (AtText call terminator text) at c stands le alien = gathering setting stack at c _ _ (text_fails setting stack at c le alien.beyond terminator text)
+state_fails setting stack (AtEscaped call terminator text) at c stands le alien = gathering setting stack at c _ _ (next_fails setting.table setting.limits _ at c alien.beyond)
+state_fails setting stack (AtLine call text) at c stands le alien = gathering setting stack at c _ _ (line_fails setting stack at c le alien.beyond (keep_of call.function) text)
+state_fails setting stack (AtBlock call levels) at c stands le alien = gathering setting stack at c _ _ (block_fails setting stack at c le alien.beyond levels)
+state_fails setting stack (AtNumber character number) at c stands le alien = number_fails setting stack at c le alien.beyond character number
 
 -- ---- where a reader waits for more
 
@@ -225,30 +225,30 @@ may_go_on_by setting bytes c code (refused number offset) e next =
     by false is = omega (arith, (refusal_stays setting bytes number offset e).0, ltb-false offset (length bytes) is)
 
 -- The byte that is no character is refused at its own offset.
-next_refused : (setting : Setting) (stack : List Frame) (position : Position) (start at : ℕ) (bytes : List ℕ) → IsPositionAt at position → at ≤ setting.limits.text → start + at ≡ length bytes
-    → ((cs : List ℕ) → reads setting (bytes ++ cs) ≡ rest_of setting stack position start at cs)
+next_refused : (setting : Setting) (stack : List Frame) (state : State) (start at : ℕ) (bytes : List ℕ) → IsStateAt at state → at ≤ setting.limits.text → start + at ≡ length bytes
+    → ((cs : List ℕ) → reads setting (bytes ++ cs) ≡ rest_of setting stack state start at cs)
     → (c : ℕ) × ((code : ℕ) × (reads setting (bytes ++ c ∷ []) ≡ refused code (length bytes)) × (blames_byte code ≡ true))
-next_refused setting stack position start at bytes stands le count rest =
+next_refused setting stack state start at bytes stands le count rest =
     let c = 128 + length setting.table.entries + unwrap_or (close_of_stack stack) 0 + 1 in
-    let h = position_fails setting stack position at c stands le (record { beyond = omega arith; none = omega arith; other = omega arith }) in
+    let h = state_fails setting stack state at c stands le (record { beyond = omega arith; none = omega arith; other = omega arith }) in
     (c, (h.0, rest (c ∷ []) ∙ ap (outcome_of setting start) h.1 ∙ ap (λ (n : ℕ). refused h.0 n) count, h.2))
 
-pub decide_nothing : (setting : Setting) (stack : List Frame) (position : Position) (start at : ℕ) (bytes : List ℕ) → IsPositionAt at position → at ≤ setting.limits.text → start + at ≡ length bytes
-    → ((cs : List ℕ) → reads setting (bytes ++ cs) ≡ rest_of setting stack position start at cs) → DecideNothing setting bytes
-decide_nothing setting stack position start at bytes stands le count rest =
-    let next = next_refused setting stack position start at bytes stands le count rest in
-    let last : reads setting bytes ≡ rest_of setting stack position start at [] = sym (ap (reads setting) (append-nil bytes)) ∙ rest [] in
+pub decide_nothing : (setting : Setting) (stack : List Frame) (state : State) (start at : ℕ) (bytes : List ℕ) → IsStateAt at state → at ≤ setting.limits.text → start + at ≡ length bytes
+    → ((cs : List ℕ) → reads setting (bytes ++ cs) ≡ rest_of setting stack state start at cs) → DecideNothing setting bytes
+decide_nothing setting stack state start at bytes stands le count rest =
+    let next = next_refused setting stack state start at bytes stands le count rest in
+    let last : reads setting bytes ≡ rest_of setting stack state start at [] = sym (ap (reads setting) (append-nil bytes)) ∙ rest [] in
     let unlike : reads setting bytes ≡ refused next.1.0 (length bytes) → ⊥ = λ e.
     let blameless : blames_byte next.1.0 ≡ false =
-    last_refused (rest_of setting stack position start at []) next.1.0 (length bytes) (sym last ∙ e)
-    (last_blames setting start (position_gives setting stack position at []) (position_last setting stack at le position stands)) in
+    last_refused (rest_of setting stack state start at []) next.1.0 (length bytes) (sym last ∙ e)
+    (last_blames setting start (state_gives setting stack state at []) (state_last setting stack at le state stands)) in
     false≢true (sym blameless ∙ next.1.2) in
     (next.0, (next.1.0, next.1.1, unlike))
 
-pub may_go_on : (setting : Setting) (stack : List Frame) (position : Position) (start at : ℕ) (bytes : List ℕ) → IsPositionAt at position → at ≤ setting.limits.text → start + at ≡ length bytes
-    → ((cs : List ℕ) → reads setting (bytes ++ cs) ≡ rest_of setting stack position start at cs) → MayGoOn bytes (reads setting bytes)
-may_go_on setting stack position start at bytes stands le count rest =
-    let next = next_refused setting stack position start at bytes stands le count rest in
+pub may_go_on : (setting : Setting) (stack : List Frame) (state : State) (start at : ℕ) (bytes : List ℕ) → IsStateAt at state → at ≤ setting.limits.text → start + at ≡ length bytes
+    → ((cs : List ℕ) → reads setting (bytes ++ cs) ≡ rest_of setting stack state start at cs) → MayGoOn bytes (reads setting bytes)
+may_go_on setting stack state start at bytes stands le count rest =
+    let next = next_refused setting stack state start at bytes stands le count rest in
     may_go_on_by setting bytes next.0 next.1.0 (reads setting bytes) refl next.1.1
 
 pub undecided : (setting : Setting) (bytes : List ℕ) (o : Outcome) → DecideNothing setting bytes → ((cs : List ℕ) → reads setting (bytes ++ cs) ≡ o) → ⊥

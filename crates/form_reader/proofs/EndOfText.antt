@@ -15,7 +15,7 @@ use Rattle.form_reader.specs.declared.value.Delivered.{Delivered}
 use Rattle.form_reader.specs.declared.value.Delivered.TheVariants.{Waits}
 use Rattle.form_reader.specs.declared.reader.ReadOutcome.{ReadOutcome}
 use Rattle.form_reader.specs.declared.state.Event.TheVariants.{Gives as IsGiven}
-use Rattle.form_reader.specs.declared.state.Position.{Position}
+use Rattle.form_reader.specs.declared.state.State.{State}
 use Rattle.form_reader.specs.declared.step.Settled.{Settled}
 use Rattle.form_reader.specs.declared.step.Settled.TheVariants.{Done as SettledDone}
 use Rattle.form_reader.specs.Value.{Delivers}
@@ -26,7 +26,7 @@ use Rattle.lisp_reading.specs.Gathering.{text_turn, line_turn, block_turn, numbe
 use Rattle.lisp_reading.specs.Reading.{Piece, without_space, empty, sub_there, dispatched}
 use Rattle.form_reader.specs.Token.{token_read}
 use Rattle.form_reader.specs.Stack.{attempt_in, next_item_in, call_in, close_of, given, between, token_goes_on}
-use Rattle.form_reader.specs.State.{inner_at, position_gives, Brings}
+use Rattle.form_reader.specs.State.{inner_at, state_gives, Brings}
 use Rattle.form_reader.specs.EndOfText.{TokenStops}
 use Rattle.form_reader.specs.Step.{outcome_of, Settles}
 use Rattle.form_reader.proofs.Values.{delivered}
@@ -48,7 +48,7 @@ use Rattle.token_scan.proofs.Forwards.{Forwards, forwards}
 use Rattle.token_meaning.specs.Results.{scan_refusal_number}
 use Rattle.lisp_reading.proofs.Framing.{Framed, framed}
 use Rattle.lisp_reading.proofs.Offsets.{Parted, Parts, parts}
-use Rattle.form_reader.specs.declared.state.Position.TheVariants.{Object as AtObject, Token as AtToken, CallToken as AtCallToken, Text as AtText, Escaped as AtEscaped, Line as AtLine, Block as AtBlock, Number as AtNumber}
+use Rattle.form_reader.specs.declared.state.State.TheVariants.{Object as AtObject, Token as AtToken, CallToken as AtCallToken, Text as AtText, Escaped as AtEscaped, Line as AtLine, Block as AtBlock, Number as AtNumber}
 use Rattle.form_reader.proofs.Tokens.{cut}
 
 there : (at : ℕ) → at - 0 ≡ at
@@ -145,10 +145,10 @@ nothing_last setting start at found token e =
     ∙ ap (λ (r : Read Found). outcome_of setting (start + at) r) (the_end_there setting)
 
 module _ (setting : Setting) (stack : List Frame) (at : ℕ) where
-  pub position_last : (position known : Position) (result : Result Event AllocError) → position ≡ known
-      → IfOk result (λ event. Brings setting stack at [] event (position_gives setting stack known at []))
-      → IfOk result (λ event. Brings setting stack at [] event (position_gives setting stack position at []))
-  position_last position known result e h = subst (λ (s : Position). IfOk result (λ event. Brings setting stack at [] event (position_gives setting stack s at []))) (sym e) h
+  pub state_last : (state known : State) (result : Result Event AllocError) → state ≡ known
+      → IfOk result (λ event. Brings setting stack at [] event (state_gives setting stack known at []))
+      → IfOk result (λ event. Brings setting stack at [] event (state_gives setting stack state at []))
+  state_last state known result e h = subst (λ (s : State). IfOk result (λ event. Brings setting stack at [] event (state_gives setting stack s at []))) (sym e) h
 
   pub waits_last : (before : List Frame) (found : Found) (event : Event) (delivered : Delivered) (token : Bool) (settled : Settled) (read : Read Found) → event ≡ IsGiven found
       → Brings setting before at [] event read → delivered ≡ Waits token
@@ -329,7 +329,7 @@ module _ (setting : Setting) (stack : List Frame) (at c : ℕ) (found : Found) w
           ∙ plan_there setting.table setting.limits plan at c found ((λ i. run setting.table setting.limits plan (sym here i) (sym rest i)) ∙ e)
       by (Err f) is e = cc
 
-  pub ended_there : (position : Position) → position_gives setting stack position at (c ∷ []) ≡ Ok (found, at, c ∷ []) → position_gives setting stack position at [] ≡ Ok (found, at, [])
+  pub ended_there : (state : State) → state_gives setting stack state at (c ∷ []) ≡ Ok (found, at, c ∷ []) → state_gives setting stack state at [] ≡ Ok (found, at, [])
   ended_there AtObject e = plan_there setting.table setting.limits (between setting stack) at c found e
   ended_there (AtToken scan) e = goes_there _ scan e
   ended_there (AtCallToken call scan) e = goes_there _ scan e

@@ -18,17 +18,17 @@ use Rattle.lisp_reading.specs.Setting.{Setting}
 use Rattle.lisp_reading.specs.Reading.{Piece, closed, piece_of, or_closed, next_item_turn, stands_alone, alone, token_found, attempt_by, attempt, is_whitespace, without_space, told_found}
 use Rattle.form_reader.specs.Token.{token_read, FirstFeeds}
 use Rattle.form_reader.specs.Stack.{close_of, close_of_stack, attempt_in, next_item_in, call_in, given, between, token_goes_on}
-use Rattle.form_reader.specs.State.{attempt_at, inner_at, Brings, position_gives, Moves}
+use Rattle.form_reader.specs.State.{attempt_at, inner_at, Brings, state_gives, Moves}
 use Rattle.lisp_reading.proofs.Turns.{loop_is, next_item_guarded}
 use Rattle.form_reader.proofs.Stacks.{then_moves, given_moves, given_fault, ends_in}
 use Rattle.form_reader.proofs.Dispatches.{token_begins, given_refused}
-use Rattle.form_reader.specs.declared.state.Position.TheVariants.{Object as AtObject, Token as AtToken}
+use Rattle.form_reader.specs.declared.state.State.TheVariants.{Object as AtObject, Token as AtToken}
 use Rattle.token_scan.specs.declared.mark.Mark.{Mark}
 use Rattle.token_scan.specs.Tokens.{kind, typed}
 use Rattle.token_scan.specs.Spelling.{ends_tokens}
 use Rattle.form_reader.specs.Step.{BeginsToken, Stays}
 use Rattle.form_reader.specs.declared.state.Moved.{Moved}
-use Rattle.form_reader.specs.declared.state.Position.{Position}
+use Rattle.form_reader.specs.declared.state.State.{State}
 use Rattle.form_reader.specs.declared.token.FirstByte.{FirstByte}
 use Rattle.lisp_reading.specs.declared.told.Told.{Told}
 use Rattle.lisp_reading.specs.declared.told.TellError.{TellError}
@@ -299,11 +299,11 @@ object_begins setting at c cs stack scan h le other alone same =
     attempts setting at c cs stack h other ∙ token_goes setting at c cs stack (token_read setting.table setting.limits scan (at + 1) cs) le alone same
 
 -- the same where it is known where the reader is, and that a token begins
-pub begun_there : (setting : Setting) (stack : List Frame) (at c : ℕ) (cs : List ℕ) (position : Position) (scan : Scan) (found : Option Scan) → position ≡ AtObject
+pub begun_there : (setting : Setting) (stack : List Frame) (at c : ℕ) (cs : List ℕ) (state : State) (scan : Scan) (found : Option Scan) → state ≡ AtObject
     → found ≡ Some scan → IfSome found (λ s. BeginsToken setting stack at c cs s)
-    → position_gives setting stack position at (c ∷ cs) ≡ position_gives setting stack (AtToken scan) (at + 1) cs
-begun_there setting stack at c cs position scan found is some begins =
-    ap (λ (s : Position). position_gives setting stack s at (c ∷ cs)) is
+    → state_gives setting stack state at (c ∷ cs) ≡ state_gives setting stack (AtToken scan) (at + 1) cs
+begun_there setting stack at c cs state scan found is some begins =
+    ap (λ (s : State). state_gives setting stack s at (c ∷ cs)) is
     ∙ subst (λ (o : Option Scan). IfSome o (λ s. BeginsToken setting stack at c cs s)) some begins
 
 -- whitespace is discarded in an open call
@@ -316,8 +316,8 @@ blank_stays setting at c cs (f ∷ fs) lt le some other e =
     ∙ nothing_stays setting fs f.call (at + 1) cs false f.part
 
 -- the same where it is known where the reader is
-pub position_moves : (setting : Setting) (stack : List Frame) (at c : ℕ) (cs : List ℕ) (position known : Position) (result : Result Moved AllocError) → position ≡ known
-    → IfOk result (λ moved. Moves setting stack at c cs moved (position_gives setting stack known at (c ∷ cs)))
-    → IfOk result (λ moved. Moves setting stack at c cs moved (position_gives setting stack position at (c ∷ cs)))
-position_moves setting stack at c cs position known result is moves =
-    subst (λ (s : Position). IfOk result (λ moved. Moves setting stack at c cs moved (position_gives setting stack s at (c ∷ cs)))) (sym is) moves
+pub state_moves : (setting : Setting) (stack : List Frame) (at c : ℕ) (cs : List ℕ) (state known : State) (result : Result Moved AllocError) → state ≡ known
+    → IfOk result (λ moved. Moves setting stack at c cs moved (state_gives setting stack known at (c ∷ cs)))
+    → IfOk result (λ moved. Moves setting stack at c cs moved (state_gives setting stack state at (c ∷ cs)))
+state_moves setting stack at c cs state known result is moves =
+    subst (λ (s : State). IfOk result (λ moved. Moves setting stack at c cs moved (state_gives setting stack s at (c ∷ cs)))) (sym is) moves

@@ -11,8 +11,8 @@ use Rattle.form_reader.specs.declared.reader.ReaderState.{ReaderState}
 use Rattle.form_reader.specs.declared.reader.ReaderState.TheVariants.{Open, Refused, OutOfMemory}
 use Rattle.form_reader.specs.declared.reader.Advance.{Advance}
 use Rattle.form_reader.specs.declared.reader.Advance.TheVariants.{More as AdvanceMore, Form as AdvanceForm, Refused as AdvanceRefused}
-use Rattle.form_reader.specs.declared.state.Position.{Position}
-use Rattle.form_reader.specs.declared.state.Position.TheVariants.{Object as AtObject}
+use Rattle.form_reader.specs.declared.state.State.{State}
+use Rattle.form_reader.specs.declared.state.State.TheVariants.{Object as AtObject}
 use Rattle.form_reader.specs.declared.step.Change.{Change}
 use Rattle.form_reader.specs.declared.step.Change.TheVariants.{Goes, Form as ChangeForm, Refused as ChangeRefused}
 use Rattle.lisp_reading.specs.declared.found.Found.{Found}
@@ -22,7 +22,7 @@ use Rattle.std.specs.declared.alloc.AllocError.{AllocError}
 use Rattle.form_reader.specs.declared.step.object.Passed.{Passed}
 use Rattle.form_reader.specs.declared.step.object.Passed.TheVariants.{Done as PassedDone}
 use Rattle.form_reader.specs.Step.{Passes, FeedsInPlace, IsReadyInPlace, outcome_of, rest_of, ChangesTo, IsStanding, IsReadyChange, BeginsFrom, Settles, BeginsAnew}
-use Rattle.form_reader.specs.State.{position_gives, Brings}
+use Rattle.form_reader.specs.State.{state_gives, Brings}
 use Rattle.lisp_reading.specs.Setting.{Setting}
 use Rattle.lisp_reading.specs.Reading.{form, refused, reads, Outcome, empty, reads_at}
 use Rattle.form_reader.specs.declared.step.in_place.InPlace.{InPlace}
@@ -47,16 +47,16 @@ new_after setting reader n =
     subst (λ (s : ReaderState). IsAfterIn setting reader s []) (sym n.state)
     (omega (arith, n.start, n.at), λ cs. new_rest setting reader.stack n.stack cs ∙ (λ i. rest_of setting reader.stack AtObject (sym n.start i) (sym n.at i) cs))
 
-module _ (setting : Setting) (old mid new : FormReader) (position : Position) (bytes : List ℕ) (byte : ℕ) (after : List Frame) where
+module _ (setting : Setting) (old mid new : FormReader) (state : State) (bytes : List ℕ) (byte : ℕ) (after : List Frame) where
   abbrev fed_now : List ℕ
   fed_now = bytes ++ byte ∷ []
 
-  one_more : IsAfterIn setting old (Open position) bytes → (cs : List ℕ) → reads setting (fed_now ++ cs) ≡ rest_of setting old.stack position old.start old.at (byte ∷ cs)
+  one_more : IsAfterIn setting old (Open state) bytes → (cs : List ℕ) → reads setting (fed_now ++ cs) ≡ rest_of setting old.stack state old.start old.at (byte ∷ cs)
   one_more a cs = ap (reads setting) (append_assoc bytes (byte ∷ []) cs) ∙ a.1 (byte ∷ cs)
 
   -- it is taken, and what is read of the text after it is this
-  went_to : (next : Position) (start at : ℕ) → start + at ≡ old.start + old.at + 1 → IsAfterIn setting old (Open position) bytes
-      → ((cs : List ℕ) → rest_of setting old.stack position old.start old.at (byte ∷ cs) ≡ rest_of setting old.stack next start at cs)
+  went_to : (next : State) (start at : ℕ) → start + at ≡ old.start + old.at + 1 → IsAfterIn setting old (Open state) bytes
+      → ((cs : List ℕ) → rest_of setting old.stack state old.start old.at (byte ∷ cs) ≡ rest_of setting old.stack next start at cs)
       → IsStanding setting.limits old.stack next at
       → ((start + at ≡ length fed_now) × ((cs : List ℕ) → reads setting (fed_now ++ cs) ≡ rest_of setting old.stack next start at cs))
       × (start + at ≡ length fed_now) × MayGoOn fed_now (reads setting fed_now) × DecideNothing setting fed_now
@@ -71,29 +71,29 @@ module _ (setting : Setting) (old mid new : FormReader) (position : Position) (b
       )
 
   -- it is taken where the reader is
-  pub went_on : (next : Position) → IsAfterIn setting old (Open position) bytes
-      → ((cs : List ℕ) → rest_of setting old.stack position old.start old.at (byte ∷ cs) ≡ rest_of setting old.stack next old.start (old.at + 1) cs)
+  pub went_on : (next : State) → IsAfterIn setting old (Open state) bytes
+      → ((cs : List ℕ) → rest_of setting old.stack state old.start old.at (byte ∷ cs) ≡ rest_of setting old.stack next old.start (old.at + 1) cs)
       → IsStanding setting.limits old.stack next (old.at + 1)
       → ((old.start + (old.at + 1) ≡ length fed_now) × ((cs : List ℕ) → reads setting (fed_now ++ cs) ≡ rest_of setting old.stack next old.start (old.at + 1) cs))
       × (old.start + (old.at + 1) ≡ length fed_now) × MayGoOn fed_now (reads setting fed_now) × DecideNothing setting fed_now
   went_on next a same ready = went_to next old.start (old.at + 1) (omega arith) a same ready
 
   -- it is passed over, where nothing is open
-  pub went_past : (next : Position) → IsAfterIn setting old (Open position) bytes
-      → ((cs : List ℕ) → rest_of setting old.stack position old.start old.at (byte ∷ cs) ≡ rest_of setting old.stack next (old.start + (old.at + 1)) 0 cs)
+  pub went_past : (next : State) → IsAfterIn setting old (Open state) bytes
+      → ((cs : List ℕ) → rest_of setting old.stack state old.start old.at (byte ∷ cs) ≡ rest_of setting old.stack next (old.start + (old.at + 1)) 0 cs)
       → IsStanding setting.limits old.stack next 0
       → ((old.start + (old.at + 1) + 0 ≡ length fed_now) × ((cs : List ℕ) → reads setting (fed_now ++ cs) ≡ rest_of setting old.stack next (old.start + (old.at + 1)) 0 cs))
       × (old.start + (old.at + 1) + 0 ≡ length fed_now) × MayGoOn fed_now (reads setting fed_now) × DecideNothing setting fed_now
   went_past next a same ready = went_to next (old.start + (old.at + 1)) 0 (omega arith) a same ready
 
   -- it is refused where the reader is
-  pub gave_up : (code offset : ℕ) → IsAfterIn setting old (Open position) bytes
-      → ((cs : List ℕ) → rest_of setting old.stack position old.start old.at (byte ∷ cs) ≡ refused code offset)
+  pub gave_up : (code offset : ℕ) → IsAfterIn setting old (Open state) bytes
+      → ((cs : List ℕ) → rest_of setting old.stack state old.start old.at (byte ∷ cs) ≡ refused code offset)
       → (cs : List ℕ) → reads setting (fed_now ++ cs) ≡ refused code offset
   gave_up code offset a same cs = one_more a cs ∙ same cs
 
-  pub stepped : (change : Change) (step : Advance) → IsAfterIn setting old (Open position) bytes
-      → ((cs : List ℕ) → ChangesTo setting after cs change (rest_of setting old.stack position old.start old.at (byte ∷ cs)))
+  pub stepped : (change : Change) (step : Advance) → IsAfterIn setting old (Open state) bytes
+      → ((cs : List ℕ) → ChangesTo setting after cs change (rest_of setting old.stack state old.start old.at (byte ∷ cs)))
       → IsReadyChange setting.limits after (old.start + old.at + 1) change → Becomes change mid new step → mid.stack ≡ after → Steps setting new fed_now step
   stepped (Goes start at st) step a turns ready takes same =
       let many : length fed_now ≡ length bytes + 1 = length-append bytes (byte ∷ []) in
@@ -121,7 +121,7 @@ module _ (setting : Setting) (old mid new : FormReader) (position : Position) (b
       subst (λ (s : Advance). Steps setting new fed_now s) (sym takes.0) (λ cs. one_more a cs ∙ turns cs, takes.1)
 
 -- a byte that is taken in its place, one that is left, and one that is refused there
-module _ (setting : Setting) (stack : List Frame) (start at c : ℕ) (old new : Position) (fed : InPlace) where
+module _ (setting : Setting) (stack : List Frame) (start at c : ℕ) (old new : State) (fed : InPlace) where
   pub taken_there : (cs : List ℕ) → fed ≡ InPlaceGoesOn → FeedsInPlace setting stack at c cs old new fed
       → rest_of setting stack old start at (c ∷ cs) ≡ rest_of setting stack new start (at + 1) cs
   taken_there cs is feeds = ap (outcome_of setting start) (subst (λ (f : InPlace). FeedsInPlace setting stack at c cs old new f) is feeds)
@@ -179,8 +179,8 @@ pub begun_first : (setting : Setting) (reader : FormReader) (bytes more : List �
 begun_first setting reader bytes more x start «end» next after e = by reader.state after
   where
     by : (state : ReaderState) → IsAfterIn setting reader state bytes → begun reader ≤ start
-    by (Open position) a =
-        begins_from setting reader.start (position_gives setting reader.stack position reader.at more) x start «end» next (sym (a.1 more) ∙ e)
+    by (Open state) a =
+        begins_from setting reader.start (state_gives setting reader.stack state reader.at more) x start «end» next (sym (a.1 more) ∙ e)
     by (Refused code offset) a = let same : refused code offset ≡ form x start «end» next = sym (a more) ∙ e in cc
     by OutOfMemory a = absurd a
 
@@ -237,7 +237,7 @@ done_outcome setting stack after start at c cs passed found read result e passes
 -- after a form nothing is open
 pub leaves_between : (setting : Setting) (mid new : FormReader) (after : List Frame) (change : Change) (step : Advance) (o : Outcome) → ChangesTo setting after [] change o → Becomes change mid new step
     → mid.stack ≡ after → LeavesBetween new step
-leaves_between setting mid new after (Goes start at position) step o turns takes same = subst (λ (s : Advance). LeavesBetween new s) (sym takes.0) tt
+leaves_between setting mid new after (Goes start at state) step o turns takes same = subst (λ (s : Advance). LeavesBetween new s) (sym takes.0) tt
 leaves_between setting mid new after (ChangeForm x start «end» next) (AdvanceForm datum s e n) o turns takes same =
     record { at = takes.6; stack = takes.7 ∙ same ∙ turns.1; state = takes.8 }
 leaves_between setting mid new after (ChangeForm x start «end» next) AdvanceMore o turns takes same = absurd takes
@@ -246,7 +246,7 @@ leaves_between setting mid new after (ChangeRefused code offset) step o turns ta
 
 -- what an event brings is what this reads
 pub brought : (setting : Setting) (stack : List Frame) (at : ℕ) (event : Event) → (read : Read Found) × Brings setting stack at [] event read
-brought setting stack at (IsAt position) = (position_gives setting stack position at [], refl)
+brought setting stack at (IsAt state) = (state_gives setting stack state at [], refl)
 brought setting stack at (IsGiven found) = (plan_gives setting stack (gives found) at [], refl)
 brought setting stack at (IsRefused code offset) = (fault code offset, refl)
 
@@ -260,7 +260,7 @@ done_anew setting stack at settled found read change e settles anew =
 -- where the attempt that is open after a change has no byte, the reader is between forms
 pub anew_between : (mid new : FormReader) (after : List Frame) (change : Change) (step : Advance) → BeginsAnew after change → Becomes change mid new step → mid.stack ≡ after
     → step ≡ AdvanceMore → begun new ≡ fed new → IsBetween new
-anew_between mid new after (Goes start at position) step anew takes same e here =
+anew_between mid new after (Goes start at state) step anew takes same e here =
     let none = anew (omega (arith, takes.2, here)) in
     record { at = omega (arith, here); stack = takes.3 ∙ same ∙ none.0; state = takes.4 ∙ ap Open none.1 }
 anew_between mid new after (ChangeForm x start «end» next) (AdvanceForm datum s e n) anew takes same is here = cc

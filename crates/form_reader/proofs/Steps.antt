@@ -5,7 +5,7 @@ use Rattle.lisp_reading.specs.declared.found.Found.{Found}
 use Rattle.lisp_reading.specs.declared.found.Found.TheVariants.{Nothing as nothing}
 use Rattle.form_reader.specs.declared.stack.Frame.{Frame}
 use Rattle.lisp_reading.specs.declared.limits.Limits.{Limits}
-use Rattle.form_reader.specs.declared.state.Position.TheVariants.{Object as AtObject}
+use Rattle.form_reader.specs.declared.state.State.TheVariants.{Object as AtObject}
 use Rattle.form_reader.specs.declared.step.Settled.{Settled}
 use Rattle.form_reader.specs.declared.step.Settled.TheVariants.{Done as SettledDone}
 use Rattle.form_reader.specs.declared.step.Change.{Change}
@@ -23,11 +23,11 @@ use Rattle.std.specs.Prelude.{nat_lt, ◌&&◌, not}
 use Rattle.readtable_core.specs.declared.characters.Syntax.{Syntax}
 use Rattle.readtable_core.specs.declared.characters.Syntax.TheVariants.{Whitespace, Constituent, TerminatingMacro, NonTerminatingMacro, SingleEscape, MultipleEscape, Invalid}
 use Rattle.readtable_core.specs.Tables.{entry_at}
-use Rattle.form_reader.specs.declared.state.Position.{Position}
+use Rattle.form_reader.specs.declared.state.State.{State}
 use Rattle.form_reader.specs.declared.step.in_place.InPlace.{InPlace}
 use Rattle.form_reader.proofs.Objects.{attempts, alone_by}
 use Rattle.form_reader.specs.declared.step.Change.TheVariants.{Goes, Form, Refused}
-use Rattle.form_reader.specs.State.{position_gives}
+use Rattle.form_reader.specs.State.{state_gives}
 
 -- ---- what the outermost attempt comes to
 
@@ -147,9 +147,9 @@ none_open [] e = refl
 none_open (f ∷ fs) e = absurd (omega (arith, e))
 
 -- where it is known where the reader is
-pub discarded_there : (setting : Setting) (stack : List Frame) (at c : ℕ) (cs : List ℕ) (position : Position) (fed : InPlace) → position ≡ AtObject
-    → FeedsInPlace setting stack at c cs AtObject AtObject fed → FeedsInPlace setting stack at c cs position position fed
-discarded_there setting stack at c cs position fed e h = subst (λ (s : Position). FeedsInPlace setting stack at c cs s s fed) (sym e) h
+pub discarded_there : (setting : Setting) (stack : List Frame) (at c : ℕ) (cs : List ℕ) (state : State) (fed : InPlace) → state ≡ AtObject
+    → FeedsInPlace setting stack at c cs AtObject AtObject fed → FeedsInPlace setting stack at c cs state state fed
+discarded_there setting stack at c cs state fed e h = subst (λ (s : State). FeedsInPlace setting stack at c cs s s fed) (sym e) h
 
 -- ---- a byte with which an attempt begins
 
@@ -176,9 +176,9 @@ module _ (setting : Setting) (start c : ℕ) (stack : List Frame) (none : stack 
 
 -- ---- a byte of an attempt
 
-module _ (setting : Setting) (stack : List Frame) (position : Position) (start at c : ℕ) where
+module _ (setting : Setting) (stack : List Frame) (state : State) (start at c : ℕ) where
   -- it is taken in it
-  pub kept_starts : (result : Result Change AllocError) → IfOk result (StartsAt start) → IfOk result (Starts setting stack position start at c)
+  pub kept_starts : (result : Result Change AllocError) → IfOk result (StartsAt start) → IfOk result (Starts setting stack state start at c)
   kept_starts (Ok (Goes next count there)) (inl same) = inl same
   kept_starts (Ok (Goes next count there)) (inr here) = inr (inl here)
   kept_starts (Ok (Form x from «end» next)) h = tt
@@ -187,12 +187,12 @@ module _ (setting : Setting) (stack : List Frame) (position : Position) (start a
 
   -- the attempt ended before it
   pub done_starts : (after : List Frame) (passed : Passed) (found : Found) (result : Result Change AllocError) → passed ≡ PassedDone found
-      → ((cs : List ℕ) → Passes setting after at c cs passed (position_gives setting stack position at (c ∷ cs)))
-      → IfOk result (StartsWith setting (start + at) c) → IfOk result (FollowsNothing found) → IfOk result (Starts setting stack position start at c)
+      → ((cs : List ℕ) → Passes setting after at c cs passed (state_gives setting stack state at (c ∷ cs)))
+      → IfOk result (StartsWith setting (start + at) c) → IfOk result (FollowsNothing found) → IfOk result (Starts setting stack state start at c)
   done_starts after passed found (Ok (Goes next count there)) is passes (inl none) follows = inr (inl none)
   done_starts after passed found (Ok (Goes next count there)) is passes (inr here) follows =
-      let told : (cs : List ℕ) → Passes setting after at c cs (PassedDone found) (position_gives setting stack position at (c ∷ cs)) =
-      λ cs. subst (λ (p : Passed). Passes setting after at c cs p (position_gives setting stack position at (c ∷ cs))) is (passes cs) in
+      let told : (cs : List ℕ) → Passes setting after at c cs (PassedDone found) (state_gives setting stack state at (c ∷ cs)) =
+      λ cs. subst (λ (p : Passed). Passes setting after at c cs p (state_gives setting stack state at (c ∷ cs))) is (passes cs) in
       inr (inr (here.0, record { token = follows.0; found = λ cs. (told cs).0 ∙ ap (λ (f : Found). Ok (f, at, c ∷ cs)) follows.1; other = here.1 }))
   done_starts after passed found (Ok (Form x from «end» next)) is passes h follows = tt
   done_starts after passed found (Ok (Refused number offset)) is passes h follows = tt

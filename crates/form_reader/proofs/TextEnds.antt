@@ -37,8 +37,8 @@ use Rattle.lisp_reading.specs.declared.found.Found.TheVariants.{Nothing as nothi
 use Rattle.form_reader.specs.declared.stack.Frame.{Frame}
 use Rattle.form_reader.specs.declared.stack.Part.{Part}
 use Rattle.form_reader.specs.declared.stack.Part.TheVariants.{Next as InNext, List as InList, Until as InUntil, Dotted as InDotted, Tailed as InTailed}
-use Rattle.form_reader.specs.declared.state.Position.{Position}
-use Rattle.form_reader.specs.declared.state.Position.TheVariants.{Object as AtObject, Token as AtToken, CallToken as AtCallToken, Text as AtText, Escaped as AtEscaped, Line as AtLine, Block as AtBlock, Number as AtNumber}
+use Rattle.form_reader.specs.declared.state.State.{State}
+use Rattle.form_reader.specs.declared.state.State.TheVariants.{Object as AtObject, Token as AtToken, CallToken as AtCallToken, Text as AtText, Escaped as AtEscaped, Line as AtLine, Block as AtBlock, Number as AtNumber}
 use Rattle.lisp_reading.specs.declared.told.Told.{Told}
 use Rattle.lisp_reading.specs.declared.told.Told.TheVariants.{Object as told_object, Dot as dot_alone}
 use Rattle.lisp_reading.specs.declared.way.Function.{Function}
@@ -52,7 +52,7 @@ use Rattle.lisp_reading.specs.Answering.{may_be_answered}
 use Rattle.form_reader.specs.Token.{is_going}
 use Rattle.form_reader.specs.Stack.{next_item_in, part_gives, call_in, given, between, token_goes_on}
 use Rattle.lisp_reading.specs.Reading.{Piece, item, dot, closed, is_whitespace, without_space, piece_of, or_closed, next_item_turn, next_item, Items, items_step, items_turn, items_after, undotted, after_tail, after_dot, list_end, bytes_back, finished, answered, completed_by, completed, text_to, line_after, block_after, number_after, sub_there, dispatched, told_found, token_found, attempt, Outcome, form, empty, refused}
-use Rattle.form_reader.specs.State.{IsPositionAt, inner_at, position_gives}
+use Rattle.form_reader.specs.State.{IsStateAt, inner_at, state_gives}
 use Rattle.form_reader.specs.Step.{outcome_of}
 use Rattle.form_reader.proofs.Tokens.{cut, refused_cut}
 use Rattle.lisp_reading.proofs.Forms.{reads_is, the_end_there}
@@ -254,7 +254,7 @@ module _ (setting : Setting) where
       given_at_end fs (then_plan (next_item_in setting f fs) (λ p. call_in setting f fs p))
       (never_then Whatever (next_item_in setting f fs) (λ p. call_in setting f fs p) (next_item_at_end setting _ _))
 
-  -- ---- at each position
+  -- ---- at each state
 
   module _ (stack : List Frame) (at : ℕ) (le : at ≤ setting.limits.text) where
     last : (plan : Plan Found) → AtEnd Whatever plan → LastRead Whatever (run setting.table setting.limits (given setting stack plan) at [])
@@ -277,23 +277,23 @@ module _ (setting : Setting) where
         subst (LastRead Whatever) (sym (ap (token_goes_on setting stack on) (refused_cut setting.limits.text EndOfFile at le))) refl
     token_last on (ScanRefused refusal) marks left all going = cc
 
-    pub position_last : (position : Position) → IsPositionAt at position → LastRead Whatever (position_gives setting stack position at [])
-    position_last AtObject h = run_at_end Whatever setting.table setting.limits at le (between setting stack) (between_at_end stack)
-    position_last (AtToken scan) h = token_last (token_found setting) scan.stage scan.marks scan.left (token_at_end setting) h
-    position_last (AtCallToken call scan) h =
+    pub state_last : (state : State) → IsStateAt at state → LastRead Whatever (state_gives setting stack state at [])
+    state_last AtObject h = run_at_end Whatever setting.table setting.limits at le (between setting stack) (between_at_end stack)
+    state_last (AtToken scan) h = token_last (token_found setting) scan.stage scan.marks scan.left (token_at_end setting) h
+    state_last (AtCallToken call scan) h =
         token_last (λ marks. completed setting (length stack) call true false (marked marks)) scan.stage scan.marks scan.left
         (λ marks. completed_at_end setting (length stack) call true false (marked marks)) h
-    position_last (AtText call terminator text) h =
+    state_last (AtText call terminator text) h =
         never (text_to setting terminator text) _ (loop_at_end Never setting.limits (text_turn setting.table terminator) text (λ more. next_byte_at_end Never _))
-    position_last (AtEscaped call terminator text) h = never (next_byte (λ d. text_to setting terminator (text ++ d ∷ []))) _ (next_byte_at_end Never _)
-    position_last (AtLine call text) h =
+    state_last (AtEscaped call terminator text) h = never (next_byte (λ d. text_to setting terminator (text ++ d ∷ []))) _ (next_byte_at_end Never _)
+    state_last (AtLine call text) h =
         last (then_plan (line_after setting (keep_of call.function) text) (λ cs. completed setting (length stack) call false false (letters cs)))
         (then_at_end Whatever Whatever (line_after setting (keep_of call.function) text) (λ cs. completed setting (length stack) call false false (letters cs))
         (loop_at_end Whatever setting.limits (line_turn (keep_of call.function)) text (λ more. takes_at_end Whatever (gives text) (λ c. true) _ (gives_at_end Whatever text tt)))
         (λ cs none. completed_at_end setting (length stack) call false false (letters cs)))
-    position_last (AtBlock call levels) h =
+    state_last (AtBlock call levels) h =
         never (block_after setting levels) _ (loop_at_end Never setting.limits block_turn levels (λ more. next_byte_at_end Never _))
-    position_last (AtNumber c argument) h =
+    state_last (AtNumber c argument) h =
         last (dispatched setting (length stack) (inner_at setting (length stack)) c argument)
         (then_at_end Whatever Whatever (number_after setting argument) (sub_there setting (length stack) (inner_at setting (length stack)) c)
         (loop_at_end Whatever setting.limits number_turn argument (λ more. takes_at_end Whatever (gives argument) _ _ (gives_at_end Whatever argument tt)))

@@ -6,7 +6,7 @@ use Rattle.token_scan.specs.declared.stage.Stage.TheVariants.{Outside}
 use Rattle.lisp_reading.specs.declared.limits.Limits.{Limits}
 use Rattle.form_reader.specs.declared.state.Event.{Event}
 use Rattle.form_reader.specs.declared.state.Event.TheVariants.{Open as IsAt, Gives as IsGiven, Refused as IsRefused}
-use Rattle.form_reader.specs.declared.state.Position.TheVariants.{Object as AtObject}
+use Rattle.form_reader.specs.declared.state.State.TheVariants.{Object as AtObject}
 use Rattle.form_reader.specs.declared.step.Settled.{Settled}
 use Rattle.form_reader.specs.declared.step.Settled.TheVariants.{Open as SettledOpen, Done as SettledDone, Refused as SettledRefused}
 use Rattle.lisp_reading.specs.Plans.{fault}
@@ -19,12 +19,12 @@ TokenStops table limits scan at (Some number) = token_read table limits scan at 
 
 -- Only where an object may begin is more waited for; a refusal is at no later offset.
 abbrev pub IsLastEvent : ℕ → Event → Type 0
-IsLastEvent at (IsAt position) = position ≡ AtObject
+IsLastEvent at (IsAt state) = state ≡ AtObject
 IsLastEvent at (IsGiven found) = Unit {0}
 IsLastEvent at (IsRefused number offset) = offset ≤ at
 
 -- no more is waited for
 abbrev pub IsLastSettled : ℕ → Settled → Type 0
-IsLastSettled at (SettledOpen position) = ⊥
+IsLastSettled at (SettledOpen state) = ⊥
 IsLastSettled at (SettledDone found) = Unit {0}
 IsLastSettled at (SettledRefused number offset) = offset ≤ at

@@ -3,8 +3,8 @@ use Rattle.std.specs.Prelude.{ℕ, ◌≡◌, ◌+◌, ◌≤◌, ◌<◌, true,
 use Rattle.lisp_object.specs.Object.{IsSound}
 use Rattle.lisp_object.specs.Datum.{object_of, is_proper}
 use Rattle.lisp_reading.specs.declared.limits.Limits.{Limits}
-use Rattle.form_reader.specs.declared.state.Position.{Position}
-use Rattle.form_reader.specs.declared.state.Position.TheVariants.{Object as AtObject}
+use Rattle.form_reader.specs.declared.state.State.{State}
+use Rattle.form_reader.specs.declared.state.State.TheVariants.{Object as AtObject}
 use Rattle.form_reader.specs.declared.reader.FormReader.{FormReader}
 use Rattle.form_reader.specs.declared.reader.ReaderState.{ReaderState}
 use Rattle.form_reader.specs.declared.reader.ReaderState.TheVariants.{Open, Refused, OutOfMemory}
@@ -36,7 +36,7 @@ HasRefused reader number offset = reader.state ≡ Refused number offset
 
 -- it is in a form, or between forms
 abbrev pub IsOpen : FormReader → Type 0
-IsOpen reader = (position : Position) × (reader.state ≡ Open position)
+IsOpen reader = (state : State) × (reader.state ≡ Open state)
 
 -- it ran out of memory
 abbrev pub HasNoMemory : FormReader → Type 0
@@ -75,9 +75,9 @@ LeavesBetween new _ = Unit {0}
 -- The reader is after these bytes, in this setting: what is read of them, with any text after them, is what it stands for with
 -- this text. A reader that ran out of memory is after no bytes.
 abbrev pub IsAfterIn : Setting → FormReader → ReaderState → List ℕ → Type 0
-IsAfterIn setting reader (Open position) bytes =
+IsAfterIn setting reader (Open state) bytes =
     (fed reader ≡ length bytes)
-    × ((cs : List ℕ) → reads setting (bytes ++ cs) ≡ rest_of setting reader.stack position reader.start reader.at cs)
+    × ((cs : List ℕ) → reads setting (bytes ++ cs) ≡ rest_of setting reader.stack state reader.start reader.at cs)
 IsAfterIn setting reader (Refused number offset) bytes = (cs : List ℕ) → reads setting (bytes ++ cs) ≡ refused number offset
 IsAfterIn setting reader OutOfMemory bytes = ⊥
 
@@ -148,8 +148,8 @@ IsSoundStep _ = Unit {0}
 
 -- what a change makes of a reader, and what is answered
 abbrev pub Becomes : Change → FormReader → FormReader → Advance → Type 0
-Becomes (Goes start at position) old new step =
-    (step ≡ AdvanceMore) × (new.start ≡ start) × (new.at ≡ at) × (new.stack ≡ old.stack) × (new.state ≡ Open position)
+Becomes (Goes start at state) old new step =
+    (step ≡ AdvanceMore) × (new.start ≡ start) × (new.at ≡ at) × (new.stack ≡ old.stack) × (new.state ≡ Open state)
 Becomes (ChangeForm x start «end» next) old new (AdvanceForm datum s e n) =
     (object_of datum ≡ x) × (is_proper datum ≡ true) × (s ≡ start) × (e ≡ «end») × (n ≡ next)
     × (new.start ≡ 0) × (new.at ≡ 0) × (new.stack ≡ old.stack) × (new.state ≡ Open AtObject)

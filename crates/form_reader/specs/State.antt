@@ -3,8 +3,8 @@ use Rattle.std.specs.Prelude.{ℕ, ◌≡◌, ◌+◌, ◌-◌, ◌≤◌, false
 use Rattle.std_macros.specs.Values.{letters, marked, nothing as no_material}
 use Rattle.lisp_reading.specs.declared.found.Found.{Found}
 use Rattle.form_reader.specs.declared.stack.Frame.{Frame}
-use Rattle.form_reader.specs.declared.state.Position.{Position}
-use Rattle.form_reader.specs.declared.state.Position.TheVariants.{Object as AtObject, Token as AtToken, CallToken as AtCallToken, Text as AtText, Escaped as AtEscaped, Line as AtLine, Block as AtBlock, Number as AtNumber}
+use Rattle.form_reader.specs.declared.state.State.{State}
+use Rattle.form_reader.specs.declared.state.State.TheVariants.{Object as AtObject, Token as AtToken, CallToken as AtCallToken, Text as AtText, Escaped as AtEscaped, Line as AtLine, Block as AtBlock, Number as AtNumber}
 use Rattle.form_reader.specs.declared.state.Event.{Event}
 use Rattle.form_reader.specs.declared.state.Event.TheVariants.{Open as IsAt, Gives as IsGiven, Refused as IsRefused}
 use Rattle.lisp_reading.specs.Calls.{keep_of}
@@ -29,38 +29,38 @@ abbrev pub inner_at : Setting → ℕ → Option (Plan Found)
 inner_at setting open_calls = inner setting (setting.limits.nesting - open_calls)
 
 -- what the outermost attempt comes to, at an offset counted from where it began
-abbrev pub position_gives : Setting → List Frame → Position → ℕ → List ℕ → Read Found
-position_gives setting stack AtObject at cs = run setting.table setting.limits (between setting stack) at cs
-position_gives setting stack (AtToken scan) at cs =
+abbrev pub state_gives : Setting → List Frame → State → ℕ → List ℕ → Read Found
+state_gives setting stack AtObject at cs = run setting.table setting.limits (between setting stack) at cs
+state_gives setting stack (AtToken scan) at cs =
     token_goes_on setting stack (token_found setting) (token_read setting.table setting.limits scan at cs)
-position_gives setting stack (AtCallToken call scan) at cs =
+state_gives setting stack (AtCallToken call scan) at cs =
     token_goes_on setting stack (λ marks. completed setting (length stack) call true false (marked marks))
     (token_read setting.table setting.limits scan at cs)
-position_gives setting stack (AtText call terminator text) at cs =
+state_gives setting stack (AtText call terminator text) at cs =
     plan_gives setting stack (then_plan (text_to setting terminator text)
     (λ cs. completed setting (length stack) call false false (letters cs))) at cs
-position_gives setting stack (AtEscaped call terminator text) at cs =
+state_gives setting stack (AtEscaped call terminator text) at cs =
     plan_gives setting stack (then_plan (next_byte (λ d. text_to setting terminator (text ++ d ∷ [])))
     (λ cs. completed setting (length stack) call false false (letters cs))) at cs
-position_gives setting stack (AtLine call text) at cs =
+state_gives setting stack (AtLine call text) at cs =
     plan_gives setting stack (then_plan (line_after setting (keep_of call.function) text)
     (λ cs. completed setting (length stack) call false false (letters cs))) at cs
-position_gives setting stack (AtBlock call levels) at cs =
+state_gives setting stack (AtBlock call levels) at cs =
     plan_gives setting stack (then_plan (block_after setting levels)
     (λ u. completed setting (length stack) call false false no_material)) at cs
-position_gives setting stack (AtNumber c number) at cs =
+state_gives setting stack (AtNumber c number) at cs =
     plan_gives setting stack (dispatched setting (length stack) (inner_at setting (length stack)) c number) at cs
 
 -- What holds of where it is, at this offset: a token is not refused, and each block inside a block took a byte.
-abbrev pub IsPositionAt : ℕ → Position → Type 0
-IsPositionAt at (AtToken scan) = IsTrue (is_going scan.stage)
-IsPositionAt at (AtCallToken call scan) = IsTrue (is_going scan.stage)
-IsPositionAt at (AtBlock call levels) = levels.0 ≤ at
-IsPositionAt at _ = Unit {0}
+abbrev pub IsStateAt : ℕ → State → Type 0
+IsStateAt at (AtToken scan) = IsTrue (is_going scan.stage)
+IsStateAt at (AtCallToken call scan) = IsTrue (is_going scan.stage)
+IsStateAt at (AtBlock call levels) = levels.0 ≤ at
+IsStateAt at _ = Unit {0}
 
 -- what was read is what this brings
 abbrev pub Brings : Setting → List Frame → ℕ → List ℕ → Event → Read Found → Type 0
-Brings setting stack at cs (IsAt position) read = read ≡ position_gives setting stack position at cs
+Brings setting stack at cs (IsAt state) read = read ≡ state_gives setting stack state at cs
 Brings setting stack at cs (IsGiven found) read = read ≡ plan_gives setting stack (gives found) at cs
 Brings setting stack at cs (IsRefused number offset) read = read ≡ fault number offset
 
@@ -70,15 +70,15 @@ Moves setting stack at c cs (AfterByte event) read = Brings setting stack (at + 
 Moves setting stack at c cs (BeforeByte event) read = Brings setting stack at (c ∷ cs) event read
 
 -- a token is not refused, and each block inside a block took a byte
-abbrev pub is_position_at : ℕ → Position → Bool
-is_position_at at (AtToken scan) = is_going scan.stage
-is_position_at at (AtCallToken call scan) = is_going scan.stage
-is_position_at at (AtBlock call levels) = nat_le levels.0 at
-is_position_at at _ = true
+abbrev pub is_state_at : ℕ → State → Bool
+is_state_at at (AtToken scan) = is_going scan.stage
+is_state_at at (AtCallToken call scan) = is_going scan.stage
+is_state_at at (AtBlock call levels) = nat_le levels.0 at
+is_state_at at _ = true
 
 -- The offset and the open calls are within the limits. After a refusal, or out of memory, nothing is asked.
 abbrev pub is_standing : Limits → List Frame → ℕ → ReaderState → Bool
-is_standing limits stack at (Open position) = nat_le at limits.text && (nat_le (length stack) limits.nesting && is_position_at at position)
+is_standing limits stack at (Open state) = nat_le at limits.text && (nat_le (length stack) limits.nesting && is_state_at at state)
 is_standing limits stack at (Refused number offset) = true
 is_standing limits stack at OutOfMemory = true
 
@@ -97,13 +97,13 @@ lookahead the_end = 2
 -- What a byte brings, at the offset after it: this offset is within the limit of the text, and nothing of what follows matters
 -- to what was found; a refusal is at no later offset.
 abbrev pub IsReady : Limits → ℕ → Event → Type 0
-IsReady limits at (IsAt position) = (at ≤ limits.text) × IsPositionAt at position
+IsReady limits at (IsAt state) = (at ≤ limits.text) × IsStateAt at state
 IsReady limits at (IsGiven found) = (at ≤ limits.text) × (lookahead found ≡ 0)
 IsReady limits at (IsRefused number offset) = offset ≤ at
 
 -- What a call or a token comes to where it ends: no more is gathered in it.
 abbrev pub IsEnd : ℕ → ℕ → Event → Type 0
-IsEnd most at (IsAt position) = ⊥
+IsEnd most at (IsAt state) = ⊥
 IsEnd most at (IsGiven found) = lookahead found ≤ most
 IsEnd most at (IsRefused number offset) = offset ≤ at
 

@@ -5,16 +5,16 @@ ghost use Rattle.lisp_reading.specs.Setting.{function_of, is_baseless, standard_
 ghost use Rattle.form_reader.specs.Context.{setting};
 ghost use Rattle.lisp_reading.specs.Reading.{macro_called, sub_there};
 ghost use Rattle.form_reader.specs.Stack.{plan_gives};
-ghost use Rattle.form_reader.specs.State.{inner_at, Brings, position_gives, IsReady};
+ghost use Rattle.form_reader.specs.State.{inner_at, Brings, state_gives, IsReady};
 ghost use Rattle.form_reader.specs.declared.stack.Frame.{Frame};
-ghost use Rattle.form_reader.specs.declared.state.Position.TheVariants.{Number as AtNumber};
+ghost use Rattle.form_reader.specs.declared.state.State.TheVariants.{Number as AtNumber};
 ghost use Rattle.form_reader.specs.Dispatch.{Begins, Gathers, reads_objects};
 
 use crate::call::ended;
 use crate::context::Context;
 use crate::gather::{LineByte, number_byte};
 use crate::stack::{Frame, Part, Stack};
-use crate::state::{Event, Position};
+use crate::state::{Event, State};
 use lisp_object::refusal::{
     FORM_TOO_LONG, INVALID_CHARACTER, NO_DISPATCH, OUT_OF_PROFILE, TOO_DEEP,
 };
@@ -51,7 +51,7 @@ pub(crate) fn begin_macro<R: MacroFunctions>(
         Some(name) => {
             if name.is_dispatch() {
                 let character = HeldCharacter::new(c);
-                return Ok(Event::Open(Position::Number(character, HeldNumber::none())));
+                return Ok(Event::Open(State::Number(character, HeldNumber::none())));
             }
             begin_call(with, stack, Invoked::of_macro(function_of(name), c), at)
         }
@@ -72,12 +72,12 @@ pub(crate) fn in_number<R: MacroFunctions>(
     requires nesting { length stack.old ≤ with.now.limits.nesting }
     ensures brings { let setting = setting R.functions with.now in
         (cs : List ℕ) → IfOk result (λ event. Brings setting stack.new (at + 1) cs event
-        (position_gives setting stack.old (AtNumber character number) at (c ∷ cs))) }
+        (state_gives setting stack.old (AtNumber character number) at (c ∷ cs))) }
     ensures ready { IfOk result (IsReady with.now.limits (at + 1)) }
     ensures nesting { IfOk result (λ _. length stack.new ≤ with.now.limits.nesting) }
 {
     match number_byte(with.readtable, &with.limits, &mut number, at, c) {
-        LineByte::More => Ok(Event::Open(Position::Number(character, number))),
+        LineByte::More => Ok(Event::Open(State::Number(character, number))),
         LineByte::Ended => sub_byte(with, stack, character.get(), number, at, c),
         LineByte::Refused(code) => Ok(Event::Refused(code, at)),
     }
@@ -170,20 +170,20 @@ fn gather<R: MacroFunctions>(
         Way::Until(_) => gather_objects(with, stack, call, way, at),
         Way::Text(close) => {
             let text = HeldText::new(with.alloc);
-            Ok(Event::Open(Position::Text(call, close, text)))
+            Ok(Event::Open(State::Text(call, close, text)))
         }
         Way::Line(_) => {
             let text = HeldText::new(with.alloc);
-            Ok(Event::Open(Position::Line(call, text)))
+            Ok(Event::Open(State::Line(call, text)))
         }
-        Way::Block => Ok(Event::Open(Position::Block(call, (0, 0)))),
+        Way::Block => Ok(Event::Open(State::Block(call, (0, 0)))),
         Way::Token => {
             let scan = TokenScan::begin(with.alloc, with.limits.token);
-            Ok(Event::Open(Position::CallToken(call, scan)))
+            Ok(Event::Open(State::CallToken(call, scan)))
         }
         Way::EscapedToken => {
             let scan = TokenScan::begin_escaped(with.alloc, with.limits.token);
-            Ok(Event::Open(Position::CallToken(call, scan)))
+            Ok(Event::Open(State::CallToken(call, scan)))
         }
     }
 }
@@ -214,7 +214,7 @@ fn gather_objects<R: MacroFunctions>(
             }
             let part = Part::Next;
             stack.push(Frame { call, part })?;
-            Ok(Event::Open(Position::Object))
+            Ok(Event::Open(State::Object))
         }
         Way::List => {
             if deep {
@@ -222,7 +222,7 @@ fn gather_objects<R: MacroFunctions>(
             }
             let part = Part::List(HeldObjects::new(with.alloc));
             stack.push(Frame { call, part })?;
-            Ok(Event::Open(Position::Object))
+            Ok(Event::Open(State::Object))
         }
         Way::Until(close) => {
             if deep {
@@ -230,7 +230,7 @@ fn gather_objects<R: MacroFunctions>(
             }
             let part = Part::Until(close, HeldObjects::new(with.alloc));
             stack.push(Frame { call, part })?;
-            Ok(Event::Open(Position::Object))
+            Ok(Event::Open(State::Object))
         }
         Way::Nothing | Way::Text(_) | Way::Line(_) | Way::Block | Way::Token | Way::EscapedToken =>
             { unreachable!() }

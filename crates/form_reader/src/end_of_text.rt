@@ -4,12 +4,12 @@ ghost use Rattle.readtable_core.specs.Tables.{Table};
 ghost use Rattle.form_reader.specs.declared.stack.Frame.{Frame};
 ghost use Rattle.lisp_reading.specs.Setting.{Setting};
 ghost use Rattle.form_reader.specs.Context.{setting};
-ghost use Rattle.form_reader.specs.declared.state.Position.TheVariants.{Object as AtObject, Token as AtToken, CallToken as AtCallToken, Line as AtLine};
+ghost use Rattle.form_reader.specs.declared.state.State.TheVariants.{Object as AtObject, Token as AtToken, CallToken as AtCallToken, Line as AtLine};
 ghost use Rattle.form_reader.specs.declared.reader.ReadOutcome.TheVariants.{Empty as IsEmpty};
 ghost use Rattle.lisp_reading.specs.declared.found.Found.TheVariants.{TheEnd as the_end};
 ghost use Rattle.form_reader.specs.declared.state.Event.TheVariants.{Open as IsAt};
 ghost use Rattle.form_reader.specs.declared.step.Settled.TheVariants.{Done as IsDone};
-ghost use Rattle.form_reader.specs.State.{Brings, position_gives};
+ghost use Rattle.form_reader.specs.State.{Brings, state_gives};
 ghost use Rattle.form_reader.specs.Step.{outcome_of, rest_of, Settles};
 ghost use Rattle.form_reader.specs.EndOfText.{TokenStops, IsLastEvent, IsLastSettled};
 ghost use Rattle.form_reader.specs.Reader.{IsOutcome};
@@ -18,7 +18,7 @@ use crate::call::ended;
 use crate::context::Context;
 use crate::reader::ReadOutcome;
 use crate::stack::Stack;
-use crate::state::{Event, Position};
+use crate::state::{Event, State};
 use crate::step::Settled;
 use crate::token::{BegunScan, refused, token_end};
 use crate::value::{Delivered, deliver};
@@ -50,7 +50,7 @@ fn last_token<R: MacroFunctions>(
     requires within { at ≤ with.now.limits.text }
     ensures brings { let setting = setting R.functions with.now in
         (stack : List Frame) → IfOk result (λ event. Brings setting stack at [] event
-        (position_gives setting stack (AtToken scan) at [])) }
+        (state_gives setting stack (AtToken scan) at [])) }
     ensures last { IfOk result (IsLastEvent at) }
 {
     let mut scan = scan.into_scan();
@@ -72,7 +72,7 @@ fn last_call_token<R: MacroFunctions>(
     requires within { at ≤ with.now.limits.text }
     ensures brings { let setting = setting R.functions with.now in
         (stack : List Frame) → depth ≡ length stack → IfOk result (λ event. Brings setting stack at [] event
-        (position_gives setting stack (AtCallToken call scan) at [])) }
+        (state_gives setting stack (AtCallToken call scan) at [])) }
     ensures last { IfOk result (IsLastEvent at) }
 {
     match token_stop(&with.limits, &mut scan, at) {
@@ -97,37 +97,37 @@ fn last_line<R: MacroFunctions>(
     ensures brings { let setting = setting R.functions with.now in
         (stack : List Frame) → depth ≡ length stack
         → IfOk result (λ event. Brings setting stack at [] event
-        (position_gives setting stack (AtLine call text) at [])) }
+        (state_gives setting stack (AtLine call text) at [])) }
     ensures last { IfOk result (IsLastEvent at) }
 {
     let gathered = StdGathered::Text(text.into_bytes());
     ended(with, depth, &call, false, gathered, at)
 }
 
-/// What the end of the text at `at` brings; the position is left where an object may begin.
+/// What the end of the text at `at` brings; the state is left where an object may begin.
 fn last<R: MacroFunctions>(
     with: &Context<'_, R>,
     depth: usize,
-    position: Position,
+    state: State,
     at: usize,
 ) -> Result<Event, AllocError>
     requires answers { R.answers with.now.macros.now }
     requires within { at ≤ with.now.limits.text }
     ensures brings { let setting = setting R.functions with.now in
         (stack : List Frame) → depth ≡ length stack → IfOk result (λ event. Brings setting stack at [] event
-        (position_gives setting stack position at [])) }
+        (state_gives setting stack state at [])) }
     ensures last { IfOk result (IsLastEvent at) }
-    ensures object { position ≡ AtObject → result ≡ Ok (IsAt AtObject) }
+    ensures object { state ≡ AtObject → result ≡ Ok (IsAt AtObject) }
 {
-    match position {
-        Position::Object => Ok(Event::Open(Position::Object)),
-        Position::Token(scan) => last_token(with, scan, at),
-        Position::CallToken(call, scan) => last_call_token(with, depth, call, scan, at),
-        Position::Line(call, text) => last_line(with, depth, call, text, at),
-        Position::Text(..) => Ok(Event::Refused(END_OF_FILE, at)),
-        Position::Escaped(..) => Ok(Event::Refused(END_OF_FILE, at)),
-        Position::Block(..) => Ok(Event::Refused(END_OF_FILE, at)),
-        Position::Number(..) => Ok(Event::Refused(END_OF_FILE, at)),
+    match state {
+        State::Object => Ok(Event::Open(State::Object)),
+        State::Token(scan) => last_token(with, scan, at),
+        State::CallToken(call, scan) => last_call_token(with, depth, call, scan, at),
+        State::Line(call, text) => last_line(with, depth, call, text, at),
+        State::Text(..) => Ok(Event::Refused(END_OF_FILE, at)),
+        State::Escaped(..) => Ok(Event::Refused(END_OF_FILE, at)),
+        State::Block(..) => Ok(Event::Refused(END_OF_FILE, at)),
+        State::Number(..) => Ok(Event::Refused(END_OF_FILE, at)),
     }
 }
 
@@ -135,7 +135,7 @@ fn last<R: MacroFunctions>(
 fn waited(calls: usize, at: usize) -> Settled
     ensures settles { (setting : Setting) (stack : List Frame) → calls ≡ length stack
         → at ≤ setting.limits.text
-        → Settles setting stack at [] result (position_gives setting stack AtObject at []) }
+        → Settles setting stack at [] result (state_gives setting stack AtObject at []) }
     ensures last { IsLastSettled at result }
     ensures none { calls ≡ 0 → result ≡ IsDone the_end }
 {
@@ -149,18 +149,18 @@ fn waited(calls: usize, at: usize) -> Settled
 fn settle_last<R: MacroFunctions>(
     with: &Context<'_, R>,
     stack: &mut Stack,
-    position: Position,
+    state: State,
     at: usize,
 ) -> Result<Settled, AllocError>
     requires answers { R.answers with.now.macros.now }
     requires within { at ≤ with.now.limits.text }
     ensures settles { let setting = setting R.functions with.now in
         IfOk result (λ settled. Settles setting stack.new at [] settled
-        (position_gives setting stack.old position at [])) }
+        (state_gives setting stack.old state at [])) }
     ensures last { IfOk result (IsLastSettled at) }
-    ensures between { stack.old ≡ [] → position ≡ AtObject → result ≡ Ok (IsDone the_end) }
+    ensures between { stack.old ≡ [] → state ≡ AtObject → result ≡ Ok (IsDone the_end) }
 {
-    match last(with, stack.len(), position, at)? {
+    match last(with, stack.len(), state, at)? {
         Event::Open(_) => Ok(waited(stack.len(), at)),
         Event::Gives(found) => match deliver(with, stack, found, at)? {
             Delivered::Waits(_) => Ok(waited(stack.len(), at)),
@@ -201,7 +201,7 @@ fn done_last(found: Found, start: usize, at: usize) -> ReadOutcome
 pub(crate) fn last_outcome<R: MacroFunctions>(
     with: &Context<'_, R>,
     stack: &mut Stack,
-    position: Position,
+    state: State,
     start: usize,
     at: usize,
 ) -> Result<ReadOutcome, AllocError>
@@ -209,10 +209,10 @@ pub(crate) fn last_outcome<R: MacroFunctions>(
     requires within { at ≤ with.now.limits.text }
     requires count { start + at ≤ 2 ^ 63 }
     ensures outcome { let setting = setting R.functions with.now in
-        IfOk result (λ outcome. IsOutcome outcome (rest_of setting stack.old position start at [])) }
-    ensures between { stack.old ≡ [] → position ≡ AtObject → result ≡ Ok IsEmpty }
+        IfOk result (λ outcome. IsOutcome outcome (rest_of setting stack.old state start at [])) }
+    ensures between { stack.old ≡ [] → state ≡ AtObject → result ≡ Ok IsEmpty }
 {
-    match settle_last(with, stack, position, at)? {
+    match settle_last(with, stack, state, at)? {
         Settled::Open(_) => unreachable!(),
         Settled::Done(found) => Ok(done_last(found, start, at)),
         Settled::Refused(code, offset) => Ok(ReadOutcome::Refused {

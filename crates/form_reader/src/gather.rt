@@ -8,12 +8,12 @@ ghost use Rattle.form_reader.specs.declared.gather.LineByte.TheVariants.{More as
 ghost use Rattle.lisp_reading.specs.declared.way.Keep.TheVariants.{Kept};
 ghost use Rattle.form_reader.specs.declared.stack.Frame.{Frame};
 ghost use Rattle.form_reader.specs.Context.{setting};
-ghost use Rattle.form_reader.specs.declared.state.Position.TheVariants.{Text as AtText, Escaped as AtEscaped, Line as AtLine, Block as AtBlock};
-ghost use Rattle.form_reader.specs.State.{Brings, position_gives, IsReady};
+ghost use Rattle.form_reader.specs.declared.state.State.TheVariants.{Text as AtText, Escaped as AtEscaped, Line as AtLine, Block as AtBlock};
+ghost use Rattle.form_reader.specs.State.{Brings, state_gives, IsReady};
 
 use crate::call::ended;
 use crate::context::Context;
-use crate::state::{Event, Position};
+use crate::state::{Event, State};
 use lisp_object::refusal::{FORM_TOO_LONG, INVALID_CHARACTER, NUMERIC_ARGUMENT};
 use lisp_reading::{HeldNumber, HeldText, Invoked, Keep, Limits};
 use readtable_core::{Readtable, Syntax};
@@ -236,12 +236,12 @@ pub(crate) fn in_text<R: MacroFunctions>(
     ensures brings { let setting = setting R.functions with.now in
         (stack : List Frame) (cs : List ℕ) → depth ≡ length stack
         → IfOk result (λ event. Brings setting stack (at + 1) cs event
-        (position_gives setting stack (AtText call terminator text) at (c ∷ cs))) }
+        (state_gives setting stack (AtText call terminator text) at (c ∷ cs))) }
     ensures ready { IfOk result (IsReady with.now.limits (at + 1)) }
 {
     match text_byte(with.readtable, &with.limits, terminator, &mut text, at, c)? {
-        TextByte::More => Ok(Event::Open(Position::Text(call, terminator, text))),
-        TextByte::Escape => Ok(Event::Open(Position::Escaped(call, terminator, text))),
+        TextByte::More => Ok(Event::Open(State::Text(call, terminator, text))),
+        TextByte::Escape => Ok(Event::Open(State::Escaped(call, terminator, text))),
         TextByte::Ended => {
             let gathered = StdGathered::Text(text.into_bytes());
             ended(with, depth, &call, false, gathered, at + 1)
@@ -263,11 +263,11 @@ pub(crate) fn in_escaped<R: MacroFunctions>(
     ensures brings { let setting = setting R.functions with.now in
         (stack : List Frame) (cs : List ℕ) → depth ≡ length stack
         → IfOk result (λ event. Brings setting stack (at + 1) cs event
-        (position_gives setting stack (AtEscaped call terminator text) at (c ∷ cs))) }
+        (state_gives setting stack (AtEscaped call terminator text) at (c ∷ cs))) }
     ensures ready { IfOk result (IsReady with.now.limits (at + 1)) }
 {
     match escaped_byte(with.readtable, &with.limits, terminator, &mut text, at, c)? {
-        None => Ok(Event::Open(Position::Text(call, terminator, text))),
+        None => Ok(Event::Open(State::Text(call, terminator, text))),
         Some(code) => Ok(Event::Refused(code, at)),
     }
 }
@@ -288,12 +288,12 @@ pub(crate) fn in_line<R: MacroFunctions>(
     ensures brings { let setting = setting R.functions with.now in
         (stack : List Frame) (cs : List ℕ) → depth ≡ length stack
         → IfOk result (λ event. Brings setting stack (at + 1) cs event
-        (position_gives setting stack (AtLine call text) at (c ∷ cs))) }
+        (state_gives setting stack (AtLine call text) at (c ∷ cs))) }
     ensures ready { IfOk result (IsReady with.now.limits (at + 1)) }
 {
     let keep = call.keep();
     match line_byte(with.readtable, &with.limits, keep, &mut text, at, c)? {
-        LineByte::More => Ok(Event::Open(Position::Line(call, text))),
+        LineByte::More => Ok(Event::Open(State::Line(call, text))),
         LineByte::Ended => {
             let gathered = StdGathered::Text(text.into_bytes());
             ended(with, depth, &call, false, gathered, at + 1)
@@ -319,11 +319,11 @@ pub(crate) fn in_block<R: MacroFunctions>(
     ensures brings { let setting = setting R.functions with.now in
         (stack : List Frame) (cs : List ℕ) → depth ≡ length stack
         → IfOk result (λ event. Brings setting stack (at + 1) cs event
-        (position_gives setting stack (AtBlock call levels) at (c ∷ cs))) }
+        (state_gives setting stack (AtBlock call levels) at (c ∷ cs))) }
     ensures ready { IfOk result (IsReady with.now.limits (at + 1)) }
 {
     match block_byte(with.readtable, &with.limits, &mut levels, at, c) {
-        LineByte::More => Ok(Event::Open(Position::Block(call, levels))),
+        LineByte::More => Ok(Event::Open(State::Block(call, levels))),
         LineByte::Ended => ended(with, depth, &call, false, StdGathered::Nothing, at + 1),
         LineByte::Refused(code) => Ok(Event::Refused(code, at)),
     }

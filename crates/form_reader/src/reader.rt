@@ -6,7 +6,7 @@ ghost use Rattle.form_reader.specs.declared.reader.ReaderState.TheVariants.{Refu
 use crate::context::Context;
 use crate::end_of_text::last_outcome;
 use crate::stack::Stack;
-use crate::state::Position;
+use crate::state::State;
 use crate::step::in_place::{InPlace, in_place};
 use crate::step::{Change, take_byte};
 use lisp_object::Datum;
@@ -38,7 +38,7 @@ pub struct FormReader {
 #[derive(Drop)]
 pub enum ReaderState {
     /// In a form: where it is in the innermost call.
-    Open(Position),
+    Open(State),
     /// It refused the text, with this number, at this offset.
     Refused(u16, usize),
     /// It ran out of memory.
@@ -91,7 +91,7 @@ impl FormReader {
             start: 0,
             at: 0,
             stack: Stack::new(alloc),
-            state: ReaderState::Open(Position::Object),
+            state: ReaderState::Open(State::Object),
         }
     }
 
@@ -171,7 +171,7 @@ impl FormReader {
         };
         let at = self.at;
         match &mut self.state {
-            ReaderState::Open(position) => match in_place(&with, &self.stack, position, at, byte) {
+            ReaderState::Open(state) => match in_place(&with, &self.stack, state, at, byte) {
                 Ok(InPlace::GoesOn) => {
                     self.at += 1;
                     Ok(Advance::More)
@@ -230,8 +230,8 @@ impl FormReader {
     {
         // Until the byte has come to something: where that fails, the reader answers the same again.
         match mem::replace(&mut self.state, ReaderState::OutOfMemory) {
-            ReaderState::Open(position) => {
-                let next = take_byte(with, &mut self.stack, position, self.start, self.at, byte)?;
+            ReaderState::Open(state) => {
+                let next = take_byte(with, &mut self.stack, state, self.start, self.at, byte)?;
                 Ok(self.take(next))
             }
             ReaderState::Refused(..) => unreachable!(),
@@ -248,16 +248,16 @@ impl FormReader {
         ensures sound { IsSoundStep result }
     {
         match change {
-            Change::Goes(start, at, position) => {
+            Change::Goes(start, at, state) => {
                 self.start = start;
                 self.at = at;
-                self.state = ReaderState::Open(position);
+                self.state = ReaderState::Open(state);
                 Advance::More
             }
             Change::Form(x, start, end, next) => {
                 self.start = 0;
                 self.at = 0;
-                self.state = ReaderState::Open(Position::Object);
+                self.state = ReaderState::Open(State::Object);
                 Advance::Form {
                     datum: x.into_sound_datum(),
                     start,
@@ -308,7 +308,7 @@ impl FormReader {
             state,
         } = self;
         match state {
-            ReaderState::Open(position) => {
+            ReaderState::Open(state) => {
                 let with = Context {
                     alloc,
                     limits,
@@ -318,7 +318,7 @@ impl FormReader {
                     current,
                     macros,
                 };
-                last_outcome(&with, &mut stack, position, start, at)
+                last_outcome(&with, &mut stack, state, start, at)
             }
             ReaderState::Refused(code, at) => Ok(ReadOutcome::Refused { code, at }),
             ReaderState::OutOfMemory => Err(AllocError),

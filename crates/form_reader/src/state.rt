@@ -6,7 +6,7 @@ use token_scan::TokenScan;
 
 /// Where a reader is in its innermost call.
 #[derive(Drop)]
-pub enum Position {
+pub enum State {
     /// Where an object may begin.
     Object,
     /// In a token that is an object.
@@ -29,7 +29,7 @@ pub enum Position {
 #[derive(Drop)]
 pub enum Event {
     /// More bytes are gathered.
-    Open(Position),
+    Open(State),
     /// The innermost attempt comes to this.
     Gives(Found),
     /// The number of a refusal, and its offset.

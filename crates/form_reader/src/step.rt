@@ -7,14 +7,14 @@ ghost use Rattle.lisp_reading.specs.declared.limits.Limits.{Limits as Bounds};
 ghost use Rattle.lisp_reading.specs.Setting.{Setting};
 ghost use Rattle.form_reader.specs.Context.{setting};
 ghost use Rattle.form_reader.specs.Step.{Passes, IsReadyPass, outcome_of, rest_of, Settles, ChangesTo, IsStanding, IsReadySettled, IsReadyChange, BeginsFrom, BeginsAnew, StartsAt, StartsWith, FollowsNothing, Starts};
-ghost use Rattle.form_reader.specs.declared.state.Position.TheVariants.{Object as AtObject};
-ghost use Rattle.form_reader.specs.State.{Brings, position_gives, lookahead, IsReady, Moves, IsReadyMove};
+ghost use Rattle.form_reader.specs.declared.state.State.TheVariants.{Object as AtObject};
+ghost use Rattle.form_reader.specs.State.{Brings, state_gives, lookahead, IsReady, Moves, IsReadyMove};
 
 use crate::context::Context;
 use crate::dispatch::in_number;
 use crate::gather::{in_block, in_escaped, in_line, in_text};
 use crate::stack::Stack;
-use crate::state::{Event, Moved, Position};
+use crate::state::{Event, Moved, State};
 use crate::step::in_place::is_discarded;
 use crate::step::object::{Passed, after_found, at_object, is_blank};
 use crate::token::{in_call_token, in_token};
@@ -31,7 +31,7 @@ pub(crate) mod object;
 #[derive(Drop)]
 pub enum Settled {
     /// More bytes are gathered.
-    Open(Position),
+    Open(State),
     /// The outermost attempt comes to this.
     Done(Found),
     /// The number of a refusal, and its offset.
@@ -42,7 +42,7 @@ pub enum Settled {
 #[derive(Drop)]
 pub enum Change {
     /// More bytes decide: where the attempt began, how many bytes it has, and where the reader is in it.
-    Goes(usize, usize, Position),
+    Goes(usize, usize, State),
     /// A form: its object, its start, its end, and where the next form begins.
     Form(HeldObject, usize, usize, usize),
     /// The number of a refusal, and its offset.
@@ -54,20 +54,20 @@ pub enum Change {
 pub(crate) fn feed<R: MacroFunctions>(
     with: &Context<'_, R>,
     stack: &mut Stack,
-    position: Position,
+    state: State,
     at: usize,
     c: u8,
 ) -> Result<Passed, AllocError>
     requires answers { R.answers with.now.macros.now }
-    requires standing { IsStanding with.now.limits stack.old position at }
+    requires standing { IsStanding with.now.limits stack.old state at }
     requires count { at < 2 ^ 63 }
     ensures passes { let setting = setting R.functions with.now in
         (cs : List ℕ) → IfOk result (λ passed. Passes setting stack.new at c cs passed
-        (position_gives setting stack.old position at (c ∷ cs))) }
+        (state_gives setting stack.old state at (c ∷ cs))) }
     ensures ready { IfOk result (IsReadyPass with.now.limits at) }
     ensures nesting { IfOk result (λ _. length stack.new ≤ with.now.limits.nesting) }
 {
-    match advance(with, stack, position, at, c)? {
+    match advance(with, stack, state, at, c)? {
         Moved::After(event) => Ok(Passed::Brings(event)),
         Moved::Before(event) => match event {
             Event::Open(_) => unreachable!(),
@@ -94,9 +94,9 @@ fn settle<R: MacroFunctions>(
     ensures ready { IfOk result (IsReadySettled with.now.limits stack.new at) }
 {
     match event {
-        Event::Open(position) => Ok(Settled::Open(position)),
+        Event::Open(state) => Ok(Settled::Open(state)),
         Event::Gives(found) => match deliver(with, stack, found, at)? {
-            Delivered::Waits(_) => Ok(Settled::Open(Position::Object)),
+            Delivered::Waits(_) => Ok(Settled::Open(State::Object)),
             Delivered::Done(found) => Ok(Settled::Done(found)),
             Delivered::Refused(code, offset) => Ok(Settled::Refused(code, offset)),
         },
@@ -118,7 +118,7 @@ fn done_after(found: Found, start: usize, at: usize) -> Change
     ensures starts { StartsAt start result }
 {
     match found {
-        Found::Nothing(_) => Change::Goes(start + at, 0, Position::Object),
+        Found::Nothing(_) => Change::Goes(start + at, 0, State::Object),
         Found::One(_, x) => Change::Form(x, start, start + at, start + at),
         Found::LoneDot => unreachable!(),
         Found::TheEnd => unreachable!(),
@@ -147,7 +147,7 @@ fn change_of<R: MacroFunctions>(
     ensures starts { IfOk result (StartsAt start) }
 {
     match settle(with, stack, event, at)? {
-        Settled::Open(position) => Ok(Change::Goes(start, at, position)),
+        Settled::Open(state) => Ok(Change::Goes(start, at, state)),
         Settled::Done(found) => Ok(done_after(found, start, at)),
         Settled::Refused(code, offset) => Ok(Change::Refused(code, start + offset)),
     }
@@ -173,7 +173,7 @@ fn first_change<R: MacroFunctions>(
     ensures starts { IfOk result (StartsWith (setting R.functions with.now) start c) }
 {
     if is_discarded(with, stack, 0, c) {
-        return Ok(Change::Goes(start + 1, 0, Position::Object));
+        return Ok(Change::Goes(start + 1, 0, State::Object));
     }
     let event = at_object(with, stack, 0, c)?;
     change_of(with, stack, event, start, 1)
@@ -220,66 +220,66 @@ fn done_before<R: MacroFunctions>(
 pub(crate) fn take_byte<R: MacroFunctions>(
     with: &Context<'_, R>,
     stack: &mut Stack,
-    position: Position,
+    state: State,
     start: usize,
     at: usize,
     c: u8,
 ) -> Result<Change, AllocError>
     requires answers { R.answers with.now.macros.now }
-    requires standing { IsStanding with.now.limits stack.old position at }
+    requires standing { IsStanding with.now.limits stack.old state at }
     requires count { start + at < 2 ^ 63 }
     ensures turns { let setting = setting R.functions with.now in
         (cs : List ℕ) → IfOk result (λ change. ChangesTo setting stack.new cs change
-        (rest_of setting stack.old position start at (c ∷ cs))) }
+        (rest_of setting stack.old state start at (c ∷ cs))) }
     ensures ready { IfOk result (IsReadyChange with.now.limits stack.new (start + at + 1)) }
     ensures begins { IfOk result (BeginsFrom start) }
     ensures anew { IfOk result (BeginsAnew stack.new) }
-    ensures starts { IfOk result (Starts (setting R.functions with.now) stack.old position start at c) }
+    ensures starts { IfOk result (Starts (setting R.functions with.now) stack.old state start at c) }
 {
-    if let Position::Object = &position {
+    if let State::Object = &state {
         let brought = at_object(with, stack, at, c)?;
         return change_of(with, stack, brought, start, at + 1);
     }
-    match feed(with, stack, position, at, c)? {
+    match feed(with, stack, state, at, c)? {
         Passed::Brings(event) => change_of(with, stack, event, start, at + 1),
         Passed::Done(found) => done_before(with, stack, found, start, at, c),
     }
 }
 
-/// The byte `c` at `at`, where the reader is at `position` in its innermost call.
+/// The byte `c` at `at`, where the reader is at `state` in its innermost call.
 #[inline(always)]
 pub(crate) fn advance<R: MacroFunctions>(
     with: &Context<'_, R>,
     stack: &mut Stack,
-    position: Position,
+    state: State,
     at: usize,
     c: u8,
 ) -> Result<Moved, AllocError>
     requires answers { R.answers with.now.macros.now }
-    requires standing { IsStanding with.now.limits stack.old position at }
+    requires standing { IsStanding with.now.limits stack.old state at }
     requires count { at < 2 ^ 63 }
     ensures moves { let setting = setting R.functions with.now in
         (cs : List ℕ) → IfOk result (λ moved. Moves setting stack.new at c cs moved
-        (position_gives setting stack.old position at (c ∷ cs))) }
+        (state_gives setting stack.old state at (c ∷ cs))) }
     ensures ready { IfOk result (IsReadyMove with.now.limits at) }
     ensures nesting { IfOk result (λ _. length stack.new ≤ with.now.limits.nesting) }
 {
     let depth = stack.len();
-    match position {
-        Position::Object => Ok(Moved::After(at_object(with, stack, at, c)?)),
-        Position::Token(scan) => in_token(with, scan, at, c),
-        Position::CallToken(call, scan) => in_call_token(with, depth, call, scan, at, c),
-        Position::Text(call, terminator, text) => {
+    match state {
+        State::Object => Ok(Moved::After(at_object(with, stack, at, c)?)),
+        State::Token(scan) => in_token(with, scan, at, c),
+        State::CallToken(call, scan) => in_call_token(with, depth, call, scan, at, c),
+        State::Text(call, terminator, text) => {
             Ok(Moved::After(in_text(with, depth, call, terminator, text, at, c)?))
         }
-        Position::Escaped(call, terminator, text) => {
+        State::Escaped(call, terminator, text) => {
             Ok(Moved::After(in_escaped(with, depth, call, terminator, text, at, c)?))
         }
-        Position::Line(call, text) => { Ok(Moved::After(in_line(with, depth, call, text, at, c)?)) }
-        Position::Block(call, levels) => {
+        State::Line(call, text) => { Ok(Moved::After(in_line(with, depth, call, text, at, c)?)) }
+        State::Block(call, levels) => {
             Ok(Moved::After(in_block(with, depth, call, levels, at, c)?))
         }
-        Position::Number(character, number) => {
+        State::Number(character, number) => {
             Ok(Moved::After(in_number(with, stack, character, number, at, c)?))
         }
     }

@@ -14,14 +14,14 @@ ghost use Rattle.readtable_core.specs.Tables.{entry_at};
 ghost use Rattle.form_reader.specs.Context.{setting};
 ghost use Rattle.lisp_reading.specs.Reading.{stands_alone, token_found};
 ghost use Rattle.form_reader.specs.Stack.{plan_gives};
-ghost use Rattle.form_reader.specs.State.{attempt_at, Brings, IsReady, Moves, position_gives, IsReadyMove, IsEnd};
+ghost use Rattle.form_reader.specs.State.{attempt_at, Brings, IsReady, Moves, state_gives, IsReadyMove, IsEnd};
 ghost use Rattle.token_scan.specs.Marks.{are_ascii};
-ghost use Rattle.form_reader.specs.declared.state.Position.TheVariants.{Token as AtToken, CallToken as AtCallToken};
+ghost use Rattle.form_reader.specs.declared.state.State.TheVariants.{Token as AtToken, CallToken as AtCallToken};
 
 use crate::call::ended;
 use crate::context::Context;
 use crate::gather::LineByte;
-use crate::state::{Event, Moved, Position};
+use crate::state::{Event, Moved, State};
 use crate::step::object::stands_alone;
 use lisp_object::refusal::{
     END_OF_FILE, FORM_TOO_LONG, INVALID_CHARACTER, INVALID_TRAIT, TOKEN_TOO_LONG,
@@ -222,7 +222,7 @@ pub(crate) fn begin_token<R: MacroFunctions>(
     ensures ready { IfOk result (IsReady with.now.limits (at + 1)) }
 {
     match first_byte(with.alloc, with.readtable, &with.limits, at, c)? {
-        FirstByte::More(scan) => Ok(Event::Open(Position::Token(scan))),
+        FirstByte::More(scan) => Ok(Event::Open(State::Token(scan))),
         FirstByte::Refused(code) => Ok(Event::Refused(code, at)),
     }
 }
@@ -238,11 +238,11 @@ pub(crate) fn in_token<R: MacroFunctions>(
     requires within { at ≤ with.now.limits.text }
     ensures moves { let setting = setting R.functions with.now in
         (stack : List Frame) (cs : List ℕ) → IfOk result (λ moved. Moves setting stack at c cs moved
-        (position_gives setting stack (AtToken scan) at (c ∷ cs))) }
+        (state_gives setting stack (AtToken scan) at (c ∷ cs))) }
     ensures ready { IfOk result (IsReadyMove with.now.limits at) }
 {
     match scan.byte(with.readtable, &with.limits, at, c)? {
-        BegunByte::More(scan) => Ok(Moved::After(Event::Open(Position::Token(scan)))),
+        BegunByte::More(scan) => Ok(Moved::After(Event::Open(State::Token(scan)))),
         BegunByte::Ended(marks) => Ok(Moved::Before(token_end(with, marks, at)?)),
         BegunByte::Refused(code) => Ok(Moved::After(Event::Refused(code, at))),
     }
@@ -292,11 +292,11 @@ pub(crate) fn in_call_token<R: MacroFunctions>(
     ensures moves { let setting = setting R.functions with.now in
         (stack : List Frame) (cs : List ℕ) → depth ≡ length stack
         → IfOk result (λ moved. Moves setting stack at c cs moved
-        (position_gives setting stack (AtCallToken call scan) at (c ∷ cs))) }
+        (state_gives setting stack (AtCallToken call scan) at (c ∷ cs))) }
     ensures ready { IfOk result (IsReadyMove with.now.limits at) }
 {
     match token_byte(with.readtable, &with.limits, &mut scan, at, c)? {
-        LineByte::More => Ok(Moved::After(Event::Open(Position::CallToken(call, scan)))),
+        LineByte::More => Ok(Moved::After(Event::Open(State::CallToken(call, scan)))),
         LineByte::Ended => {
             let gathered = StdGathered::Marks(scan.into_marks());
             Ok(Moved::Before(ended(with, depth, &call, true, gathered, at)?))

@@ -1,14 +1,14 @@
 //! One byte that begins a token, goes on one, or is whitespace where an object may begin, taken where the reader is.
 ghost use Rattle.std.specs.Prelude.{◌≡◌, ◌≤◌, ◌<◌, ◌+◌, ℕ, List, [], ◌∷◌, length, true, false, Ok, None, IfOk, IfSome};
 ghost use Rattle.form_reader.specs.Context.{setting};
-ghost use Rattle.form_reader.specs.declared.state.Position.TheVariants.{Object as AtObject};
+ghost use Rattle.form_reader.specs.declared.state.State.TheVariants.{Object as AtObject};
 ghost use Rattle.form_reader.specs.Step.{is_space, BeginsToken, FeedsInPlace, IsBegunAt, IsReadyInPlace, Stays, rest_of};
 ghost use Rattle.form_reader.specs.declared.step.in_place.InPlace.TheVariants.{Passed as IsPassed};
 
 use crate::context::Context;
 use crate::gather::LineByte;
 use crate::stack::Stack;
-use crate::state::Position;
+use crate::state::State;
 use crate::step::object::{is_blank, stands_alone};
 use crate::token::{BegunScan, FirstByte, first_byte};
 use std::alloc::AllocError;
@@ -27,28 +27,28 @@ pub enum InPlace {
     Refused(u16),
 }
 
-/// The byte `c` at `at`, where the reader is at `position`: it is taken there if it begins a token or goes on one, or is whitespace
+/// The byte `c` at `at`, where the reader is at `state`: it is taken there if it begins a token or goes on one, or is whitespace
 /// that is discarded.
 #[inline(always)]
 pub(crate) fn in_place<R: MacroFunctions>(
     with: &Context<'_, R>,
     stack: &Stack,
-    position: &mut Position,
+    state: &mut State,
     at: usize,
     c: u8,
 ) -> Result<InPlace, AllocError>
     requires within { at ≤ with.now.limits.text }
     requires nesting { length stack.now ≤ with.now.limits.nesting }
     ensures feeds { let setting = setting R.functions with.now in
-        (cs : List ℕ) → IfOk result (FeedsInPlace setting stack.now at c cs position.old position.new) }
-    ensures ready { IfOk result (IsReadyInPlace with.now.limits at position.new) }
+        (cs : List ℕ) → IfOk result (FeedsInPlace setting stack.now at c cs state.old state.new) }
+    ensures ready { IfOk result (IsReadyInPlace with.now.limits at state.new) }
     ensures passed { let setting = setting R.functions with.now in
-        stack.now ≡ [] → is_space setting stack.now position.old at c ≡ true → (result ≡ Ok IsPassed) × (position.new ≡ AtObject) }
-    ensures anew { result ≡ Ok IsPassed → (stack.now ≡ []) × (position.new ≡ AtObject) }
+        stack.now ≡ [] → is_space setting stack.now state.old at c ≡ true → (result ≡ Ok IsPassed) × (state.new ≡ AtObject) }
+    ensures anew { result ≡ Ok IsPassed → (stack.now ≡ []) × (state.new ≡ AtObject) }
 {
-    match position {
-        Position::Object => begin_in_place(with, stack, position, at, c),
-        Position::Token(scan) => match scan.feed(with.readtable, &with.limits, at, c)? {
+    match state {
+        State::Object => begin_in_place(with, stack, state, at, c),
+        State::Token(scan) => match scan.feed(with.readtable, &with.limits, at, c)? {
             LineByte::More => Ok(InPlace::GoesOn),
             LineByte::Ended => Ok(InPlace::Left),
             LineByte::Refused(code) => Ok(InPlace::Refused(code)),
@@ -62,23 +62,23 @@ pub(crate) fn in_place<R: MacroFunctions>(
 fn begin_in_place<R: MacroFunctions>(
     with: &Context<'_, R>,
     stack: &Stack,
-    position: &mut Position,
+    state: &mut State,
     at: usize,
     c: u8,
 ) -> Result<InPlace, AllocError>
     requires within { at ≤ with.now.limits.text }
     requires nesting { length stack.now ≤ with.now.limits.nesting }
-    requires object { position.old ≡ AtObject }
+    requires object { state.old ≡ AtObject }
     ensures feeds { let setting = setting R.functions with.now in
-        (cs : List ℕ) → IfOk result (FeedsInPlace setting stack.now at c cs position.old position.new) }
-    ensures ready { IfOk result (IsReadyInPlace with.now.limits at position.new) }
+        (cs : List ℕ) → IfOk result (FeedsInPlace setting stack.now at c cs state.old state.new) }
+    ensures ready { IfOk result (IsReadyInPlace with.now.limits at state.new) }
     ensures passed { let setting = setting R.functions with.now in
-        stack.now ≡ [] → is_space setting stack.now position.old at c ≡ true → (result ≡ Ok IsPassed) × (position.new ≡ AtObject) }
-    ensures anew { result ≡ Ok IsPassed → (stack.now ≡ []) × (position.new ≡ AtObject) }
+        stack.now ≡ [] → is_space setting stack.now state.old at c ≡ true → (result ≡ Ok IsPassed) × (state.new ≡ AtObject) }
+    ensures anew { result ≡ Ok IsPassed → (stack.now ≡ []) × (state.new ≡ AtObject) }
 {
     match begun_at(with, stack, at, c)? {
         Some(scan) => {
-            *position = Position::Token(scan);
+            *state = State::Token(scan);
             Ok(InPlace::GoesOn)
         }
         None => Ok(discarded(with, stack, at, c)),

@@ -5,15 +5,15 @@ ghost use Rattle.lisp_reading.specs.Plans.{gives};
 ghost use Rattle.form_reader.specs.Context.{setting};
 ghost use Rattle.lisp_reading.specs.Reading.{is_blank, stands_alone, alone};
 ghost use Rattle.form_reader.specs.Stack.{plan_gives, next_item_gives};
-ghost use Rattle.form_reader.specs.State.{Brings, position_gives, lookahead, IsReady, attempt_at};
-ghost use Rattle.form_reader.specs.declared.state.Position.TheVariants.{Object as AtObject};
+ghost use Rattle.form_reader.specs.State.{Brings, state_gives, lookahead, IsReady, attempt_at};
+ghost use Rattle.form_reader.specs.declared.state.State.TheVariants.{Object as AtObject};
 ghost use Rattle.readtable_core.specs.Tables.{entry_at};
 
 use crate::call::close;
 use crate::context::Context;
 use crate::dispatch::begin_macro;
 use crate::stack::Stack;
-use crate::state::{Event, Position};
+use crate::state::{Event, State};
 use crate::token::begin_token;
 use crate::value::{Delivered, deliver};
 use lisp_object::refusal::{FORM_TOO_LONG, INVALID_CHARACTER};
@@ -35,7 +35,7 @@ pub(crate) fn at_object<R: MacroFunctions>(
     requires nesting { length stack.old ≤ with.now.limits.nesting }
     ensures brings { let setting = setting R.functions with.now in
         (cs : List ℕ) → IfOk result (λ event. Brings setting stack.new (at + 1) cs event
-        (position_gives setting stack.old AtObject at (c ∷ cs))) }
+        (state_gives setting stack.old AtObject at (c ∷ cs))) }
     ensures ready { IfOk result (IsReady with.now.limits (at + 1)) }
     ensures nesting { IfOk result (λ _. length stack.new ≤ with.now.limits.nesting) }
 {
@@ -75,7 +75,7 @@ pub(crate) fn after_token<R: MacroFunctions>(
         if at >= with.limits.text {
             return Ok(Event::Refused(FORM_TOO_LONG, at));
         }
-        return Ok(Event::Open(Position::Object));
+        return Ok(Event::Open(State::Object));
     }
     at_object(with, stack, at, c)
 }

@@ -24,10 +24,10 @@ returns-in-Brings-clause-turns g c = λ cs.
 pub returns-in-Done-clause-starts : goal.returns-in-Done-clause-starts
 returns-in-Done-clause-starts g c =
     let setting = setting g.R.MacroFunctions.functions c.args.with.now in
-    done_starts setting c.args.stack.now c.args.position c.args.start c.args.at c.args.c c.feed.new.stack c.in_ok-event.field-0 c.in-Done.found c.done_before.result c.in-Done.is c.in_ok-event.ensures.passes
+    done_starts setting c.args.stack.now c.args.state c.args.start c.args.at c.args.c c.feed.new.stack c.in_ok-event.field-0 c.in-Done.found c.done_before.result c.in-Done.is c.in_ok-event.ensures.passes
     c.done_before.ensures.starts c.done_before.ensures.nothing
 
 pub returns-in-Brings-clause-starts : goal.returns-in-Brings-clause-starts
 returns-in-Brings-clause-starts g c =
     let setting = setting g.R.MacroFunctions.functions c.args.with.now in
-    kept_starts setting c.args.stack.now c.args.position c.args.start c.args.at c.args.c c.change_of-in-Brings.result c.change_of-in-Brings.ensures.starts
+    kept_starts setting c.args.stack.now c.args.state c.args.start c.args.at c.args.c c.change_of-in-Brings.result c.change_of-in-Brings.ensures.starts
