@@ -21,7 +21,7 @@ use crate::stack::Stack;
 use crate::state::{Event, State};
 use crate::step::Settled;
 use crate::token::{BegunScan, refused, token_end};
-use crate::value::{Delivered, deliver};
+use crate::value::{Delivered, return_value};
 use lisp_object::refusal::{DOT_CONTEXT, END_OF_FILE};
 use lisp_reading::{Found, HeldText, Invoked, Limits};
 use std::alloc::AllocError;
@@ -162,7 +162,7 @@ fn settle_last<R: MacroFunctions>(
 {
     match last(with, stack.len(), state, at)? {
         Event::Open(_) => Ok(waited(stack.len(), at)),
-        Event::Gives(found) => match deliver(with, stack, found, at)? {
+        Event::Gives(found) => match return_value(with, stack, found, at)? {
             Delivered::Waits(_) => Ok(waited(stack.len(), at)),
             Delivered::Done(found) => Ok(Settled::Done(found)),
             Delivered::Refused(code, offset) => Ok(Settled::Refused(code, offset)),

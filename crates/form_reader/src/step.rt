@@ -18,7 +18,7 @@ use crate::state::{Event, Moved, State};
 use crate::step::in_place::is_discarded;
 use crate::step::object::{Passed, after_found, at_object, is_blank};
 use crate::token::{in_call_token, in_token};
-use crate::value::{Delivered, deliver};
+use crate::value::{Delivered, return_value};
 use lisp_object::refusal::DOT_CONTEXT;
 use lisp_reading::{Found, HeldObject};
 use std::alloc::AllocError;
@@ -95,7 +95,7 @@ fn settle<R: MacroFunctions>(
 {
     match event {
         Event::Open(state) => Ok(Settled::Open(state)),
-        Event::Gives(found) => match deliver(with, stack, found, at)? {
+        Event::Gives(found) => match return_value(with, stack, found, at)? {
             Delivered::Waits(_) => Ok(Settled::Open(State::Object)),
             Delivered::Done(found) => Ok(Settled::Done(found)),
             Delivered::Refused(code, offset) => Ok(Settled::Refused(code, offset)),

@@ -128,7 +128,7 @@ fn received_of(completed: Completed, at: usize) -> Received
 }
 
 /// What the open calls make of what is found in the innermost at `at`.
-pub(crate) fn deliver<R: MacroFunctions>(
+pub(crate) fn return_value<R: MacroFunctions>(
     with: &Context<'_, R>,
     stack: &mut Stack,
     found: Found,

@@ -15,7 +15,7 @@ use crate::dispatch::begin_macro;
 use crate::stack::Stack;
 use crate::state::{Event, State};
 use crate::token::begin_token;
-use crate::value::{Delivered, deliver};
+use crate::value::{Delivered, return_value};
 use lisp_object::refusal::{FORM_TOO_LONG, INVALID_CHARACTER};
 use lisp_reading::Found;
 use readtable_core::Syntax;
@@ -124,7 +124,7 @@ pub(crate) fn after_found<R: MacroFunctions>(
     ensures ready { IfOk result (IsReadyPass with.now.limits at) }
     ensures nesting { IfOk result (λ _. length stack.new ≤ with.now.limits.nesting) }
 {
-    match deliver(with, stack, found, at)? {
+    match return_value(with, stack, found, at)? {
         Delivered::Waits(token) => {
             if token {
                 Ok(Passed::Brings(after_token(with, stack, at, c)?))

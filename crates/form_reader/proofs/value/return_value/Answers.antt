@@ -2,7 +2,7 @@ use Rattle.std.proofs.Common.{arith}
 use Rattle.form_reader.specs.Context.{setting}
 use Rattle.form_reader.proofs.Values.{none_left}
 use Rattle.form_reader.proofs.Steps.{none_open}
-use Rattle.form_reader.proofs.value.deliver.Goals as goal
+use Rattle.form_reader.proofs.value.return_value.Goals as goal
 
 pub returns-clause-delivers : goal.returns-clause-delivers
 returns-clause-delivers g c = λ cs.

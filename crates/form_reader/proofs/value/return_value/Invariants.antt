@@ -3,7 +3,7 @@ use Rattle.lisp_reading.specs.Plans.{gives, run}
 use Rattle.form_reader.specs.Context.{setting}
 use Rattle.form_reader.specs.Stack.{given}
 use Rattle.form_reader.specs.State.{lookahead}
-use Rattle.form_reader.proofs.value.deliver.Given as goal
+use Rattle.form_reader.proofs.value.return_value.Given as goal
 
 abbrev pub invariant-calls : goal.invariant-calls
 invariant-calls g l =
