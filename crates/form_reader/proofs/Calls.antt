@@ -22,7 +22,7 @@ use Rattle.form_reader.specs.State.{space, lookahead, IsReady, IsEnd, Brings}
 use Rattle.form_reader.specs.Value.{IsReceivedAt}
 use Rattle.lisp_object.specs.declared.refusal.TheConstants.{DOT_CONTEXT}
 use Rattle.std_macros.specs.Values.{Material, many, dotted}
-use Rattle.form_reader.specs.declared.call.Completed.{Completed}
+use Rattle.form_reader.specs.declared.call.CallValue.{CallValue}
 use Rattle.form_reader.specs.declared.stack.Frame.{Frame}
 use Rattle.form_reader.specs.declared.stack.Part.{Part}
 use Rattle.form_reader.specs.declared.stack.Part.TheVariants.{Next as InNext, List as InList, Until as InUntil, Dotted as InDotted, Tailed as InTailed}
@@ -130,7 +130,7 @@ module _ (setting : Setting) (stack : List Frame) (call : InvokedCall) (at : ℕ
       subst (λ (r : Read Found). IfOk result (λ event. Brings setting stack at cs event r)) ((λ i. completing (dotted (same i) (ends i))) ∙ sym (ap closing e)) brings
 
 -- what the call gives, whether a token ends it or not
-pub call_ends : (setting : Setting) (stack : List Frame) (call : InvokedCall) (at : ℕ) (cs : List ℕ) (token : Bool) (material : Material) (depth : ℕ) (done : Completed) (event : Event)
+pub call_ends : (setting : Setting) (stack : List Frame) (call : InvokedCall) (at : ℕ) (cs : List ℕ) (token : Bool) (material : Material) (depth : ℕ) (done : CallValue) (event : Event)
     → depth ≡ length stack → completed setting depth call token false material ≡ plan_of done
     → ComesTo setting stack done at cs event → Brings setting stack at cs event (plan_gives setting stack (completed setting (length stack) call token false material) at cs)
 call_ends setting stack call at cs token material depth done event open_calls comes brings =

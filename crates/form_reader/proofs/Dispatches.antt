@@ -7,8 +7,8 @@ use Rattle.token_scan.specs.declared.mark.Mark.{Mark}
 use Rattle.token_scan.specs.Tokens.{Scanned, ScannedBytes, with_front, typed_text, in_bytes, token, escaped_token}
 use Rattle.token_scan.specs.Scans.{Scan, begun, begun_escaped}
 use Rattle.std_macros.specs.Values.{marked, nothing as no_material}
-use Rattle.form_reader.specs.declared.call.Completed.{Completed}
-use Rattle.form_reader.specs.declared.call.Completed.TheVariants.{Refused}
+use Rattle.form_reader.specs.declared.call.CallValue.{CallValue}
+use Rattle.form_reader.specs.declared.call.CallValue.TheVariants.{Refused}
 use Rattle.lisp_reading.specs.declared.found.Found.{Found}
 use Rattle.form_reader.specs.declared.stack.Frame.{Frame}
 use Rattle.form_reader.specs.declared.stack.Part.TheVariants.{Next as InNext, List as InList, Until as InUntil}
@@ -186,10 +186,10 @@ some_begins setting stack after call way at cs event e gathers =
     ap (λ (o : Option Way). run setting.table setting.limits (given setting stack (gathered_by setting (length stack) (inner_at setting (length stack)) call o)) at cs) e in
     subst (λ (r : Read Found). Brings setting after at cs event r) (sym same) gathers
 
-pub refusal_comes : (setting : Setting) (stack : List Frame) (completed : Completed) (code back at offset : ℕ) (cs : List ℕ) → completed ≡ Refused code back → offset ≡ at - back
+pub refusal_comes : (setting : Setting) (stack : List Frame) (completed : CallValue) (code back at offset : ℕ) (cs : List ℕ) → completed ≡ Refused code back → offset ≡ at - back
     → run setting.table setting.limits (given setting stack (plan_of completed)) at cs ≡ fault code offset
 refusal_comes setting stack completed code back at offset cs e p =
-    ap (λ (r : Completed). run setting.table setting.limits (given setting stack (plan_of r)) at cs) e
+    ap (λ (r : CallValue). run setting.table setting.limits (given setting stack (plan_of r)) at cs) e
     ∙ given_refused setting stack at cs code back ∙ ap (λ (n : ℕ). fault code n) (sym p)
 
 module _ (setting : Setting) (stack : List Frame) (c at : ℕ) (cs : List ℕ) where

@@ -4,7 +4,7 @@ use Rattle.std.specs.Prelude.{option_map}
 use Rattle.lisp_object.specs.Object.{Object}
 use Rattle.lisp_object.specs.declared.refusal.TheConstants.{DOT_CONTEXT, END_OF_FILE}
 use Rattle.std_macros.specs.Values.{one as one_object}
-use Rattle.form_reader.specs.declared.call.Completed.{Completed}
+use Rattle.form_reader.specs.declared.call.CallValue.{CallValue}
 use Rattle.form_reader.specs.declared.value.Delivered.{Delivered}
 use Rattle.form_reader.specs.declared.value.Delivered.TheVariants.{Done}
 use Rattle.form_reader.specs.declared.value.Received.{Received}
@@ -236,7 +236,7 @@ module _ (setting : Setting) (at : ℕ) (cs : List ℕ) where
       by (Some new) n = let never : Some (calls new) ≡ None = sym (ap (option_map calls) n) ∙ e in cc
 
   -- it waited for its one object
-  pub next_comes : (old stack : List Frame) (call : InvokedCall) (token : Bool) (x y : Object) (depth : ℕ) (done : Completed) (received : Received) → old ≡ record { call = call; part = InNext } ∷ stack
+  pub next_comes : (old stack : List Frame) (call : InvokedCall) (token : Bool) (x y : Object) (depth : ℕ) (done : CallValue) (received : Received) → old ≡ record { call = call; part = InNext } ∷ stack
       → depth ≡ length stack → y ≡ x → completed setting depth call token token (one_object y) ≡ plan_of done
       → Takes setting stack at cs received (run setting.table setting.limits (given setting stack (plan_of done)) at cs)
       → Takes setting stack at cs received (found_in old (one token x))

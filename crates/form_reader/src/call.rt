@@ -9,7 +9,7 @@ ghost use Rattle.std_macros.specs.Results.{view_gathered, IsProperGathered};
 ghost use Rattle.lisp_reading.specs.Setting.{macro_call, user_material, Setting};
 ghost use Rattle.form_reader.specs.Context.{setting};
 ghost use Rattle.lisp_reading.specs.Reading.{bytes_back, finished, answered, completed, gathered, closed};
-ghost use Rattle.form_reader.specs.Call.{plan_of, completed_lookahead, ComesTo};
+ghost use Rattle.form_reader.specs.Call.{plan_of, value_lookahead, ComesTo};
 ghost use Rattle.form_reader.specs.State.{space, Brings, IsReady, IsEnd};
 ghost use Rattle.form_reader.specs.declared.stack.Frame.{Frame};
 ghost use Rattle.form_reader.specs.Stack.{plan_gives, call_in};
@@ -32,7 +32,7 @@ mod answer;
 
 /// What a call comes to.
 #[derive(Drop)]
-pub enum Completed {
+pub enum CallValue {
     /// An object, or nothing.
     Gives(Found),
     /// The number of a refusal, and how many bytes before the end of the call it is.
@@ -42,19 +42,19 @@ pub enum Completed {
 /// What the function of a call gives for what was gathered at this depth: whether a token ends the call,
 /// and whether a token ends an object in it.
 #[tactic(auto, using(crate::proofs::Calls::space_or))]
-pub(crate) fn complete<R: MacroFunctions>(
+pub(crate) fn call_value<R: MacroFunctions>(
     with: &Context<'_, R>,
     depth: usize,
     call: &Invoked,
     token: bool,
     spaced: bool,
     gathered: StdGathered,
-) -> Result<Completed, AllocError>
+) -> Result<CallValue, AllocError>
     requires answers { R.answers with.now.macros.now }
     requires proper { IsProperGathered gathered }
     ensures gives { let setting = setting R.functions with.now in
         IfOk result (λ r. completed setting depth call.now token spaced (view_gathered gathered) ≡ plan_of r) }
-    ensures ends { IfOk result (λ r. completed_lookahead r ≤ space (token || spaced)) }
+    ensures ends { IfOk result (λ r. value_lookahead r ≤ space (token || spaced)) }
 {
     match call.function() {
         Function::Standard(kind) => {
@@ -64,7 +64,7 @@ pub(crate) fn complete<R: MacroFunctions>(
         Function::User(name) => {
             // A function that is not registered refuses each call, and is not called.
             if with.macros.gather_of(name).is_none() {
-                return Ok(Completed::Refused(MACRO_REFUSED, 0));
+                return Ok(CallValue::Refused(MACRO_REFUSED, 0));
             }
             let call = macro_call(with.alloc, call, gathered)?;
             let answer = with.macros.call(name, &call)?;
@@ -88,20 +88,20 @@ fn finished(
     number: Option<u32>,
     token: bool,
     gathered: StdGathered,
-) -> Result<Completed, AllocError>
+) -> Result<CallValue, AllocError>
     requires { IsProperGathered gathered }
     ensures gives { IfOk result (λ r.
         finished token (value_of kind case number (view_gathered gathered)) ≡ plan_of r) }
-    ensures ends { IfOk result (λ r. completed_lookahead r ≤ space token) }
+    ensures ends { IfOk result (λ r. value_lookahead r ≤ space token) }
 {
     match finish(alloc, kind, case, number, gathered) {
         Ok(Finished::One(datum)) => {
-            Ok(Completed::Gives(Found::One(token, HeldObject::new(datum))))
+            Ok(CallValue::Gives(Found::One(token, HeldObject::new(datum))))
         }
-        Ok(Finished::Nothing) => Ok(Completed::Gives(Found::Nothing(false))),
+        Ok(Finished::Nothing) => Ok(CallValue::Gives(Found::Nothing(false))),
         Err(FinishError::OutOfMemory) => Err(AllocError),
         Err(FinishError::Refused(refusal)) => {
-            Ok(Completed::Refused(refusal.number(), bytes_back(refusal)))
+            Ok(CallValue::Refused(refusal.number(), bytes_back(refusal)))
         }
     }
 }
@@ -125,23 +125,23 @@ fn answered(
     token: bool,
     spaced: bool,
     answer: Answer,
-) -> Completed
+) -> CallValue
     ensures gives { answered packages.now.0 nesting depth token spaced (answer_of answer)
         ≡ plan_of result }
-    ensures ends { completed_lookahead result ≤ space (token || spaced) }
+    ensures ends { value_lookahead result ≤ space (token || spaced) }
 {
     match answer {
         Answer::One(datum) => {
             if !datum.is_proper() {
-                return Completed::Refused(MACRO_ANSWER, 0);
+                return CallValue::Refused(MACRO_ANSWER, 0);
             }
             if !may_be_answered(packages, &datum) || !fits(&datum, depth, nesting) {
-                return Completed::Refused(MACRO_ANSWER, 0);
+                return CallValue::Refused(MACRO_ANSWER, 0);
             }
-            Completed::Gives(Found::One(token, HeldObject::new(datum)))
+            CallValue::Gives(Found::One(token, HeldObject::new(datum)))
         }
-        Answer::Nothing => Completed::Gives(Found::Nothing(spaced)),
-        Answer::Refused(_) => Completed::Refused(MACRO_REFUSED, 0),
+        Answer::Nothing => CallValue::Gives(Found::Nothing(spaced)),
+        Answer::Refused(_) => CallValue::Refused(MACRO_REFUSED, 0),
     }
 }
 
@@ -191,14 +191,14 @@ fn user_gathered(alloc: Global, gathered: StdGathered) -> Result<Gathered, Alloc
 /// What a call that ends at `at` brings.
 #[tactic(auto, using(crate::proofs::Dispatches::refused_is))]
 #[inline(always)]
-pub(crate) fn event_of(completed: Completed, at: usize) -> Event
+pub(crate) fn event_of(completed: CallValue, at: usize) -> Event
     ensures comes { (setting : Setting) (stack : List Frame) (cs : List ℕ)
         → ComesTo setting stack completed at cs result }
-    ensures ends { IsEnd (completed_lookahead completed) at result }
+    ensures ends { IsEnd (value_lookahead completed) at result }
 {
     match completed {
-        Completed::Gives(found) => Event::Gives(found),
-        Completed::Refused(code, back) => Event::Refused(code, at.saturating_sub(back)),
+        CallValue::Gives(found) => Event::Gives(found),
+        CallValue::Refused(code, back) => Event::Refused(code, at.saturating_sub(back)),
     }
 }
 
@@ -220,7 +220,7 @@ pub(crate) fn ended<R: MacroFunctions>(
         (plan_gives setting stack (completed setting (length stack) call.now token false (view_gathered gathered)) at cs)) }
     ensures ends { IfOk result (IsEnd (space token) at) }
 {
-    Ok(event_of(complete(with, depth, call, token, false, gathered)?, at))
+    Ok(event_of(call_value(with, depth, call, token, false, gathered)?, at))
 }
 
 /// What an open call gives at this depth, where its closing character is the byte before `at`.

@@ -3,14 +3,14 @@ ghost use Rattle.std.specs.Prelude.{◌≤◌, ◌<◌, ℕ, List, length, IfOk}
 ghost use Rattle.lisp_reading.specs.Plans.{gives};
 ghost use Rattle.lisp_reading.specs.declared.found.Found.TheVariants.{One as one, LoneDot as lone_dot};
 ghost use Rattle.form_reader.specs.declared.stack.Frame.{Frame};
-ghost use Rattle.form_reader.specs.Call.{plan_of, completed_lookahead};
+ghost use Rattle.form_reader.specs.Call.{plan_of, value_lookahead};
 ghost use Rattle.lisp_reading.specs.Setting.{Setting};
 ghost use Rattle.form_reader.specs.Context.{setting};
 ghost use Rattle.form_reader.specs.Stack.{plan_gives};
 ghost use Rattle.form_reader.specs.Value.{Takes, Shortens, Delivers, IsReceivedAt, IsDeliveredAt};
 ghost use Rattle.form_reader.specs.State.{space, lookahead};
 
-use crate::call::{Completed, complete};
+use crate::call::{CallValue, call_value};
 use crate::context::Context;
 use crate::stack::Stack;
 use lisp_object::refusal::{DOT_CONTEXT, END_OF_FILE};
@@ -86,7 +86,7 @@ fn take_one<R: MacroFunctions>(
         Some(call) => {
             let depth = stack.len();
             let gathered = StdGathered::One(x.into_datum());
-            Ok(received_of(complete(with, depth, &call, token, token, gathered)?, at))
+            Ok(received_of(call_value(with, depth, &call, token, token, gathered)?, at))
         }
         None => {
             if stack.take_object(x)? {
@@ -115,15 +115,15 @@ fn take_dot(stack: &mut Stack, at: usize) -> Received
 }
 
 /// What an open call that ends at `at` comes to.
-fn received_of(completed: Completed, at: usize) -> Received
+fn received_of(completed: CallValue, at: usize) -> Received
     ensures takes { (setting : Setting) (stack : List Frame) (cs : List ℕ)
         → Takes setting stack at cs result
         (plan_gives setting stack (plan_of completed) at cs) }
-    ensures leaves { IsReceivedAt (completed_lookahead completed) at result }
+    ensures leaves { IsReceivedAt (value_lookahead completed) at result }
 {
     match completed {
-        Completed::Gives(found) => Received::Gives(found),
-        Completed::Refused(code, back) => Received::Refused(code, at.saturating_sub(back)),
+        CallValue::Gives(found) => Received::Gives(found),
+        CallValue::Refused(code, back) => Received::Refused(code, at.saturating_sub(back)),
     }
 }
 

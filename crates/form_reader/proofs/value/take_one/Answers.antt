@@ -6,11 +6,11 @@ use Rattle.form_reader.specs.Context.{setting}
 use Rattle.form_reader.proofs.Values.{next_comes, object_goes_on, object_stops, stays_open}
 use Rattle.form_reader.proofs.value.take_one.Goals as goal
 
-pub returns-in_ok-complete-in-Some-clause-takes : goal.returns-in_ok-complete-in-Some-clause-takes
-returns-in_ok-complete-in-Some-clause-takes g c = λ cs.
+pub returns-in_ok-call_value-in-Some-clause-takes : goal.returns-in_ok-call_value-in-Some-clause-takes
+returns-in_ok-call_value-in-Some-clause-takes g c = λ cs.
     let setting = setting g.R.MacroFunctions.functions c.args.with.now in
-    next_comes setting c.args.at cs c.args.stack.now c.pop_waiting.new.self c.in-Some.call c.args.token c.args.x _ c.len-depth.result c.in_ok-complete-in-Some.field-0 c.received_of.result
-    c.in-Some.ensures c.len-depth.ensures c.into_datum.ensures.object c.in_ok-complete-in-Some.ensures.gives (c.received_of.ensures.takes setting c.pop_waiting.new.self cs)
+    next_comes setting c.args.at cs c.args.stack.now c.pop_waiting.new.self c.in-Some.call c.args.token c.args.x _ c.len-depth.result c.in_ok-call_value-in-Some.field-0 c.received_of.result
+    c.in-Some.ensures c.len-depth.ensures c.into_datum.ensures.object c.in_ok-call_value-in-Some.ensures.gives (c.received_of.ensures.takes setting c.pop_waiting.new.self cs)
 
 pub returns-then-branch-clause-takes : goal.returns-then-branch-clause-takes
 returns-then-branch-clause-takes g c = λ cs.
