@@ -24,7 +24,7 @@ use Rattle.lisp_reading.specs.Plans.{Plan, gives, refuses, takes, then_plan, cha
 use Rattle.lisp_reading.specs.Calls.{keep_of}
 use Rattle.lisp_reading.specs.Setting.{Setting}
 use Rattle.form_reader.specs.Token.{is_going, token_read, refused_number}
-use Rattle.form_reader.specs.Stack.{close_of, close_of_stack, next_item_in, call_in, given, between, token_goes_on}
+use Rattle.form_reader.specs.Stack.{close_of, close_of_stack, next_item_in, call_in, outer_plan, between, token_goes_on}
 use Rattle.lisp_reading.specs.Gathering.{text_turn, kept, line_turn, block_turn}
 use Rattle.lisp_reading.specs.Reading.{Piece, Outcome, form, empty, refused, piece_of, closed, or_closed, next_item_turn, next_item, stands_alone, alone, inner, attempt, reads, number_after, sub_there, dispatched}
 use Rattle.form_reader.specs.State.{IsStateAt, inner_at, state_gives}
@@ -95,7 +95,7 @@ module _ (setting : Setting) (stack : List Frame) (at c : ℕ) where
   abbrev reading : {A : Type 0} → Plan A → Read A
   reading plan = run setting.table setting.limits plan at (c ∷ [])
 
-  gathering : {A : Type 0} (plan : Plan A) (on : A → Plan Found) → Fails at (reading plan) → Fails at (reading (given setting stack (then_plan plan on)))
+  gathering : {A : Type 0} (plan : Plan A) (on : A → Plan Found) → Fails at (reading plan) → Fails at (reading (outer_plan setting stack (then_plan plan on)))
   gathering plan on h = (h.0, gathering_fails setting stack plan on (record { number = h.0; at = at }) at (c ∷ []) h.1, h.2)
 
   -- ---- in a text, a line, a block and a number
@@ -120,7 +120,7 @@ module _ (setting : Setting) (stack : List Frame) (at c : ℕ) where
     number_stops : (number : Option ℕ) → reading (number_after setting number) ≡ Ok (number, at, c ∷ [])
     number_stops number = number_ends setting.table setting.limits number at c [] le (no_digit c beyond)
 
-    number_fails : (character : ℕ) (number : Option ℕ) → Fails at (reading (given setting stack (dispatched setting (length stack) (inner_at setting (length stack)) character number)))
+    number_fails : (character : ℕ) (number : Option ℕ) → Fails at (reading (outer_plan setting stack (dispatched setting (length stack) (inner_at setting (length stack)) character number)))
     number_fails character number =
         let sub = sub_there setting (length stack) (inner_at setting (length stack)) character number in
         let h : Fails at (reading sub) = next_fails setting.table setting.limits _ at c beyond in (

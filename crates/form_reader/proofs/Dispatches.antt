@@ -21,7 +21,7 @@ use Rattle.lisp_reading.specs.Setting.{Setting, way_in, function_of}
 use Rattle.lisp_reading.specs.Reading.{completed, gathered, gathered_by, called, attempt, inner, dispatched, macro_called, sub_called, sub_there, number_after}
 use Rattle.form_reader.specs.Call.{plan_of}
 use Rattle.form_reader.specs.Token.{token_read, TokenFeeds}
-use Rattle.form_reader.specs.Stack.{given, between, plan_gives, token_goes_on}
+use Rattle.form_reader.specs.Stack.{outer_plan, between, plan_gives, token_goes_on}
 use Rattle.form_reader.specs.State.{inner_at, Brings}
 use Rattle.form_reader.specs.Dispatch.{Begins, Gathers}
 use Rattle.form_reader.proofs.Stacks.{given_moves, given_fault, list_is, until_is, gathering_ends}
@@ -47,12 +47,12 @@ inner_shut setting n le =
     ap (inner setting) e
 
 pub given_refused : (setting : Setting) (stack : List Frame) (at : ℕ) (cs : List ℕ) (code back : ℕ)
-    → run setting.table setting.limits (given setting stack (refuses code back)) at cs ≡ fault code (at - back)
+    → run setting.table setting.limits (outer_plan setting stack (refuses code back)) at cs ≡ fault code (at - back)
 unfolding run
 given_refused setting stack at cs code back = given_fault setting stack (refuses code back) at cs (record { number = code; at = at - back }) refl
 
 abbrev pub OpensWith : Setting → List Frame → InvokedCall → Way → Option (Plan Found) → ℕ → List ℕ → Read Found
-OpensWith setting stack call way may at cs = run setting.table setting.limits (given setting stack (gathered setting (length stack) may call way)) at cs
+OpensWith setting stack call way may at cs = run setting.table setting.limits (outer_plan setting stack (gathered setting (length stack) may call way)) at cs
 
 module _ (setting : Setting) (stack : List Frame) (call : InvokedCall) (at : ℕ) (cs : List ℕ) where
   pub next_opens : length stack < setting.limits.nesting
@@ -72,7 +72,7 @@ module _ (setting : Setting) (stack : List Frame) (call : InvokedCall) (at : ℕ
   until_opens close lt h =
       ap (λ may. OpensWith setting stack call (Until close) may at cs) (inner_opens setting (length stack) lt) ∙ until_is setting stack call close [] at cs h
 
-  refused_given : (code back : ℕ) → run setting.table setting.limits (given setting stack (refuses code back)) at cs ≡ fault code (at - back)
+  refused_given : (code back : ℕ) → run setting.table setting.limits (outer_plan setting stack (refuses code back)) at cs ≡ fault code (at - back)
   unfolding run
   refused_given code back = given_fault setting stack (refuses code back) at cs (record { number = code; at = at - back }) refl
 
@@ -86,7 +86,7 @@ module _ (setting : Setting) (stack : List Frame) (call : InvokedCall) (at : ℕ
   until_deep close le = ap (λ may. OpensWith setting stack call (Until close) may at cs) (inner_shut setting (length stack) le) ∙ refused_given TOO_DEEP 1
 
   -- what a call comes to
-  pub refused_is : (code back : ℕ) → run setting.table setting.limits (given setting stack (refuses code back)) at cs ≡ fault code (at - back)
+  pub refused_is : (code back : ℕ) → run setting.table setting.limits (outer_plan setting stack (refuses code back)) at cs ≡ fault code (at - back)
   refused_is code back = refused_given code back
 
 -- ---- tokens
@@ -97,12 +97,12 @@ front_nothing (Err e) = refl
 
 scanned_is : (setting : Setting) (stack : List Frame) (plan : Plan Found) (on : List Mark → Plan Found) (at : ℕ) (cs : List ℕ) (r : Read (List Mark))
     → run setting.table setting.limits plan at cs ≡ elim r [ Ok p ↦ run setting.table setting.limits (on p.0) p.1 p.2 | Err e ↦ Err e ]
-    → run setting.table setting.limits (given setting stack plan) at cs ≡ token_goes_on setting stack on r
+    → run setting.table setting.limits (outer_plan setting stack plan) at cs ≡ token_goes_on setting stack on r
 scanned_is setting stack plan on at cs (Ok (marks, next, ds)) e = given_moves setting stack plan (on marks) at next cs ds e
 scanned_is setting stack plan on at cs (Err f) e = given_fault setting stack plan at cs f e
 
 pub token_begins : (setting : Setting) (stack : List Frame) (limit : ℕ) (on : List Mark → Plan Found) (at : ℕ) (cs : List ℕ)
-    → run setting.table setting.limits (given setting stack (scans false limit on)) at cs
+    → run setting.table setting.limits (outer_plan setting stack (scans false limit on)) at cs
     ≡ token_goes_on setting stack on (token_read setting.table setting.limits (begun limit) at cs)
 unfolding run
 token_begins setting stack limit on at cs =
@@ -111,7 +111,7 @@ token_begins setting stack limit on at cs =
     (sym (front_nothing (token limit at (typed_text setting.table cs))))
 
 pub escaped_begins : (setting : Setting) (stack : List Frame) (limit : ℕ) (on : List Mark → Plan Found) (at : ℕ) (cs : List ℕ)
-    → run setting.table setting.limits (given setting stack (scans true limit on)) at cs
+    → run setting.table setting.limits (outer_plan setting stack (scans true limit on)) at cs
     ≡ token_goes_on setting stack on (token_read setting.table setting.limits (begun_escaped limit) at cs)
 unfolding run
 escaped_begins setting stack limit on at cs =
@@ -173,28 +173,28 @@ module _ (setting : Setting) (stack : List Frame) (call : InvokedCall) (way : Wa
   nothing_at result e brings = subst (λ (r : Read Found). IfOk result (λ event. Brings setting stack at cs event r)) (sym (ap opened_so e)) brings
 
 pub none_begins : (setting : Setting) (stack : List Frame) (call : InvokedCall) (at offset : ℕ) (cs : List ℕ) → way_in setting call ≡ None → offset ≡ at - 1
-    → run setting.table setting.limits (given setting stack (called setting (length stack) (inner_at setting (length stack)) call)) at cs ≡ fault OUT_OF_PROFILE offset
+    → run setting.table setting.limits (outer_plan setting stack (called setting (length stack) (inner_at setting (length stack)) call)) at cs ≡ fault OUT_OF_PROFILE offset
 none_begins setting stack call at offset cs e p =
-    ap (λ (o : Option Way). run setting.table setting.limits (given setting stack (gathered_by setting (length stack) (inner_at setting (length stack)) call o)) at cs) e
+    ap (λ (o : Option Way). run setting.table setting.limits (outer_plan setting stack (gathered_by setting (length stack) (inner_at setting (length stack)) call o)) at cs) e
     ∙ refused_is setting stack call at cs OUT_OF_PROFILE 1 ∙ ap (λ (n : ℕ). fault OUT_OF_PROFILE n) (sym p)
 
 pub some_begins : (setting : Setting) (stack after : List Frame) (call : InvokedCall) (way : Way) (at : ℕ) (cs : List ℕ) (event : Event) → way_in setting call ≡ Some way
     → Gathers setting after stack call way at cs event → Begins setting after stack call at cs event
 some_begins setting stack after call way at cs event e gathers =
-    let same : run setting.table setting.limits (given setting stack (called setting (length stack) (inner_at setting (length stack)) call)) at cs
+    let same : run setting.table setting.limits (outer_plan setting stack (called setting (length stack) (inner_at setting (length stack)) call)) at cs
     ≡ OpensWith setting stack call way (inner_at setting (length stack)) at cs =
-    ap (λ (o : Option Way). run setting.table setting.limits (given setting stack (gathered_by setting (length stack) (inner_at setting (length stack)) call o)) at cs) e in
+    ap (λ (o : Option Way). run setting.table setting.limits (outer_plan setting stack (gathered_by setting (length stack) (inner_at setting (length stack)) call o)) at cs) e in
     subst (λ (r : Read Found). Brings setting after at cs event r) (sym same) gathers
 
 pub refusal_comes : (setting : Setting) (stack : List Frame) (completed : CallValue) (code back at offset : ℕ) (cs : List ℕ) → completed ≡ Refused code back → offset ≡ at - back
-    → run setting.table setting.limits (given setting stack (plan_of completed)) at cs ≡ fault code offset
+    → run setting.table setting.limits (outer_plan setting stack (plan_of completed)) at cs ≡ fault code offset
 refusal_comes setting stack completed code back at offset cs e p =
-    ap (λ (r : CallValue). run setting.table setting.limits (given setting stack (plan_of r)) at cs) e
+    ap (λ (r : CallValue). run setting.table setting.limits (outer_plan setting stack (plan_of r)) at cs) e
     ∙ given_refused setting stack at cs code back ∙ ap (λ (n : ℕ). fault code n) (sym p)
 
 module _ (setting : Setting) (stack : List Frame) (c at : ℕ) (cs : List ℕ) where
   abbrev macro_gives : Option (List ℕ) → Read Found
-  macro_gives o = run setting.table setting.limits (given setting stack (macro_called setting (length stack) (inner_at setting (length stack)) c o)) at cs
+  macro_gives o = run setting.table setting.limits (outer_plan setting stack (macro_called setting (length stack) (inner_at setting (length stack)) c o)) at cs
 
   pub none_called : (function : Option (List ℕ)) (offset : ℕ) → function ≡ None → offset ≡ at - 1 → macro_gives function ≡ fault OUT_OF_PROFILE offset
   none_called function offset e p = ap macro_gives e ∙ given_refused setting stack at cs OUT_OF_PROFILE 1 ∙ ap (λ (n : ℕ). fault OUT_OF_PROFILE n) (sym p)
@@ -203,7 +203,7 @@ module _ (setting : Setting) (stack : List Frame) (c at : ℕ) (cs : List ℕ) w
   of_character f = record { function = f; character = c; sub = None; number = None }
 
   abbrev call_gives : InvokedCall → Read Found
-  call_gives call = run setting.table setting.limits (given setting stack (called setting (length stack) (inner_at setting (length stack)) call)) at cs
+  call_gives call = run setting.table setting.limits (outer_plan setting stack (called setting (length stack) (inner_at setting (length stack)) call)) at cs
 
   named_gives : (name : List ℕ) → is_dispatch_name name ≡ false → macro_gives (Some name) ≡ call_gives (of_character (function_of name))
   named_gives name e =
@@ -211,7 +211,7 @@ module _ (setting : Setting) (stack : List Frame) (c at : ℕ) (cs : List ℕ) w
         | true ↦ dispatched setting (length stack) (inner_at setting (length stack)) c None
         | false ↦ called setting (length stack) (inner_at setting (length stack)) (of_character (function_of name))
       ] in
-      ap (λ (b : Bool). run setting.table setting.limits (given setting stack (by b)) at cs) e
+      ap (λ (b : Bool). run setting.table setting.limits (outer_plan setting stack (by b)) at cs) e
 
   pub character_called : (after : List Frame) (function : Option (List ℕ)) (name : List ℕ) (f : Function) (call : InvokedCall) (result : Result Event AllocError)
       → function ≡ Some name → is_dispatch_name name ≡ false → f ≡ function_of name → call ≡ of_character f
@@ -237,11 +237,11 @@ module _ (setting : Setting) (stack : List Frame) (character at c : ℕ) (number
   sub_on sub = sub_called setting (length stack) (inner_at setting (length stack)) character sub number (dispatch_at setting.table character sub)
 
   abbrev pub sub_gives : Read Found
-  sub_gives = run setting.table setting.limits (given setting stack (sub_there setting (length stack) (inner_at setting (length stack)) character number)) at (c ∷ cs)
+  sub_gives = run setting.table setting.limits (outer_plan setting stack (sub_there setting (length stack) (inner_at setting (length stack)) character number)) at (c ∷ cs)
 
   abbrev sub_found : Option (List ℕ) → Read Found
   sub_found o =
-      run setting.table setting.limits (given setting stack (sub_called setting (length stack) (inner_at setting (length stack)) character c number o)) (at + 1) cs
+      run setting.table setting.limits (outer_plan setting stack (sub_called setting (length stack) (inner_at setting (length stack)) character c number o)) (at + 1) cs
 
   pub sub_over : setting.limits.text ≤ at → sub_gives ≡ fault FORM_TOO_LONG at
   sub_over g = given_fault setting stack _ at (c ∷ cs) (record { number = FORM_TOO_LONG; at = at }) (byte_over setting.table setting.limits sub_on at c cs g)
@@ -261,7 +261,7 @@ module _ (setting : Setting) (stack : List Frame) (character at c : ℕ) (number
   of_sub f sub n = record { function = f; character = character; sub = Some sub; number = n }
 
   abbrev call_gives : InvokedCall → Read Found
-  call_gives call = run setting.table setting.limits (given setting stack (called setting (length stack) (inner_at setting (length stack)) call)) (at + 1) cs
+  call_gives call = run setting.table setting.limits (outer_plan setting stack (called setting (length stack) (inner_at setting (length stack)) call)) (at + 1) cs
 
   pub sub_some : (after : List Frame) (name : List ℕ) (f : Function) (sub : ℕ) (n : Option ℕ) (call : InvokedCall) (result : Result Event AllocError)
       → at < setting.limits.text → c < 128 → dispatch_at setting.table character c ≡ Some name → f ≡ function_of name → sub ≡ upper_case c → n ≡ number
@@ -277,9 +277,9 @@ pub number_ended : (setting : Setting) (stack after : List Frame) (character at 
     → run setting.table setting.limits (number_after setting old) at (c ∷ cs) ≡ Ok (new, at, c ∷ cs)
     → IfOk result (λ event. Brings setting after (at + 1) cs event (sub_gives setting stack character at c new cs))
     → IfOk result (λ event. Brings setting after (at + 1) cs event
-    (run setting.table setting.limits (given setting stack (dispatched setting (length stack) (inner_at setting (length stack)) character old)) at (c ∷ cs)))
+    (run setting.table setting.limits (outer_plan setting stack (dispatched setting (length stack) (inner_at setting (length stack)) character old)) at (c ∷ cs)))
 number_ended setting stack after character at c old new cs result e brings =
-    let whole : run setting.table setting.limits (given setting stack (dispatched setting (length stack) (inner_at setting (length stack)) character old)) at (c ∷ cs)
+    let whole : run setting.table setting.limits (outer_plan setting stack (dispatched setting (length stack) (inner_at setting (length stack)) character old)) at (c ∷ cs)
     ≡ sub_gives setting stack character at c new cs =
     gathering_ends setting stack (number_after setting old) (sub_there setting (length stack) (inner_at setting (length stack)) character) new at at (c ∷ cs) (c ∷ cs) e in
     subst (λ (r : Read Found). IfOk result (λ event. Brings setting after (at + 1) cs event r)) (sym whole) brings

@@ -25,7 +25,7 @@ use Rattle.lisp_reading.specs.Setting.{Setting}
 use Rattle.lisp_reading.specs.Gathering.{text_turn, line_turn, block_turn, number_turn}
 use Rattle.lisp_reading.specs.Reading.{Piece, without_space, empty, sub_there, dispatched}
 use Rattle.form_reader.specs.Token.{token_read}
-use Rattle.form_reader.specs.Stack.{attempt_in, next_item_in, call_in, close_of, given, between, token_goes_on}
+use Rattle.form_reader.specs.Stack.{attempt_in, next_item_in, call_in, close_of, outer_plan, between, token_goes_on}
 use Rattle.form_reader.specs.State.{inner_at, state_gives, Brings}
 use Rattle.form_reader.specs.EndOfText.{TokenStops}
 use Rattle.form_reader.specs.Step.{outcome_of, Settles}
@@ -79,7 +79,7 @@ module _ (table : Table) (limits : Limits) (at : ℕ) where
 
 module _ (setting : Setting) (stack : List Frame) (at : ℕ) where
   abbrev at_end : Plan Found → Read Found
-  at_end plan = run setting.table setting.limits (given setting stack plan) at []
+  at_end plan = run setting.table setting.limits (outer_plan setting stack plan) at []
 
   pub text_fails : (terminator : ℕ) (text : List ℕ) (on : List ℕ → Plan Found) → at ≤ setting.limits.text
       → at_end (then_plan (loop setting.limits (text_turn setting.table terminator) text) on) ≡ fault END_OF_FILE at
@@ -152,12 +152,12 @@ module _ (setting : Setting) (stack : List Frame) (at : ℕ) where
 
   pub waits_last : (before : List Frame) (found : Found) (event : Event) (delivered : Delivered) (token : Bool) (settled : Settled) (read : Read Found) → event ≡ IsGiven found
       → Brings setting before at [] event read → delivered ≡ Waits token
-      → Delivers setting stack at [] delivered (run setting.table setting.limits (given setting before (gives found)) at [])
+      → Delivers setting stack at [] delivered (run setting.table setting.limits (outer_plan setting before (gives found)) at [])
       → Settles setting stack at [] settled (run setting.table setting.limits (between setting stack) at []) → Settles setting stack at [] settled read
   waits_last before found event delivered token settled read e brings d delivers settles =
-      let given_is : read ≡ run setting.table setting.limits (given setting before (gives found)) at [] = subst (λ (v : Event). Brings setting before at [] v read) e brings in
-      let waiting : run setting.table setting.limits (given setting before (gives found)) at [] ≡ run setting.table setting.limits (without_space setting.table token (between setting stack)) at []
-      = subst (λ (v : Delivered). Delivers setting stack at [] v (run setting.table setting.limits (given setting before (gives found)) at [])) d delivers in
+      let given_is : read ≡ run setting.table setting.limits (outer_plan setting before (gives found)) at [] = subst (λ (v : Event). Brings setting before at [] v read) e brings in
+      let waiting : run setting.table setting.limits (outer_plan setting before (gives found)) at [] ≡ run setting.table setting.limits (without_space setting.table token (between setting stack)) at []
+      = subst (λ (v : Delivered). Delivers setting stack at [] v (run setting.table setting.limits (outer_plan setting before (gives found)) at [])) d delivers in
       subst (λ (r : Read Found). Settles setting stack at [] settled r) (sym (given_is ∙ waiting ∙ no_space setting stack at token)) settles
 
   pub done_ends : (start : ℕ) (settled : Settled) (found : Found) (read : Read Found) (outcome : ReadOutcome) → settled ≡ SettledDone found → Settles setting stack at [] settled read
@@ -319,7 +319,7 @@ module _ (setting : Setting) (stack : List Frame) (at c : ℕ) (found : Found) w
       by : (r : Read (List Mark)) → token_read setting.table setting.limits scan at (c ∷ []) ≡ r → token_goes_on setting stack on r ≡ Ok (found, at, c ∷ [])
           → token_goes_on setting stack on (token_read setting.table setting.limits scan at []) ≡ Ok (found, at, [])
       by (Ok (marks, next, ds)) is e =
-          let plan = given setting stack (on marks) in
+          let plan = outer_plan setting stack (on marks) in
           let p : Parted next ds at (c ∷ []) = subst (λ (r : Read Found). Parts next ds r) e (parts setting.table setting.limits plan next ds) in
           let le : at ≤ next = cut_forwards setting.limits.text at (token_from scan at (typed_text setting.table (c ∷ []))) (forwards scan at (typed_text setting.table (c ∷ []))) marks next ds is in
           let here : next ≡ at = omega (arith, le, p.offset) in

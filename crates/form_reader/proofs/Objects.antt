@@ -17,7 +17,7 @@ use Rattle.lisp_reading.specs.Plans.{Plan, refuses, takes, scans, then_plan, Rea
 use Rattle.lisp_reading.specs.Setting.{Setting}
 use Rattle.lisp_reading.specs.Reading.{Piece, closed, piece_of, or_closed, next_item_turn, stands_alone, alone, token_found, attempt_by, attempt, is_whitespace, without_space, told_found}
 use Rattle.form_reader.specs.Token.{token_read, FirstFeeds}
-use Rattle.form_reader.specs.Stack.{close_of, close_of_stack, attempt_in, next_item_in, call_in, given, between, token_goes_on}
+use Rattle.form_reader.specs.Stack.{close_of, close_of_stack, attempt_in, next_item_in, call_in, outer_plan, between, token_goes_on}
 use Rattle.form_reader.specs.State.{attempt_at, inner_at, Brings, state_gives, Moves}
 use Rattle.lisp_reading.proofs.Turns.{loop_is, next_item_guarded}
 use Rattle.form_reader.proofs.Stacks.{then_moves, given_moves, given_fault, ends_in}
@@ -62,7 +62,7 @@ module _ (setting : Setting) (at c : ℕ) (cs : List ℕ) where
 
   between_is : (f : Frame) (fs : List Frame) → at ≤ setting.limits.text
       → run setting.table setting.limits (between setting (f ∷ fs)) at (c ∷ cs)
-      ≡ run setting.table setting.limits (given setting fs (then_plan (or_closed (close_of f.part) (placed f fs)) (λ p. call_in setting f fs p))) at (c ∷ cs)
+      ≡ run setting.table setting.limits (outer_plan setting fs (then_plan (or_closed (close_of f.part) (placed f fs)) (λ p. call_in setting f fs p))) at (c ∷ cs)
   between_is f fs h =
       given_moves setting fs _ _ at at (c ∷ cs) (c ∷ cs) (then_moves setting.table setting.limits (next_item_in setting f fs)
       (or_closed (close_of f.part) (placed f fs)) (λ p. call_in setting f fs p) at at (c ∷ cs) (c ∷ cs)
@@ -71,7 +71,7 @@ module _ (setting : Setting) (at c : ℕ) (cs : List ℕ) where
 
   -- the closing character that is looked for ends the call
   pub closes : (f : Frame) (fs stack : List Frame) (close : ℕ) → stack ≡ f ∷ fs → close_of f.part ≡ Some close → (c == close) ≡ true → at < setting.limits.text
-      → run setting.table setting.limits (between setting stack) at (c ∷ cs) ≡ run setting.table setting.limits (given setting fs (call_in setting f fs closed)) (at + 1) cs
+      → run setting.table setting.limits (between setting stack) at (c ∷ cs) ≡ run setting.table setting.limits (outer_plan setting fs (call_in setting f fs closed)) (at + 1) cs
   unfolding then_plan
   closes f fs stack close is e same lt =
       let call = λ (p : Piece). call_in setting f fs p in
@@ -103,27 +103,27 @@ module _ (setting : Setting) (at c : ℕ) (cs : List ℕ) where
       passes_is setting.table setting.limits (then_plan (placed f fs) call) (λ d. d == close) (λ d. call closed) at c cs (other close refl)
 
   pub attempts : (stack : List Frame) → at ≤ setting.limits.text → ((close : ℕ) → close_of_stack stack ≡ Some close → (c == close) ≡ false)
-      → run setting.table setting.limits (between setting stack) at (c ∷ cs) ≡ run setting.table setting.limits (given setting stack (attempt_at setting (length stack))) at (c ∷ cs)
-  unfolding given
+      → run setting.table setting.limits (between setting stack) at (c ∷ cs) ≡ run setting.table setting.limits (outer_plan setting stack (attempt_at setting (length stack))) at (c ∷ cs)
+  unfolding outer_plan
   attempts [] h other = let e : setting.limits.nesting ≡ setting.limits.nesting - 0 = omega arith in ap (λ (n : ℕ). run setting.table setting.limits (attempt setting n) at (c ∷ cs)) e
   attempts (f ∷ fs) h other =
       let e : setting.limits.nesting - (length fs + 1) ≡ setting.limits.nesting - suc (length fs) = omega arith in
       between_is f fs h
       ∙ given_moves setting fs _ _ at at (c ∷ cs) (c ∷ cs) (passed f fs (close_of f.part) other)
-      ∙ ap (λ (n : ℕ). run setting.table setting.limits (given setting (f ∷ fs) (attempt setting n)) at (c ∷ cs)) e
+      ∙ ap (λ (n : ℕ). run setting.table setting.limits (outer_plan setting (f ∷ fs) (attempt setting n)) at (c ∷ cs)) e
 
   -- the open calls that an attempt is in
   round_is : (stack : List Frame) → length stack ≤ setting.limits.nesting
-      → run setting.table setting.limits (given setting stack (attempt_at setting (length stack))) at (c ∷ cs)
-      ≡ run setting.table setting.limits (given setting stack (attempt_by setting (length stack) (inner_at setting (length stack)))) at (c ∷ cs)
+      → run setting.table setting.limits (outer_plan setting stack (attempt_at setting (length stack))) at (c ∷ cs)
+      ≡ run setting.table setting.limits (outer_plan setting stack (attempt_by setting (length stack) (inner_at setting (length stack)))) at (c ∷ cs)
   round_is stack le =
       let e : setting.limits.nesting - (setting.limits.nesting - length stack) ≡ length stack = omega arith in
-      ap (λ (n : ℕ). run setting.table setting.limits (given setting stack (attempt_by setting n (inner_at setting (length stack)))) at (c ∷ cs)) e
+      ap (λ (n : ℕ). run setting.table setting.limits (outer_plan setting stack (attempt_by setting n (inner_at setting (length stack)))) at (c ∷ cs)) e
 
   -- a character that begins no token
   pub attempt_alone : (stack : List Frame) → length stack ≤ setting.limits.nesting → at < setting.limits.text → stands_alone (entry_at setting.table c).syntax ≡ true
-      → run setting.table setting.limits (given setting stack (attempt_at setting (length stack))) at (c ∷ cs)
-      ≡ run setting.table setting.limits (given setting stack (alone setting (length stack) (inner_at setting (length stack)) c (entry_at setting.table c).syntax)) (at + 1) cs
+      → run setting.table setting.limits (outer_plan setting stack (attempt_at setting (length stack))) at (c ∷ cs)
+      ≡ run setting.table setting.limits (outer_plan setting stack (alone setting (length stack) (inner_at setting (length stack)) c (entry_at setting.table c).syntax)) (at + 1) cs
   attempt_alone stack le lt e =
       round_is stack le
       ∙ given_moves setting stack _ _ at (at + 1) (c ∷ cs) cs
@@ -131,7 +131,7 @@ module _ (setting : Setting) (at c : ℕ) (cs : List ℕ) where
       (λ d. alone setting (length stack) (inner_at setting (length stack)) d (entry_at setting.table d).syntax) at c cs lt e)
 
   pub attempt_over : (stack : List Frame) → length stack ≤ setting.limits.nesting → setting.limits.text ≤ at → stands_alone (entry_at setting.table c).syntax ≡ true
-      → run setting.table setting.limits (given setting stack (attempt_at setting (length stack))) at (c ∷ cs) ≡ fault FORM_TOO_LONG at
+      → run setting.table setting.limits (outer_plan setting stack (attempt_at setting (length stack))) at (c ∷ cs) ≡ fault FORM_TOO_LONG at
   attempt_over stack le over e =
       round_is stack le
       ∙ given_fault setting stack _ at (c ∷ cs) (record { number = FORM_TOO_LONG; at = at })
@@ -140,7 +140,7 @@ module _ (setting : Setting) (at c : ℕ) (cs : List ℕ) where
 
   -- all others begin one
   pub attempt_token : (stack : List Frame) → length stack ≤ setting.limits.nesting → stands_alone (entry_at setting.table c).syntax ≡ false
-      → run setting.table setting.limits (given setting stack (attempt_at setting (length stack))) at (c ∷ cs)
+      → run setting.table setting.limits (outer_plan setting stack (attempt_at setting (length stack))) at (c ∷ cs)
       ≡ token_goes_on setting stack (token_found setting) (token_read setting.table setting.limits (begun setting.limits.token) at (c ∷ cs))
   attempt_token stack le e =
       round_is stack le
@@ -152,25 +152,25 @@ module _ (setting : Setting) (at c : ℕ) (cs : List ℕ) where
   -- the same where its syntax type is known
   pub alone_by : (stack : List Frame) (s : Syntax) → length stack ≤ setting.limits.nesting → at < setting.limits.text → stands_alone (entry_at setting.table c).syntax ≡ true
       → (entry_at setting.table c).syntax ≡ s
-      → run setting.table setting.limits (given setting stack (attempt_at setting (length stack))) at (c ∷ cs)
-      ≡ run setting.table setting.limits (given setting stack (alone setting (length stack) (inner_at setting (length stack)) c s)) (at + 1) cs
+      → run setting.table setting.limits (outer_plan setting stack (attempt_at setting (length stack))) at (c ∷ cs)
+      ≡ run setting.table setting.limits (outer_plan setting stack (alone setting (length stack) (inner_at setting (length stack)) c s)) (at + 1) cs
   alone_by stack s le lt e known =
       attempt_alone stack le lt e
-      ∙ ap (λ (s : Syntax). run setting.table setting.limits (given setting stack (alone setting (length stack) (inner_at setting (length stack)) c s)) (at + 1) cs) known
+      ∙ ap (λ (s : Syntax). run setting.table setting.limits (outer_plan setting stack (alone setting (length stack) (inner_at setting (length stack)) c s)) (at + 1) cs) known
 
   pub alone_refused : (stack : List Frame) (s : Syntax) → length stack ≤ setting.limits.nesting → at < setting.limits.text → stands_alone (entry_at setting.table c).syntax ≡ true
       → (entry_at setting.table c).syntax ≡ s → alone setting (length stack) (inner_at setting (length stack)) c s ≡ refuses INVALID_CHARACTER 1
-      → run setting.table setting.limits (given setting stack (attempt_at setting (length stack))) at (c ∷ cs) ≡ fault INVALID_CHARACTER at
+      → run setting.table setting.limits (outer_plan setting stack (attempt_at setting (length stack))) at (c ∷ cs) ≡ fault INVALID_CHARACTER at
   alone_refused stack s le lt e known refused =
       let back : at + 1 - 1 ≡ at = omega arith in
       alone_by stack s le lt e known
-      ∙ ap (λ (p : Plan Found). run setting.table setting.limits (given setting stack p) (at + 1) cs) refused
+      ∙ ap (λ (p : Plan Found). run setting.table setting.limits (outer_plan setting stack p) (at + 1) cs) refused
       ∙ given_refused setting stack (at + 1) cs INVALID_CHARACTER 1 ∙ ap (λ (n : ℕ). fault INVALID_CHARACTER n) back
 
   -- a character of no other type begins something
   pub alone_other : (stack : List Frame) (s : Syntax) → length stack ≤ setting.limits.nesting → at < setting.limits.text → stands_alone (entry_at setting.table c).syntax ≡ true
       → (entry_at setting.table c).syntax ≡ s → (s ≡ Whitespace → ⊥) → (s ≡ TerminatingMacro → ⊥) → (s ≡ NonTerminatingMacro → ⊥)
-      → run setting.table setting.limits (given setting stack (attempt_at setting (length stack))) at (c ∷ cs) ≡ fault INVALID_CHARACTER at
+      → run setting.table setting.limits (outer_plan setting stack (attempt_at setting (length stack))) at (c ∷ cs) ≡ fault INVALID_CHARACTER at
   alone_other stack Whitespace le lt e known blank ends goes = absurd (blank refl)
   alone_other stack TerminatingMacro le lt e known blank ends goes = absurd (ends refl)
   alone_other stack NonTerminatingMacro le lt e known blank ends goes = absurd (goes refl)
@@ -179,9 +179,9 @@ module _ (setting : Setting) (at c : ℕ) (cs : List ℕ) where
   pub alone_calls : (stack after : List Frame) (s : Syntax) (result : Result Event AllocError) → length stack ≤ setting.limits.nesting → at < setting.limits.text
       → stands_alone (entry_at setting.table c).syntax ≡ true → (entry_at setting.table c).syntax ≡ s
       → IfOk result (λ event. Brings setting after (at + 1) cs event
-      (run setting.table setting.limits (given setting stack (alone setting (length stack) (inner_at setting (length stack)) c s)) (at + 1) cs))
+      (run setting.table setting.limits (outer_plan setting stack (alone setting (length stack) (inner_at setting (length stack)) c s)) (at + 1) cs))
       → IfOk result (λ event. Brings setting after (at + 1) cs event
-      (run setting.table setting.limits (given setting stack (attempt_at setting (length stack))) at (c ∷ cs)))
+      (run setting.table setting.limits (outer_plan setting stack (attempt_at setting (length stack))) at (c ∷ cs)))
   alone_calls stack after s result le lt e known brings =
       subst (λ (r : Read Found). IfOk result (λ event. Brings setting after (at + 1) cs event r)) (sym (alone_by stack s le lt e known)) brings
 
@@ -209,7 +209,7 @@ begins_token table c e = no_end (nat_lt c 128) (entry_at table c).syntax e
 pub token_goes : (setting : Setting) (at c : ℕ) (cs : List ℕ) (stack : List Frame) (read : Read (List Mark))
     → length stack ≤ setting.limits.nesting → stands_alone (entry_at setting.table c).syntax ≡ false
     → token_read setting.table setting.limits (begun setting.limits.token) at (c ∷ cs) ≡ read
-    → run setting.table setting.limits (given setting stack (attempt_at setting (length stack))) at (c ∷ cs) ≡ token_goes_on setting stack (token_found setting) read
+    → run setting.table setting.limits (outer_plan setting stack (attempt_at setting (length stack))) at (c ∷ cs) ≡ token_goes_on setting stack (token_found setting) read
 token_goes setting at c cs stack read le e same =
     attempt_token setting at c cs stack le e ∙ ap (token_goes_on setting stack (token_found setting)) same
 
@@ -229,7 +229,7 @@ refused_told setting letters marks e code same is tells =
 
 module _ (setting : Setting) (stack : List Frame) (at : ℕ) (cs : List ℕ) where
   abbrev comes : Plan Found → Read Found
-  comes plan = run setting.table setting.limits (given setting stack plan) at cs
+  comes plan = run setting.table setting.limits (outer_plan setting stack plan) at cs
 
   some_marks : (marks : List Mark) → 0 < length marks → token_found setting marks ≡ told_found (told setting marks)
   some_marks [] some = absurd (omega (arith, some))
@@ -275,18 +275,18 @@ module _ (setting : Setting) (at c : ℕ) (cs : List ℕ) where
   object_over f fs stack is e h le = closes_over setting at c cs f fs stack c is e (eq-eqb c c refl) h le
 
   pub object_closes : (f : Frame) (fs stack : List Frame) (result : Result Event AllocError) → stack ≡ f ∷ fs → close_of f.part ≡ Some c → at < setting.limits.text
-      → IfOk result (λ event. Brings setting fs (at + 1) cs event (run setting.table setting.limits (given setting fs (call_in setting f fs closed)) (at + 1) cs))
+      → IfOk result (λ event. Brings setting fs (at + 1) cs event (run setting.table setting.limits (outer_plan setting fs (call_in setting f fs closed)) (at + 1) cs))
       → IfOk result (λ event. Brings setting fs (at + 1) cs event (waiting stack))
   object_closes f fs stack result is e lt brings =
       subst (λ (r : Read Found). IfOk result (λ event. Brings setting fs (at + 1) cs event r)) (sym (closes setting at c cs f fs stack c is e (eq-eqb c c refl) lt)) brings
 
   pub object_attempts : (now stack after : List Frame) (result : Result Event AllocError) → now ≡ stack → at ≤ setting.limits.text
       → ((close : ℕ) → close_of_stack stack ≡ Some close → (c == close) ≡ false)
-      → IfOk result (λ event. Brings setting after (at + 1) cs event (run setting.table setting.limits (given setting now (attempt_at setting (length now))) at (c ∷ cs)))
+      → IfOk result (λ event. Brings setting after (at + 1) cs event (run setting.table setting.limits (outer_plan setting now (attempt_at setting (length now))) at (c ∷ cs)))
       → IfOk result (λ event. Brings setting after (at + 1) cs event (waiting stack))
   object_attempts now stack after result same h other brings =
-      let whole : run setting.table setting.limits (given setting now (attempt_at setting (length now))) at (c ∷ cs) ≡ waiting stack =
-      ap (λ (fs : List Frame). run setting.table setting.limits (given setting fs (attempt_at setting (length fs))) at (c ∷ cs)) same
+      let whole : run setting.table setting.limits (outer_plan setting now (attempt_at setting (length now))) at (c ∷ cs) ≡ waiting stack =
+      ap (λ (fs : List Frame). run setting.table setting.limits (outer_plan setting fs (attempt_at setting (length fs))) at (c ∷ cs)) same
       ∙ sym (attempts setting at c cs stack h other) in
       subst (λ (r : Read Found). IfOk result (λ event. Brings setting after (at + 1) cs event r)) whole brings
 

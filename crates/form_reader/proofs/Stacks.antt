@@ -12,7 +12,7 @@ use Rattle.lisp_reading.specs.Plans.{Plan, takes, then_plan, Fault, Read, within
 use Rattle.lisp_reading.specs.Calls.{InvokedCall}
 use Rattle.lisp_reading.specs.Setting.{Setting}
 use Rattle.lisp_reading.specs.Reading.{Piece, is_whitespace, without_space, piece_of, next_item, Items, items_step, items_turn, items_after, undotted, list_end, completed}
-use Rattle.form_reader.specs.Stack.{attempt_in, next_item_in, call_in, given, between, with_found, calls_with}
+use Rattle.form_reader.specs.Stack.{attempt_in, next_item_in, call_in, outer_plan, between, with_found, calls_with}
 use Rattle.lisp_reading.proofs.Steps.{and_then, run_then}
 use Rattle.lisp_reading.proofs.Turns.{Ends, attempt_ends, loop_is, items_guarded}
 use mathlib.Core.List.{reverse_aux}
@@ -41,8 +41,8 @@ then_twice table limits p next last at cs =
 -- What one call gives, all the calls that it is open in go on with. So each law of a plan is a law of a reader in any open calls.
 pub given_moves : (setting : Setting) (stack : List Frame) (p q : Plan Found) (at to : ℕ) (cs ds : List ℕ)
     → run setting.table setting.limits p at cs ≡ run setting.table setting.limits q to ds
-    → run setting.table setting.limits (given setting stack p) at cs ≡ run setting.table setting.limits (given setting stack q) to ds
-unfolding given
+    → run setting.table setting.limits (outer_plan setting stack p) at cs ≡ run setting.table setting.limits (outer_plan setting stack q) to ds
+unfolding outer_plan
 given_moves setting [] p q at to cs ds e = e
 given_moves setting (f ∷ fs) p q at to cs ds e =
     let found = λ (x : Found). piece_of setting.table (next_item_in setting f fs) x in
@@ -52,8 +52,8 @@ given_moves setting (f ∷ fs) p q at to cs ds e =
 
 -- a fault in a call is the fault of the form
 pub given_fault : (setting : Setting) (stack : List Frame) (p : Plan Found) (at : ℕ) (cs : List ℕ) (e : Fault)
-    → run setting.table setting.limits p at cs ≡ Err e → run setting.table setting.limits (given setting stack p) at cs ≡ Err e
-unfolding given
+    → run setting.table setting.limits p at cs ≡ Err e → run setting.table setting.limits (outer_plan setting stack p) at cs ≡ Err e
+unfolding outer_plan
 given_fault setting [] p at cs e h = h
 given_fault setting (f ∷ fs) p at cs e h =
     let found = λ (x : Found). piece_of setting.table (next_item_in setting f fs) x in
@@ -67,14 +67,14 @@ given_fault setting (f ∷ fs) p at cs e h =
 -- it goes on
 pub gathering_moves : {A : Type 0} (setting : Setting) (stack : List Frame) (p q : Plan A) (on : A → Plan Found) (at to : ℕ) (cs ds : List ℕ)
     → run setting.table setting.limits p at cs ≡ run setting.table setting.limits q to ds
-    → run setting.table setting.limits (given setting stack (then_plan p on)) at cs ≡ run setting.table setting.limits (given setting stack (then_plan q on)) to ds
+    → run setting.table setting.limits (outer_plan setting stack (then_plan p on)) at cs ≡ run setting.table setting.limits (outer_plan setting stack (then_plan q on)) to ds
 gathering_moves setting stack p q on at to cs ds e =
     given_moves setting stack (then_plan p on) (then_plan q on) at to cs ds (then_moves setting.table setting.limits p q on at to cs ds e)
 
 -- it ends
 pub gathering_ends : {A : Type 0} (setting : Setting) (stack : List Frame) (p : Plan A) (on : A → Plan Found) (x : A) (at to : ℕ) (cs ds : List ℕ)
     → run setting.table setting.limits p at cs ≡ Ok (x, to, ds)
-    → run setting.table setting.limits (given setting stack (then_plan p on)) at cs ≡ run setting.table setting.limits (given setting stack (on x)) to ds
+    → run setting.table setting.limits (outer_plan setting stack (then_plan p on)) at cs ≡ run setting.table setting.limits (outer_plan setting stack (on x)) to ds
 gathering_ends setting stack p on x at to cs ds e =
     given_moves setting stack (then_plan p on) (on x) at to cs ds
     (run_then setting.table setting.limits p on at cs ∙ ap (and_then setting.table setting.limits on) e)
@@ -82,7 +82,7 @@ gathering_ends setting stack p on x at to cs ds e =
 -- it is refused
 pub gathering_fails : {A : Type 0} (setting : Setting) (stack : List Frame) (p : Plan A) (on : A → Plan Found) (e : Fault) (at : ℕ) (cs : List ℕ)
     → run setting.table setting.limits p at cs ≡ Err e
-    → run setting.table setting.limits (given setting stack (then_plan p on)) at cs ≡ Err e
+    → run setting.table setting.limits (outer_plan setting stack (then_plan p on)) at cs ≡ Err e
 gathering_fails setting stack p on f at cs e =
     given_fault setting stack (then_plan p on) at cs f
     (run_then setting.table setting.limits p on at cs ∙ ap (and_then setting.table setting.limits on) e)
@@ -103,7 +103,7 @@ pub ends_in : (setting : Setting) (stack : List Frame) → Ends setting.table se
 ends_in setting stack = attempt_ends setting _ _
 
 pub list_is : (setting : Setting) (stack : List Frame) (call : InvokedCall) (xs : List Object) (at : ℕ) (cs : List ℕ) → at ≤ setting.limits.text
-    → run setting.table setting.limits (given setting stack (then_plan (items_after setting 41 (attempt_in setting stack) xs)
+    → run setting.table setting.limits (outer_plan setting stack (then_plan (items_after setting 41 (attempt_in setting stack) xs)
     (list_end setting (attempt_in setting stack) (λ m. completed setting (length stack) call false false m)))) at cs
     ≡ run setting.table setting.limits (between setting (record { call = call; part = InList xs } ∷ stack)) at cs
 list_is setting stack call xs at cs h =
@@ -111,7 +111,7 @@ list_is setting stack call xs at cs h =
     (list_end setting (attempt_in setting stack) (λ m. completed setting (length stack) call false false m)) xs at cs (ends_in setting stack) h)
 
 pub until_is : (setting : Setting) (stack : List Frame) (call : InvokedCall) (close : ℕ) (xs : List Object) (at : ℕ) (cs : List ℕ) → at ≤ setting.limits.text
-    → run setting.table setting.limits (given setting stack (then_plan (items_after setting close (attempt_in setting stack) xs)
+    → run setting.table setting.limits (outer_plan setting stack (then_plan (items_after setting close (attempt_in setting stack) xs)
     (undotted (λ m. completed setting (length stack) call false false m)))) at cs
     ≡ run setting.table setting.limits (between setting (record { call = call; part = InUntil close xs } ∷ stack)) at cs
 until_is setting stack call close xs at cs h =
@@ -122,10 +122,10 @@ until_is setting stack call close xs at cs h =
 
 takes_given_at : {A : Type 0} (setting : Setting) (stack : List Frame) (p : Plan A) (test : ℕ → Bool) (on : A → Plan Found) (at c : ℕ) (cs : List ℕ) (b full : Bool)
     → test c ≡ b → nat_le setting.limits.text at ≡ full
-    → run setting.table setting.limits (given setting stack (then_plan (takes p test (λ d. p)) on)) at (c ∷ cs)
+    → run setting.table setting.limits (outer_plan setting stack (then_plan (takes p test (λ d. p)) on)) at (c ∷ cs)
     ≡ elim b [
-      | true ↦ within full at (run setting.table setting.limits (given setting stack (then_plan p on)) (at + 1) cs)
-      | false ↦ run setting.table setting.limits (given setting stack (then_plan p on)) at (c ∷ cs)
+      | true ↦ within full at (run setting.table setting.limits (outer_plan setting stack (then_plan p on)) (at + 1) cs)
+      | false ↦ run setting.table setting.limits (outer_plan setting stack (then_plan p on)) at (c ∷ cs)
     ]
 unfolding run then_plan
 takes_given_at {A = A} setting stack p test on at c cs b full e f =
@@ -134,16 +134,16 @@ takes_given_at {A = A} setting stack p test on at c cs b full e f =
       | false ↦ run setting.table setting.limits (then_plan p on) at (c ∷ cs)
     ] in
     let last : Bool → Bool → Read Found = λ b full. elim b [
-      | true ↦ within full at (run setting.table setting.limits (given setting stack (then_plan p on)) (at + 1) cs)
-      | false ↦ run setting.table setting.limits (given setting stack (then_plan p on)) at (c ∷ cs)
+      | true ↦ within full at (run setting.table setting.limits (outer_plan setting stack (then_plan p on)) (at + 1) cs)
+      | false ↦ run setting.table setting.limits (outer_plan setting stack (then_plan p on)) at (c ∷ cs)
     ] in
     let begins : run setting.table setting.limits (then_plan (takes p test (λ d. p)) on) at (c ∷ cs) ≡ first b full = (λ i. first (e i) (f i)) in
     let by : (b full : Bool) → run setting.table setting.limits (then_plan (takes p test (λ d. p)) on) at (c ∷ cs) ≡ first b full
-    → run setting.table setting.limits (given setting stack (then_plan (takes p test (λ d. p)) on)) at (c ∷ cs) ≡ last b full =
+    → run setting.table setting.limits (outer_plan setting stack (then_plan (takes p test (λ d. p)) on)) at (c ∷ cs) ≡ last b full =
     λ b full. elim b as (λ b. run setting.table setting.limits (then_plan (takes p test (λ d. p)) on) at (c ∷ cs) ≡ first b full
-    → run setting.table setting.limits (given setting stack (then_plan (takes p test (λ d. p)) on)) at (c ∷ cs) ≡ last b full) [
+    → run setting.table setting.limits (outer_plan setting stack (then_plan (takes p test (λ d. p)) on)) at (c ∷ cs) ≡ last b full) [
       | true ↦ elim full as (λ full. run setting.table setting.limits (then_plan (takes p test (λ d. p)) on) at (c ∷ cs) ≡ first true full
-          → run setting.table setting.limits (given setting stack (then_plan (takes p test (λ d. p)) on)) at (c ∷ cs) ≡ last true full) [
+          → run setting.table setting.limits (outer_plan setting stack (then_plan (takes p test (λ d. p)) on)) at (c ∷ cs) ≡ last true full) [
             | true ↦ λ e. given_fault setting stack (then_plan (takes p test (λ d. p)) on) at (c ∷ cs) (record { number = FORM_TOO_LONG; at = at }) e
             | false ↦ λ e. given_moves setting stack (then_plan (takes p test (λ d. p)) on) (then_plan p on) at (at + 1) (c ∷ cs) cs e
           ]
@@ -153,8 +153,8 @@ takes_given_at {A = A} setting stack p test on at c cs b full e f =
 
 -- the whitespace that may be discarded in a call may be discarded before what all open calls go on with
 pub space_given : {A : Type 0} (setting : Setting) (stack : List Frame) (token : Bool) (p : Plan A) (on : A → Plan Found) (at : ℕ) (cs : List ℕ)
-    → run setting.table setting.limits (given setting stack (then_plan (without_space setting.table token p) on)) at cs
-    ≡ run setting.table setting.limits (without_space setting.table token (given setting stack (then_plan p on))) at cs
+    → run setting.table setting.limits (outer_plan setting stack (then_plan (without_space setting.table token p) on)) at cs
+    ≡ run setting.table setting.limits (without_space setting.table token (outer_plan setting stack (then_plan p on))) at cs
 unfolding run then_plan
 space_given setting stack false p on at cs = refl
 space_given setting stack true p on at [] =

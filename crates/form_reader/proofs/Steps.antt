@@ -15,7 +15,7 @@ use Rattle.std.specs.declared.alloc.AllocError.{AllocError}
 use Rattle.form_reader.specs.declared.step.object.Passed.{Passed}
 use Rattle.form_reader.specs.declared.step.object.Passed.TheVariants.{Done as PassedDone}
 use Rattle.form_reader.specs.Step.{Passes, outcome_of, rest_of, Settles, ChangesTo, IsReadySettled, FeedsInPlace, is_space, StartsAt, StartsWith, FollowsNothing, Starts}
-use Rattle.form_reader.specs.Stack.{between, close_of_stack, is_closed_by, given}
+use Rattle.form_reader.specs.Stack.{between, close_of_stack, is_closed_by, outer_plan}
 use Rattle.lisp_reading.specs.Reading.{Outcome, is_blank, is_whitespace, stands_alone}
 use Rattle.lisp_reading.proofs.Forms.{reads_is}
 use Rattle.std.proofs.lemmas.Bool.{ltb-true, ltb-false}
@@ -130,7 +130,7 @@ module _ (setting : Setting) (stack : List Frame) (at c : ℕ) where
 -- with nothing open, an attempt begins after it
 passes_none : (setting : Setting) (start at c : ℕ) (cs : List ℕ) → at < setting.limits.text → (entry_at setting.table c).syntax ≡ Whitespace
     → rest_of setting [] AtObject start at (c ∷ cs) ≡ rest_of setting [] AtObject (start + (at + 1)) 0 cs
-unfolding run given
+unfolding run outer_plan
 passes_none setting start at c cs lt e =
     ap (outcome_of setting start)
     (attempts setting at c cs [] (omega (arith, lt)) (λ close is. cc) ∙ alone_by setting at c cs [] Whitespace (omega arith) lt (ap stands_alone e) e)

@@ -50,7 +50,7 @@ use Rattle.lisp_reading.specs.Gathering.{text_turn, line_turn, block_turn, numbe
 use Rattle.lisp_reading.specs.Naming.{symbol_in, symbol_at, named, told_of, told}
 use Rattle.lisp_reading.specs.Answering.{may_be_answered}
 use Rattle.form_reader.specs.Token.{is_going}
-use Rattle.form_reader.specs.Stack.{next_item_in, part_gives, call_in, given, between, token_goes_on}
+use Rattle.form_reader.specs.Stack.{next_item_in, part_gives, call_in, outer_plan, between, token_goes_on}
 use Rattle.lisp_reading.specs.Reading.{Piece, item, dot, closed, is_whitespace, without_space, piece_of, or_closed, next_item_turn, next_item, Items, items_step, items_turn, items_after, undotted, after_tail, after_dot, list_end, bytes_back, finished, answered, completed_by, completed, text_to, line_after, block_after, number_after, sub_there, dispatched, told_found, token_found, attempt, Outcome, form, empty, refused}
 use Rattle.form_reader.specs.State.{IsStateAt, inner_at, state_gives}
 use Rattle.form_reader.specs.Step.{outcome_of}
@@ -238,8 +238,8 @@ module _ (setting : Setting) where
   found_at_end f fs lone_dot = gives_at_end Whatever dot tt
   found_at_end f fs the_end = refuses_at_end Whatever END_OF_FILE 0 refl
 
-  given_at_end : (stack : List Frame) (plan : Plan Found) → AtEnd Whatever plan → AtEnd Whatever (given setting stack plan)
-  unfolding given
+  given_at_end : (stack : List Frame) (plan : Plan Found) → AtEnd Whatever plan → AtEnd Whatever (outer_plan setting stack plan)
+  unfolding outer_plan
   given_at_end [] plan h = h
   given_at_end (f ∷ fs) plan h =
       given_at_end fs (then_plan (then_plan plan (λ found. piece_of setting.table (next_item_in setting f fs) found)) (λ p. call_in setting f fs p))
@@ -257,10 +257,10 @@ module _ (setting : Setting) where
   -- ---- at each state
 
   module _ (stack : List Frame) (at : ℕ) (le : at ≤ setting.limits.text) where
-    last : (plan : Plan Found) → AtEnd Whatever plan → LastRead Whatever (run setting.table setting.limits (given setting stack plan) at [])
-    last plan h = run_at_end Whatever setting.table setting.limits at le (given setting stack plan) (given_at_end stack plan h)
+    last : (plan : Plan Found) → AtEnd Whatever plan → LastRead Whatever (run setting.table setting.limits (outer_plan setting stack plan) at [])
+    last plan h = run_at_end Whatever setting.table setting.limits at le (outer_plan setting stack plan) (given_at_end stack plan h)
 
-    never : {A : Type 0} (plan : Plan A) (on : A → Plan Found) → AtEnd Never plan → LastRead Whatever (run setting.table setting.limits (given setting stack (then_plan plan on)) at [])
+    never : {A : Type 0} (plan : Plan A) (on : A → Plan Found) → AtEnd Never plan → LastRead Whatever (run setting.table setting.limits (outer_plan setting stack (then_plan plan on)) at [])
     never plan on h = last (then_plan plan on) (never_then Whatever plan on h)
 
     token_last : (on : List Mark → Plan Found) (stage : ScanStage) (marks : List Mark) (left : ℕ) → ((marks : List Mark) → AtEnd Whatever (on marks)) → IsTrue (is_going stage)

@@ -20,7 +20,7 @@ use Rattle.lisp_reading.specs.Setting.{Setting}
 use Rattle.lisp_reading.specs.Reading.{next_item, without_space, items_after, undotted, after_tail, list_end, completed}
 use Rattle.form_reader.specs.Call.{plan_of}
 use Rattle.form_reader.specs.Value.{Takes, Shortens, Delivers}
-use Rattle.form_reader.specs.Stack.{attempt_in, next_item_in, call_in, given, between, next_item_gives, with_object, with_dot, with_found, calls_with, is_next, is_waiting, plan_gives}
+use Rattle.form_reader.specs.Stack.{attempt_in, next_item_in, call_in, outer_plan, between, next_item_gives, with_object, with_dot, with_found, calls_with, is_next, is_waiting, plan_gives}
 use Rattle.form_reader.proofs.Stacks.{space_given, list_is, until_is}
 use Rattle.lisp_reading.proofs.Turns.{space_same}
 use Rattle.form_reader.proofs.Dispatches.{given_refused}
@@ -46,66 +46,66 @@ space_moves setting token p q at cs h same =
 
 module _ (setting : Setting) (stack : List Frame) (call : InvokedCall) (at : ℕ) (cs : List ℕ) where
   abbrev pub delivered : Part → Found → Read Found
-  delivered part found = run setting.table setting.limits (given setting (framed_by call part ∷ stack) (gives found)) at cs
+  delivered part found = run setting.table setting.limits (outer_plan setting (framed_by call part ∷ stack) (gives found)) at cs
 
   abbrev waiting : Bool → Part → Read Found
   waiting token part = run setting.table setting.limits (without_space setting.table token (between setting (framed_by call part ∷ stack))) at cs
 
   -- only discarded text
   pub nothing_stays : (token : Bool) (part : Part) → delivered part (nothing token) ≡ waiting token part
-  unfolding given then_plan
+  unfolding outer_plan then_plan
   nothing_stays token part =
       space_given setting stack token (next_item_in setting (framed_by call part) stack) (λ p. call_in setting (framed_by call part) stack p) at cs
 
   -- the end of the input
   pub end_fails : (part : Part) → delivered part the_end ≡ fault END_OF_FILE at
-  unfolding given then_plan
+  unfolding outer_plan then_plan
   end_fails part =
       given_refused setting stack at cs END_OF_FILE 0 ∙ (let e : at - 0 ≡ at = omega arith in ap (λ (n : ℕ). fault END_OF_FILE n) e)
 
-  dot_fails : (part : Part) → given setting (framed_by call part ∷ stack) (gives lone_dot) ≡ given setting stack (refuses DOT_CONTEXT 0) → delivered part lone_dot ≡ fault DOT_CONTEXT at
+  dot_fails : (part : Part) → outer_plan setting (framed_by call part ∷ stack) (gives lone_dot) ≡ outer_plan setting stack (refuses DOT_CONTEXT 0) → delivered part lone_dot ≡ fault DOT_CONTEXT at
   dot_fails part e =
       ap (λ (p : Plan Found). run setting.table setting.limits p at cs) e ∙ given_refused setting stack at cs DOT_CONTEXT 0
       ∙ (let e : at - 0 ≡ at = omega arith in ap (λ (n : ℕ). fault DOT_CONTEXT n) e)
 
   pub dot_in_next : delivered InNext lone_dot ≡ fault DOT_CONTEXT at
-  unfolding given then_plan
+  unfolding outer_plan then_plan
   dot_in_next = dot_fails InNext refl
 
   pub dot_in_until : (close : ℕ) (xs : List Object) → delivered (InUntil close xs) lone_dot ≡ fault DOT_CONTEXT at
-  unfolding given then_plan
+  unfolding outer_plan then_plan
   dot_in_until close xs = dot_fails (InUntil close xs) refl
 
   pub dot_in_dotted : (xs : List Object) → delivered (InDotted xs) lone_dot ≡ fault DOT_CONTEXT at
-  unfolding given then_plan
+  unfolding outer_plan then_plan
   dot_in_dotted xs = dot_fails (InDotted xs) refl
 
   pub dot_in_tailed : (xs : List Object) (tail : Object) → delivered (InTailed xs tail) lone_dot ≡ fault DOT_CONTEXT at
-  unfolding given then_plan
+  unfolding outer_plan then_plan
   dot_in_tailed xs tail = dot_fails (InTailed xs tail) refl
 
   pub dot_in_empty : delivered (InList []) lone_dot ≡ fault DOT_CONTEXT at
-  unfolding given then_plan
+  unfolding outer_plan then_plan
   dot_in_empty = dot_fails (InList []) refl
 
   pub dot_in_list : (xs : List Object) → 0 < length xs → delivered (InList xs) lone_dot ≡ waiting false (InDotted xs)
-  unfolding given then_plan
+  unfolding outer_plan then_plan
   dot_in_list [] some = absurd (omega (arith, some))
   dot_in_list (x ∷ xs) some = refl
 
   -- an object
   pub one_in_next : (token : Bool) (x : Object)
-      → delivered InNext (one token x) ≡ run setting.table setting.limits (given setting stack (completed setting (length stack) call token token (one_object x))) at cs
-  unfolding given then_plan
+      → delivered InNext (one token x) ≡ run setting.table setting.limits (outer_plan setting stack (completed setting (length stack) call token token (one_object x))) at cs
+  unfolding outer_plan then_plan
   one_in_next token x = refl
 
   pub one_in_tailed : (token : Bool) (xs : List Object) (tail x : Object) → delivered (InTailed xs tail) (one token x) ≡ fault DOT_CONTEXT at
-  unfolding given then_plan
+  unfolding outer_plan then_plan
   one_in_tailed token xs tail x =
       given_refused setting stack at cs DOT_CONTEXT 0 ∙ (let e : at - 0 ≡ at = omega arith in ap (λ (n : ℕ). fault DOT_CONTEXT n) e)
 
   pub one_in_dotted : (token : Bool) (xs : List Object) (x : Object) → delivered (InDotted xs) (one token x) ≡ waiting token (InTailed xs x)
-  unfolding given then_plan
+  unfolding outer_plan then_plan
   one_in_dotted true xs x =
       space_given setting stack true (next_item setting (Some 41) (attempt_in setting stack))
       (after_tail (λ m. completed setting (length stack) call false false m) xs x) at cs
@@ -115,7 +115,7 @@ module _ (setting : Setting) (stack : List Frame) (call : InvokedCall) (at : ℕ
 
   pub one_in_list : (token : Bool) (xs ys : List Object) (x : Object) → at ≤ setting.limits.text → ys ≡ xs ++ x ∷ []
       → delivered (InList xs) (one token x) ≡ waiting token (InList ys)
-  unfolding given then_plan
+  unfolding outer_plan then_plan
   one_in_list token xs ys x h e =
       space_given setting stack token (items_after setting 41 (attempt_in setting stack) (xs ++ x ∷ []))
       (list_end setting (attempt_in setting stack) (λ m. completed setting (length stack) call false false m)) at cs
@@ -125,7 +125,7 @@ module _ (setting : Setting) (stack : List Frame) (call : InvokedCall) (at : ℕ
 
   pub one_in_until : (token : Bool) (close : ℕ) (xs ys : List Object) (x : Object) → at ≤ setting.limits.text → ys ≡ xs ++ x ∷ []
       → delivered (InUntil close xs) (one token x) ≡ waiting token (InUntil close ys)
-  unfolding given then_plan
+  unfolding outer_plan then_plan
   one_in_until token close xs ys x h e =
       space_given setting stack token (items_after setting close (attempt_in setting stack) (xs ++ x ∷ []))
       (undotted (λ m. completed setting (length stack) call false false m)) at cs
@@ -174,7 +174,7 @@ some_same x y e = cc
 
 module _ (setting : Setting) (at : ℕ) (cs : List ℕ) where
   abbrev found_in : List Frame → Found → Read Found
-  found_in stack found = run setting.table setting.limits (given setting stack (gives found)) at cs
+  found_in stack found = run setting.table setting.limits (outer_plan setting stack (gives found)) at cs
 
   -- discarded text changes nothing
   pub nothing_there : (stack : List Frame) (token : Bool) (found : Found) → found ≡ nothing token → 0 < length stack → found_in stack found ≡ next_item_gives setting token stack at cs
@@ -238,12 +238,12 @@ module _ (setting : Setting) (at : ℕ) (cs : List ℕ) where
   -- it waited for its one object
   pub next_comes : (old stack : List Frame) (call : InvokedCall) (token : Bool) (x y : Object) (depth : ℕ) (done : CallValue) (received : Received) → old ≡ record { call = call; part = InNext } ∷ stack
       → depth ≡ length stack → y ≡ x → completed setting depth call token token (one_object y) ≡ plan_of done
-      → Takes setting stack at cs received (run setting.table setting.limits (given setting stack (plan_of done)) at cs)
+      → Takes setting stack at cs received (run setting.table setting.limits (outer_plan setting stack (plan_of done)) at cs)
       → Takes setting stack at cs received (found_in old (one token x))
   next_comes old stack call token x y depth done received is open_calls same comes takes =
-      let whole : found_in old (one token x) ≡ run setting.table setting.limits (given setting stack (plan_of done)) at cs =
+      let whole : found_in old (one token x) ≡ run setting.table setting.limits (outer_plan setting stack (plan_of done)) at cs =
       ap (λ (fs : List Frame). found_in fs (one token x)) is ∙ one_in_next setting stack call at cs token x
-      ∙ ap (λ (plan : Plan Found). run setting.table setting.limits (given setting stack plan) at cs)
+      ∙ ap (λ (plan : Plan Found). run setting.table setting.limits (outer_plan setting stack plan) at cs)
       ((λ i. completed setting (sym open_calls i) call token token (one_object (sym same i))) ∙ comes) in
       subst (λ (r : Read Found). Takes setting stack at cs received r) (sym whole) takes
 
@@ -275,11 +275,11 @@ fewer_open stack after (ReceivedRefused code offset) less = omega (arith, less)
 -- ---- call after call
 
 pub none_left : (setting : Setting) (old stack : List Frame) (x found : Found) (at : ℕ) (cs : List ℕ)
-    → ((cs : List ℕ) → run setting.table setting.limits (given setting old (gives x)) at cs ≡ run setting.table setting.limits (given setting stack (gives found)) at cs)
-    → stack ≡ [] → run setting.table setting.limits (given setting old (gives x)) at cs ≡ Ok (found, at, cs)
-unfolding given run
+    → ((cs : List ℕ) → run setting.table setting.limits (outer_plan setting old (gives x)) at cs ≡ run setting.table setting.limits (outer_plan setting stack (gives found)) at cs)
+    → stack ≡ [] → run setting.table setting.limits (outer_plan setting old (gives x)) at cs ≡ Ok (found, at, cs)
+unfolding outer_plan run
 none_left setting old stack x found at cs before none =
-    before cs ∙ ap (λ (fs : List Frame). run setting.table setting.limits (given setting fs (gives found)) at cs) none
+    before cs ∙ ap (λ (fs : List Frame). run setting.table setting.limits (outer_plan setting fs (gives found)) at cs) none
 
 -- the outermost attempt came to this
 pub done_told : (setting : Setting) (stack : List Frame) (at : ℕ) (cs : List ℕ) (read : Read Found) (delivered : Delivered) (found : Found) → delivered ≡ Done found

@@ -99,21 +99,21 @@ abbrev pub call_in : Setting → Frame → List Frame → Piece → Plan Found
 call_in setting f stack p = part_gives setting (length stack) (attempt_in setting stack) f.call f.part p
 
 -- what the outermost attempt comes to, if the attempt in the innermost call comes to this
-unfoldable pub given : Setting → List Frame → Plan Found → Plan Found
-given setting [] plan = plan
-given setting (f ∷ fs) plan =
-    given setting fs (then_plan (then_plan plan (λ found. piece_of setting.table (next_item_in setting f fs) found)) (λ p. call_in setting f fs p))
+unfoldable pub outer_plan : Setting → List Frame → Plan Found → Plan Found
+outer_plan setting [] plan = plan
+outer_plan setting (f ∷ fs) plan =
+    outer_plan setting fs (then_plan (then_plan plan (λ found. piece_of setting.table (next_item_in setting f fs) found)) (λ p. call_in setting f fs p))
 
 -- the same where an object may begin
 abbrev pub between : Setting → List Frame → Plan Found
 between setting [] = attempt setting setting.limits.nesting
-between setting (f ∷ fs) = given setting fs (then_plan (next_item_in setting f fs) (λ p. call_in setting f fs p))
+between setting (f ∷ fs) = outer_plan setting fs (then_plan (next_item_in setting f fs) (λ p. call_in setting f fs p))
 
 -- ---- what is given on a text
 
 -- if the attempt in the innermost call comes to this
 abbrev pub plan_gives : Setting → List Frame → Plan Found → ℕ → List ℕ → Read Found
-plan_gives setting stack plan at cs = run setting.table setting.limits (given setting stack plan) at cs
+plan_gives setting stack plan at cs = run setting.table setting.limits (outer_plan setting stack plan) at cs
 
 -- where an object may begin: where a token ended before it, one whitespace character is discarded first
 abbrev pub next_item_gives : Setting → Bool → List Frame → ℕ → List ℕ → Read Found

@@ -59,7 +59,7 @@ pub(crate) fn call_value<R: MacroFunctions>(
     match call.function() {
         Function::Standard(kind) => {
             let case = with.readtable.case();
-            finished(with.alloc, kind, case, call.number(), token, gathered)
+            standard_value(with.alloc, kind, case, call.number(), token, gathered)
         }
         Function::User(name) => {
             // A function that is not registered refuses each call, and is not called.
@@ -68,7 +68,7 @@ pub(crate) fn call_value<R: MacroFunctions>(
             }
             let call = macro_call(with.alloc, call, gathered)?;
             let answer = with.macros.call(name, &call)?;
-            Ok(answered(
+            Ok(user_value(
                 with.packages,
                 with.limits.nesting,
                 depth,
@@ -81,7 +81,7 @@ pub(crate) fn call_value<R: MacroFunctions>(
 }
 
 /// The value of a standard function.
-fn finished(
+fn standard_value(
     alloc: Global,
     kind: Standard,
     case: Case,
@@ -118,7 +118,7 @@ fn bytes_back(refusal: StdRefusal) -> usize
 
 /// What an answer comes to.
 #[tactic(auto, using(crate::proofs::Calls::space_or, crate::proofs::Calls::or_space))]
-fn answered(
+fn user_value(
     packages: &Packages,
     nesting: u32,
     depth: usize,
@@ -204,7 +204,7 @@ pub(crate) fn event_of(completed: CallValue, at: usize) -> Event
 
 /// What a call brings that ends at `at` at this depth, and whether a token ends it.
 #[inline(always)]
-pub(crate) fn ended<R: MacroFunctions>(
+pub(crate) fn end_call<R: MacroFunctions>(
     with: &Context<'_, R>,
     depth: usize,
     call: &Invoked,
@@ -246,17 +246,17 @@ pub(crate) fn close<R: MacroFunctions>(
         Part::Next => Ok(Event::Refused(DOT_CONTEXT, at)),
         Part::List(items) => {
             let gathered = StdGathered::Many(items.into_items());
-            ended(with, depth, &call, false, gathered, at)
+            end_call(with, depth, &call, false, gathered, at)
         }
         Part::Until(_, items) => {
             let gathered = StdGathered::Many(items.into_items());
-            ended(with, depth, &call, false, gathered, at)
+            end_call(with, depth, &call, false, gathered, at)
         }
         Part::Dotted(_) => Ok(Event::Refused(DOT_CONTEXT, at.saturating_sub(1))),
         Part::Tailed(items, tail) => {
             let items = items.into_items();
             let tail = tail.into_datum();
-            ended(
+            end_call(
                 with,
                 depth,
                 &call,

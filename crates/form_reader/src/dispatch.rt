@@ -10,7 +10,7 @@ ghost use Rattle.form_reader.specs.declared.stack.Frame.{Frame};
 ghost use Rattle.form_reader.specs.declared.state.State.TheVariants.{Number as AtNumber};
 ghost use Rattle.form_reader.specs.Dispatch.{Begins, Gathers, reads_objects};
 
-use crate::call::ended;
+use crate::call::end_call;
 use crate::context::Context;
 use crate::gather::{LineByte, number_byte};
 use crate::stack::{Frame, Part, Stack};
@@ -164,7 +164,7 @@ fn gather<R: MacroFunctions>(
     ensures nesting { IfOk result (λ _. length stack.new ≤ with.now.limits.nesting) }
 {
     match way {
-        Way::Nothing => ended(with, stack.len(), &call, false, StdGathered::Nothing, at),
+        Way::Nothing => end_call(with, stack.len(), &call, false, StdGathered::Nothing, at),
         Way::Next => gather_objects(with, stack, call, way, at),
         Way::List => gather_objects(with, stack, call, way, at),
         Way::Until(_) => gather_objects(with, stack, call, way, at),

@@ -14,13 +14,13 @@ ghost use Rattle.form_reader.specs.Step.{outcome_of, rest_of, Settles};
 ghost use Rattle.form_reader.specs.EndOfText.{TokenStops, IsLastEvent, IsLastSettled};
 ghost use Rattle.form_reader.specs.Reader.{IsOutcome};
 
-use crate::call::ended;
+use crate::call::end_call;
 use crate::context::Context;
 use crate::reader::ReadOutcome;
 use crate::stack::Stack;
 use crate::state::{Event, State};
 use crate::step::Settled;
-use crate::token::{BegunScan, refused, token_end};
+use crate::token::{BegunScan, refusal_number, token_end};
 use crate::value::{Delivered, return_value};
 use lisp_object::refusal::{DOT_CONTEXT, END_OF_FILE};
 use lisp_reading::{Found, HeldText, Invoked, Limits};
@@ -37,7 +37,7 @@ fn token_stop(limits: &Limits, scan: &mut TokenScan, at: usize) -> Option<u16>
 {
     match scan.finish() {
         Ok(()) => None,
-        Err(refusal) => Some(refused(limits, refusal, at)),
+        Err(refusal) => Some(refusal_number(limits, refusal, at)),
     }
 }
 
@@ -78,7 +78,7 @@ fn last_call_token<R: MacroFunctions>(
     match token_stop(&with.limits, &mut scan, at) {
         None => {
             let gathered = StdGathered::Marks(scan.into_marks());
-            ended(with, depth, &call, true, gathered, at)
+            end_call(with, depth, &call, true, gathered, at)
         }
         Some(code) => Ok(Event::Refused(code, at)),
     }
@@ -101,7 +101,7 @@ fn last_line<R: MacroFunctions>(
     ensures last { IfOk result (IsLastEvent at) }
 {
     let gathered = StdGathered::Text(text.into_bytes());
-    ended(with, depth, &call, false, gathered, at)
+    end_call(with, depth, &call, false, gathered, at)
 }
 
 /// What the end of the text at `at` brings; the state is left where an object may begin.
@@ -132,7 +132,7 @@ fn last<R: MacroFunctions>(
 }
 
 /// The end of the text at `at`, where an object may begin.
-fn waited(calls: usize, at: usize) -> Settled
+fn end_at_object(calls: usize, at: usize) -> Settled
     ensures settles { (setting : Setting) (stack : List Frame) → calls ≡ length stack
         → at ≤ setting.limits.text
         → Settles setting stack at [] result (state_gives setting stack AtObject at []) }
@@ -161,9 +161,9 @@ fn settle_last<R: MacroFunctions>(
     ensures between { stack.old ≡ [] → state ≡ AtObject → result ≡ Ok (IsDone the_end) }
 {
     match last(with, stack.len(), state, at)? {
-        Event::Open(_) => Ok(waited(stack.len(), at)),
+        Event::Open(_) => Ok(end_at_object(stack.len(), at)),
         Event::Gives(found) => match return_value(with, stack, found, at)? {
-            Delivered::Waits(_) => Ok(waited(stack.len(), at)),
+            Delivered::Waits(_) => Ok(end_at_object(stack.len(), at)),
             Delivered::Done(found) => Ok(Settled::Done(found)),
             Delivered::Refused(code, offset) => Ok(Settled::Refused(code, offset)),
         },

@@ -11,7 +11,7 @@ ghost use Rattle.form_reader.specs.Context.{setting};
 ghost use Rattle.form_reader.specs.declared.state.State.TheVariants.{Text as AtText, Escaped as AtEscaped, Line as AtLine, Block as AtBlock};
 ghost use Rattle.form_reader.specs.State.{Brings, state_gives, IsReady};
 
-use crate::call::ended;
+use crate::call::end_call;
 use crate::context::Context;
 use crate::state::{Event, State};
 use lisp_object::refusal::{FORM_TOO_LONG, INVALID_CHARACTER, NUMERIC_ARGUMENT};
@@ -244,7 +244,7 @@ pub(crate) fn in_text<R: MacroFunctions>(
         TextByte::Escape => Ok(Event::Open(State::Escaped(call, terminator, text))),
         TextByte::Ended => {
             let gathered = StdGathered::Text(text.into_bytes());
-            ended(with, depth, &call, false, gathered, at + 1)
+            end_call(with, depth, &call, false, gathered, at + 1)
         }
         TextByte::Refused(code) => Ok(Event::Refused(code, at)),
     }
@@ -296,7 +296,7 @@ pub(crate) fn in_line<R: MacroFunctions>(
         LineByte::More => Ok(Event::Open(State::Line(call, text))),
         LineByte::Ended => {
             let gathered = StdGathered::Text(text.into_bytes());
-            ended(with, depth, &call, false, gathered, at + 1)
+            end_call(with, depth, &call, false, gathered, at + 1)
         }
         LineByte::Refused(code) => Ok(Event::Refused(code, at)),
     }
@@ -324,7 +324,7 @@ pub(crate) fn in_block<R: MacroFunctions>(
 {
     match block_byte(with.readtable, &with.limits, &mut levels, at, c) {
         LineByte::More => Ok(Event::Open(State::Block(call, levels))),
-        LineByte::Ended => ended(with, depth, &call, false, StdGathered::Nothing, at + 1),
+        LineByte::Ended => end_call(with, depth, &call, false, StdGathered::Nothing, at + 1),
         LineByte::Refused(code) => Ok(Event::Refused(code, at)),
     }
 }

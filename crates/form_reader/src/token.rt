@@ -18,7 +18,7 @@ ghost use Rattle.form_reader.specs.State.{attempt_at, Brings, IsReady, Moves, st
 ghost use Rattle.token_scan.specs.Marks.{are_ascii};
 ghost use Rattle.form_reader.specs.declared.state.State.TheVariants.{Token as AtToken, CallToken as AtCallToken};
 
-use crate::call::ended;
+use crate::call::end_call;
 use crate::context::Context;
 use crate::gather::LineByte;
 use crate::state::{Event, Moved, State};
@@ -177,12 +177,12 @@ pub(crate) fn token_byte(
                 Ok(LineByte::More)
             }
         }
-        Fed::Refused(refusal) => Ok(LineByte::Refused(refused(limits, refusal, at))),
+        Fed::Refused(refusal) => Ok(LineByte::Refused(refusal_number(limits, refusal, at))),
     }
 }
 
 /// The number of a refusal at `at`, where the byte may be one too many.
-pub(crate) fn refused(limits: &Limits, refusal: ScanRefusal, at: usize) -> u16
+pub(crate) fn refusal_number(limits: &Limits, refusal: ScanRefusal, at: usize) -> u16
     requires { at ≤ limits.now.text }
     ensures { result ≡ refused_number limits.now.text refusal at }
 {
@@ -299,7 +299,7 @@ pub(crate) fn in_call_token<R: MacroFunctions>(
         LineByte::More => Ok(Moved::After(Event::Open(State::CallToken(call, scan)))),
         LineByte::Ended => {
             let gathered = StdGathered::Marks(scan.into_marks());
-            Ok(Moved::Before(ended(with, depth, &call, true, gathered, at)?))
+            Ok(Moved::Before(end_call(with, depth, &call, true, gathered, at)?))
         }
         LineByte::Refused(code) => Ok(Moved::After(Event::Refused(code, at))),
     }

@@ -86,7 +86,7 @@ fn take_one<R: MacroFunctions>(
         Some(call) => {
             let depth = stack.len();
             let gathered = StdGathered::One(x.into_datum());
-            Ok(received_of(call_value(with, depth, &call, token, token, gathered)?, at))
+            Ok(return_of(call_value(with, depth, &call, token, token, gathered)?, at))
         }
         None => {
             if stack.take_object(x)? {
@@ -115,7 +115,7 @@ fn take_dot(stack: &mut Stack, at: usize) -> Received
 }
 
 /// What an open call that ends at `at` comes to.
-fn received_of(completed: CallValue, at: usize) -> Received
+fn return_of(completed: CallValue, at: usize) -> Received
     ensures takes { (setting : Setting) (stack : List Frame) (cs : List ℕ)
         → Takes setting stack at cs result
         (plan_gives setting stack (plan_of completed) at cs) }

@@ -76,18 +76,18 @@ fn begin_in_place<R: MacroFunctions>(
         stack.now ≡ [] → is_space setting stack.now state.old at c ≡ true → (result ≡ Ok IsPassed) × (state.new ≡ AtObject) }
     ensures anew { result ≡ Ok IsPassed → (stack.now ≡ []) × (state.new ≡ AtObject) }
 {
-    match begun_at(with, stack, at, c)? {
+    match token_in_place(with, stack, at, c)? {
         Some(scan) => {
             *state = State::Token(scan);
             Ok(InPlace::GoesOn)
         }
-        None => Ok(discarded(with, stack, at, c)),
+        None => Ok(space_in_place(with, stack, at, c)),
     }
 }
 
 /// The token that the byte `c` at `at` begins, where an object may begin; None where it begins none, or is refused.
 #[tactic(auto, using(crate::proofs::Objects::begins_token))]
-fn begun_at<R: MacroFunctions>(
+fn token_in_place<R: MacroFunctions>(
     with: &Context<'_, R>,
     stack: &Stack,
     at: usize,
@@ -114,7 +114,12 @@ fn begun_at<R: MacroFunctions>(
 }
 
 /// The byte `c` at `at`, where an object may begin, if it begins no token.
-fn discarded<R: MacroFunctions>(with: &Context<'_, R>, stack: &Stack, at: usize, c: u8) -> InPlace
+fn space_in_place<R: MacroFunctions>(
+    with: &Context<'_, R>,
+    stack: &Stack,
+    at: usize,
+    c: u8,
+) -> InPlace
     requires nesting { length stack.now ≤ with.now.limits.nesting }
     ensures feeds { let setting = setting R.functions with.now in
         (cs : List ℕ) → FeedsInPlace setting stack.now at c cs AtObject AtObject result }

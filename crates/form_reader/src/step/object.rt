@@ -47,7 +47,7 @@ pub(crate) fn at_object<R: MacroFunctions>(
         return close(with, stack.len(), frame, at + 1);
     }
     if stands_alone(with.readtable.syntax(c)) {
-        alone(with, stack, at, c)
+        lone_byte(with, stack, at, c)
     } else {
         begin_token(with, at, c)
     }
@@ -155,7 +155,7 @@ pub(crate) fn stands_alone(syntax: Syntax) -> bool
 
 /// What an attempt comes to where its first byte `c`, at `at`, begins no token.
 #[inline(always)]
-pub(crate) fn alone<R: MacroFunctions>(
+pub(crate) fn lone_byte<R: MacroFunctions>(
     with: &Context<'_, R>,
     stack: &mut Stack,
     at: usize,

@@ -11,12 +11,12 @@ returns-in-Next-clause-brings g c = λ stack cs open_calls.
 pub returns-in-List-clause-brings : goal.returns-in-List-clause-brings
 returns-in-List-clause-brings g c = λ stack cs open_calls.
     let setting = setting g.R.MacroFunctions.functions c.args.with.now in
-    list_closes setting stack c.args.frame.call c.args.at cs c.args.frame.part c.in-List.items _ c.ended.result c.in-List.is c.into_items.ensures.objects (c.ended.ensures.brings stack cs open_calls)
+    list_closes setting stack c.args.frame.call c.args.at cs c.args.frame.part c.in-List.items _ c.end_call.result c.in-List.is c.into_items.ensures.objects (c.end_call.ensures.brings stack cs open_calls)
 
 pub returns-in-Until-clause-brings : goal.returns-in-Until-clause-brings
 returns-in-Until-clause-brings g c = λ stack cs open_calls.
     let setting = setting g.R.MacroFunctions.functions c.args.with.now in
-    until_closes setting stack c.args.frame.call c.args.at cs c.args.frame.part _ _ _ c.ended-in-Until.result c.in-Until.is c.into_items-in-Until.ensures.objects (c.ended-in-Until.ensures.brings stack cs open_calls)
+    until_closes setting stack c.args.frame.call c.args.at cs c.args.frame.part _ _ _ c.end_call-in-Until.result c.in-Until.is c.into_items-in-Until.ensures.objects (c.end_call-in-Until.ensures.brings stack cs open_calls)
 
 pub returns-in-Dotted-clause-brings : goal.returns-in-Dotted-clause-brings
 returns-in-Dotted-clause-brings g c = λ stack cs open_calls.
@@ -26,4 +26,4 @@ returns-in-Dotted-clause-brings g c = λ stack cs open_calls.
 pub returns-clause-brings : goal.returns-clause-brings
 returns-clause-brings g c = λ stack cs open_calls.
     let setting = setting g.R.MacroFunctions.functions c.args.with.now in
-    tailed_closes setting stack c.args.frame.call c.args.at cs c.args.frame.part c.in-Tailed.items _ c.in-Tailed.tail _ c.ended-in-Tailed.result c.in-Tailed.is c.into_items-items.ensures.objects c.into_datum-tail.ensures.object (c.ended-in-Tailed.ensures.brings stack cs open_calls)
+    tailed_closes setting stack c.args.frame.call c.args.at cs c.args.frame.part c.in-Tailed.items _ c.in-Tailed.tail _ c.end_call-in-Tailed.result c.in-Tailed.is c.into_items-items.ensures.objects c.into_datum-tail.ensures.object (c.end_call-in-Tailed.ensures.brings stack cs open_calls)

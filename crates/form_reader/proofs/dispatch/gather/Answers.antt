@@ -5,7 +5,7 @@ use Rattle.form_reader.proofs.dispatch.gather.Goals as goal
 pub returns-in-Nothing-clause-gathers : goal.returns-in-Nothing-clause-gathers
 returns-in-Nothing-clause-gathers g c = λ cs.
     let setting = setting g.R.MacroFunctions.functions c.args.with.now in
-    nothing_at setting c.args.stack.now c.args.call c.args.way c.args.at cs c.ended.result c.in-Nothing.is (c.ended.ensures.brings c.args.stack.now cs c.len.ensures)
+    nothing_at setting c.args.stack.now c.args.call c.args.way c.args.at cs c.end_call.result c.in-Nothing.is (c.end_call.ensures.brings c.args.stack.now cs c.len.ensures)
 
 pub returns-in-Token-clause-gathers : goal.returns-in-Token-clause-gathers
 returns-in-Token-clause-gathers g c = λ cs.

@@ -16,7 +16,7 @@ returns-in-Escape-clause-brings g c = λ stack cs open_calls.
 pub returns-in-Ended-clause-brings : goal.returns-in-Ended-clause-brings
 returns-in-Ended-clause-brings g c = λ stack cs open_calls.
     let setting = setting g.R.MacroFunctions.functions c.args.with.now in
-    ends setting stack _ _ _ c.into_bytes.result c.args.at (c.args.at + 1) (c.args.c ∷ cs) cs c.ended.result (rw c.in-Ended.is at (c.in_ok-text_byte.ensures.feeds cs)) c.into_bytes.ensures.value (c.ended.ensures.brings stack cs open_calls)
+    ends setting stack _ _ _ c.into_bytes.result c.args.at (c.args.at + 1) (c.args.c ∷ cs) cs c.end_call.result (rw c.in-Ended.is at (c.in_ok-text_byte.ensures.feeds cs)) c.into_bytes.ensures.value (c.end_call.ensures.brings stack cs open_calls)
 
 pub returns-in-Refused-clause-brings : goal.returns-in-Refused-clause-brings
 returns-in-Refused-clause-brings g c = λ stack cs open_calls.

@@ -9,8 +9,8 @@ use Rattle.form_reader.proofs.value.take_one.Goals as goal
 pub returns-in_ok-call_value-in-Some-clause-takes : goal.returns-in_ok-call_value-in-Some-clause-takes
 returns-in_ok-call_value-in-Some-clause-takes g c = λ cs.
     let setting = setting g.R.MacroFunctions.functions c.args.with.now in
-    next_comes setting c.args.at cs c.args.stack.now c.pop_waiting.new.self c.in-Some.call c.args.token c.args.x _ c.len-depth.result c.in_ok-call_value-in-Some.field-0 c.received_of.result
-    c.in-Some.ensures c.len-depth.ensures c.into_datum.ensures.object c.in_ok-call_value-in-Some.ensures.gives (c.received_of.ensures.takes setting c.pop_waiting.new.self cs)
+    next_comes setting c.args.at cs c.args.stack.now c.pop_waiting.new.self c.in-Some.call c.args.token c.args.x _ c.len-depth.result c.in_ok-call_value-in-Some.field-0 c.return_of.result
+    c.in-Some.ensures c.len-depth.ensures c.into_datum.ensures.object c.in_ok-call_value-in-Some.ensures.gives (c.return_of.ensures.takes setting c.pop_waiting.new.self cs)
 
 pub returns-then-branch-clause-takes : goal.returns-then-branch-clause-takes
 returns-then-branch-clause-takes g c = λ cs.

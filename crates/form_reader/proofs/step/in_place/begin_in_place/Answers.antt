@@ -11,4 +11,4 @@ returns-in-Some-clause-feeds g c = λ cs.
 pub returns-in-None-clause-feeds : goal.returns-in-None-clause-feeds
 returns-in-None-clause-feeds g c = λ cs.
     let setting = setting g.R.MacroFunctions.functions c.args.with.now in
-    discarded_there setting c.args.stack.now c.args.at c.args.c cs c.args.state.now c.discarded.result c.requires.object (c.discarded.ensures.feeds cs)
+    discarded_there setting c.args.stack.now c.args.at c.args.c cs c.args.state.now c.space_in_place.result c.requires.object (c.space_in_place.ensures.feeds cs)

@@ -18,7 +18,7 @@ returns-in-Some-clause-brings g c = λ cs.
 pub returns-then-stands_alone-clause-brings : goal.returns-then-stands_alone-clause-brings
 returns-then-stands_alone-clause-brings g c = λ cs.
     let setting = setting g.R.MacroFunctions.functions c.args.with.now in
-    object_attempts setting c.args.at c.args.c cs c.pop_closed_by.new.self c.args.stack.now _ c.alone.result c.in_default.ensures.0 c.requires.within c.in_default.ensures.1 (c.alone.ensures.brings cs)
+    object_attempts setting c.args.at c.args.c cs c.pop_closed_by.new.self c.args.stack.now _ c.lone_byte.result c.in_default.ensures.0 c.requires.within c.in_default.ensures.1 (c.lone_byte.ensures.brings cs)
 
 pub returns-else-stands_alone-clause-brings : goal.returns-else-stands_alone-clause-brings
 returns-else-stands_alone-clause-brings g c = λ cs.

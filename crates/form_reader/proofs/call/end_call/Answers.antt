@@ -2,7 +2,7 @@ use Rattle.std.proofs.Common.{arith}
 use Rattle.form_reader.specs.Context.{setting}
 use Rattle.form_reader.proofs.Calls.{call_ends}
 use Rattle.form_reader.proofs.Calls.{end_within, or_none}
-use Rattle.form_reader.proofs.call.ended.Goals as goal
+use Rattle.form_reader.proofs.call.end_call.Goals as goal
 
 pub returns-clause-brings : goal.returns-clause-brings
 returns-clause-brings g c = λ stack cs open_calls.

@@ -1,7 +1,7 @@
 use Rattle.std.proofs.Common.{arith, refl, sym, ◌∙◌}
 use Rattle.form_reader.specs.Context.{setting}
 use Rattle.form_reader.proofs.Objects.{attempt_over, alone_by, alone_refused, alone_other, alone_calls, invalid_beyond}
-use Rattle.form_reader.proofs.step.object.alone.Goals as goal
+use Rattle.form_reader.proofs.step.object.lone_byte.Goals as goal
 
 pub returns-then-at-with-clause-brings : goal.returns-then-at-with-clause-brings
 returns-then-at-with-clause-brings g c = λ cs.

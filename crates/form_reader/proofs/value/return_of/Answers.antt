@@ -1,6 +1,6 @@
 use Rattle.std.proofs.Common.{arith}
 use Rattle.form_reader.proofs.Dispatches.{refusal_comes}
-use Rattle.form_reader.proofs.value.received_of.Goals as goal
+use Rattle.form_reader.proofs.value.return_of.Goals as goal
 
 pub returns-in-Refused-clause-takes : goal.returns-in-Refused-clause-takes
 returns-in-Refused-clause-takes c = λ setting stack cs.

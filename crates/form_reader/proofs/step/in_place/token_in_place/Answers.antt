@@ -2,7 +2,7 @@ use Rattle.std.proofs.Common.{sym, ap, ◌∙◌}
 use Rattle.form_reader.specs.Context.{setting}
 use Rattle.lisp_reading.specs.Reading.{stands_alone}
 use Rattle.form_reader.proofs.Objects.{object_begins, first_told}
-use Rattle.form_reader.proofs.step.in_place.begun_at.Goals as goal
+use Rattle.form_reader.proofs.step.in_place.token_in_place.Goals as goal
 
 pub returns-in-More-clause-begins : goal.returns-in-More-clause-begins
 returns-in-More-clause-begins g c = λ cs.
