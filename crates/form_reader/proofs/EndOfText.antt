@@ -16,8 +16,6 @@ use Rattle.form_reader.specs.declared.value.Delivered.TheVariants.{Waits}
 use Rattle.form_reader.specs.declared.reader.ReadOutcome.{ReadOutcome}
 use Rattle.form_reader.specs.declared.state.Event.TheVariants.{Gives as IsGiven}
 use Rattle.form_reader.specs.declared.state.State.{State}
-use Rattle.form_reader.specs.declared.step.Settled.{Settled}
-use Rattle.form_reader.specs.declared.step.Settled.TheVariants.{Done as SettledDone}
 use Rattle.form_reader.specs.Value.{Delivers}
 use Rattle.form_reader.specs.Reader.{IsOutcome}
 use Rattle.lisp_reading.specs.Plans.{Plan, gives, then_plan, next_byte, loop, Read, fault, run, stands_below}
@@ -150,7 +148,7 @@ module _ (setting : Setting) (stack : List Frame) (at : ℕ) where
       → IfOk result (λ event. Brings setting stack at [] event (state_gives setting stack state at []))
   state_last state known result e h = subst (λ (s : State). IfOk result (λ event. Brings setting stack at [] event (state_gives setting stack s at []))) (sym e) h
 
-  pub waits_last : (before : List Frame) (found : Found) (event : Event) (delivered : Delivered) (token : Bool) (settled : Settled) (read : Read Found) → event ≡ IsGiven found
+  pub waits_last : (before : List Frame) (found : Found) (event : Event) (delivered : Delivered) (token : Bool) (settled : Event) (read : Read Found) → event ≡ IsGiven found
       → Brings setting before at [] event read → delivered ≡ Waits token
       → Delivers setting stack at [] delivered (run setting.table setting.limits (outer_plan setting before (gives found)) at [])
       → Settles setting stack at [] settled (run setting.table setting.limits (between setting stack) at []) → Settles setting stack at [] settled read
@@ -160,10 +158,10 @@ module _ (setting : Setting) (stack : List Frame) (at : ℕ) where
       = subst (λ (v : Delivered). Delivers setting stack at [] v (run setting.table setting.limits (outer_plan setting before (gives found)) at [])) d delivers in
       subst (λ (r : Read Found). Settles setting stack at [] settled r) (sym (given_is ∙ waiting ∙ no_space setting stack at token)) settles
 
-  pub done_ends : (start : ℕ) (settled : Settled) (found : Found) (read : Read Found) (outcome : ReadOutcome) → settled ≡ SettledDone found → Settles setting stack at [] settled read
+  pub done_ends : (start : ℕ) (settled : Event) (found : Found) (read : Read Found) (outcome : ReadOutcome) → settled ≡ IsGiven found → Settles setting stack at [] settled read
       → IsOutcome outcome (outcome_of setting start (Ok (found, at, []))) → IsOutcome outcome (outcome_of setting start read)
   done_ends start settled found read outcome e settles is =
-      let told : Settles setting stack at [] (SettledDone found) read = subst (λ (s : Settled). Settles setting stack at [] s read) e settles in
+      let told : Settles setting stack at [] (IsGiven found) read = subst (λ (s : Event). Settles setting stack at [] s read) e settles in
       subst (λ (r : Read Found). IsOutcome outcome (outcome_of setting start r)) (sym told.0) is
 
 -- ---- tokens

@@ -32,8 +32,6 @@ use Rattle.form_reader.proofs.Deciding.{may_go_on, decide_nothing}
 use Rattle.lisp_reading.proofs.Forms.{reads_is, stood}
 use Rattle.form_reader.specs.declared.state.Event.{Event}
 use Rattle.form_reader.specs.declared.state.Event.TheVariants.{Open as IsAt, Gives as IsGiven, Refused as IsRefused}
-use Rattle.form_reader.specs.declared.step.Settled.{Settled}
-use Rattle.form_reader.specs.declared.step.Settled.TheVariants.{Done as SettledDone}
 use Rattle.form_reader.specs.Stack.{plan_gives}
 use Rattle.form_reader.proofs.EndOfText.{none_waits}
 
@@ -251,10 +249,10 @@ brought setting stack at (IsGiven found) = (plan_gives setting stack (gives foun
 brought setting stack at (IsRefused code offset) = (fault code offset, refl)
 
 -- where the outermost attempt comes to something, no call is open
-pub done_anew : (setting : Setting) (stack : List Frame) (at : ℕ) (settled : Settled) (found : Found) (read : Read Found) (change : Change) → settled ≡ SettledDone found
+pub done_anew : (setting : Setting) (stack : List Frame) (at : ℕ) (settled : Event) (found : Found) (read : Read Found) (change : Change) → settled ≡ IsGiven found
     → Settles setting stack at [] settled read → BeginsAnew [] change → BeginsAnew stack change
 done_anew setting stack at settled found read change e settles anew =
-    let told : Settles setting stack at [] (SettledDone found) read = subst (λ (s : Settled). Settles setting stack at [] s read) e settles in
+    let told : Settles setting stack at [] (IsGiven found) read = subst (λ (s : Event). Settles setting stack at [] s read) e settles in
     subst (λ (fs : List Frame). BeginsAnew fs change) (sym told.1) anew
 
 -- where the attempt that is open after a change has no byte, the reader is between forms

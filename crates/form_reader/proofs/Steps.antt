@@ -6,8 +6,8 @@ use Rattle.lisp_reading.specs.declared.found.Found.TheVariants.{Nothing as nothi
 use Rattle.form_reader.specs.declared.stack.Frame.{Frame}
 use Rattle.lisp_reading.specs.declared.limits.Limits.{Limits}
 use Rattle.form_reader.specs.declared.state.State.TheVariants.{Object as AtObject}
-use Rattle.form_reader.specs.declared.step.Settled.{Settled}
-use Rattle.form_reader.specs.declared.step.Settled.TheVariants.{Done as SettledDone}
+use Rattle.form_reader.specs.declared.state.Event.{Event}
+use Rattle.form_reader.specs.declared.state.Event.TheVariants.{Gives as IsGiven}
 use Rattle.form_reader.specs.declared.step.Change.{Change}
 use Rattle.lisp_reading.specs.Plans.{Read, run}
 use Rattle.lisp_reading.specs.Setting.{Setting}
@@ -31,11 +31,11 @@ use Rattle.form_reader.specs.State.{state_gives}
 
 -- ---- what the outermost attempt comes to
 
-module _ (setting : Setting) (stack : List Frame) (start at : ℕ) (cs : List ℕ) (read : Read Found) (settled : Settled) where
-  pub done_turns : (found : Found) (change : Change) → settled ≡ SettledDone found → Settles setting stack at cs settled read
+module _ (setting : Setting) (stack : List Frame) (start at : ℕ) (cs : List ℕ) (read : Read Found) (settled : Event) where
+  pub done_turns : (found : Found) (change : Change) → settled ≡ IsGiven found → Settles setting stack at cs settled read
       → ChangesTo setting [] cs change (outcome_of setting start (Ok (found, at, cs))) → ChangesTo setting stack cs change (outcome_of setting start read)
   done_turns found change e h turns =
-      let told : Settles setting stack at cs (SettledDone found) read = subst (λ (s : Settled). Settles setting stack at cs s read) e h in
+      let told : Settles setting stack at cs (IsGiven found) read = subst (λ (s : Event). Settles setting stack at cs s read) e h in
       subst (λ (fs : List Frame). ChangesTo setting fs cs change (outcome_of setting start read)) (sym told.1)
       (subst (λ (r : Read Found). ChangesTo setting [] cs change (outcome_of setting start r)) (sym told.0) turns)
 
@@ -47,10 +47,10 @@ nothing_turns setting start at cs found token e =
 
 -- ---- the stack are within the nesting
 
-pub done_nesting : (limits : Limits) (stack : List Frame) (at : ℕ) (settled : Settled) (found : Found) → settled ≡ SettledDone found → IsReadySettled limits stack at settled
+pub done_nesting : (limits : Limits) (stack : List Frame) (at : ℕ) (settled : Event) (found : Found) → settled ≡ IsGiven found → IsReadySettled limits stack at settled
     → length stack ≤ limits.nesting
 done_nesting limits stack at settled found e h =
-    let told : IsReadySettled limits stack at (SettledDone found) = subst (λ (s : Settled). IsReadySettled limits stack at s) e h in
+    let told : IsReadySettled limits stack at (IsGiven found) = subst (λ (s : Event). IsReadySettled limits stack at s) e h in
     told.1
 
 -- ---- where the outermost attempt came to something before a byte, no call is open

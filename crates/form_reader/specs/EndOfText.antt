@@ -7,8 +7,6 @@ use Rattle.lisp_reading.specs.declared.limits.Limits.{Limits}
 use Rattle.form_reader.specs.declared.state.Event.{Event}
 use Rattle.form_reader.specs.declared.state.Event.TheVariants.{Open as IsAt, Gives as IsGiven, Refused as IsRefused}
 use Rattle.form_reader.specs.declared.state.State.TheVariants.{Object as AtObject}
-use Rattle.form_reader.specs.declared.step.Settled.{Settled}
-use Rattle.form_reader.specs.declared.step.Settled.TheVariants.{Open as SettledOpen, Done as SettledDone, Refused as SettledRefused}
 use Rattle.lisp_reading.specs.Plans.{fault}
 use Rattle.form_reader.specs.Token.{token_read}
 
@@ -24,7 +22,7 @@ IsLastEvent at (IsGiven found) = Unit {0}
 IsLastEvent at (IsRefused number offset) = offset ≤ at
 
 -- no more is waited for
-abbrev pub IsLastSettled : ℕ → Settled → Type 0
-IsLastSettled at (SettledOpen state) = ⊥
-IsLastSettled at (SettledDone found) = Unit {0}
-IsLastSettled at (SettledRefused number offset) = offset ≤ at
+abbrev pub IsLastSettled : ℕ → Event → Type 0
+IsLastSettled at (IsAt state) = ⊥
+IsLastSettled at (IsGiven found) = Unit {0}
+IsLastSettled at (IsRefused number offset) = offset ≤ at

@@ -5,8 +5,8 @@ use Rattle.form_reader.specs.declared.stack.Frame.{Frame}
 use Rattle.lisp_reading.specs.declared.limits.Limits.{Limits}
 use Rattle.form_reader.specs.declared.state.State.{State}
 use Rattle.form_reader.specs.declared.state.State.TheVariants.{Object as AtObject, Token as AtToken}
-use Rattle.form_reader.specs.declared.step.Settled.{Settled}
-use Rattle.form_reader.specs.declared.step.Settled.TheVariants.{Open as SettledOpen, Done as SettledDone, Refused as SettledRefused}
+use Rattle.form_reader.specs.declared.state.Event.{Event}
+use Rattle.form_reader.specs.declared.state.Event.TheVariants.{Open as IsAt, Gives as IsGiven, Refused as IsRefused}
 use Rattle.form_reader.specs.declared.step.Change.{Change}
 use Rattle.form_reader.specs.declared.step.Change.TheVariants.{Goes, Form, Refused}
 use Rattle.lisp_reading.specs.Plans.{Read, fault}
@@ -31,10 +31,10 @@ abbrev pub rest_of : Setting → List Frame → State → ℕ → ℕ → List �
 rest_of setting stack state start at cs = outcome_of setting start (state_gives setting stack state at cs)
 
 -- what a byte brings, after the open calls took what was found
-abbrev pub Settles : Setting → List Frame → ℕ → List ℕ → Settled → Read Found → Type 0
-Settles setting stack at cs (SettledOpen state) read = read ≡ state_gives setting stack state at cs
-Settles setting stack at cs (SettledDone found) read = (read ≡ Ok (found, at, cs)) × (stack ≡ [])
-Settles setting stack at cs (SettledRefused number offset) read = read ≡ fault number offset
+abbrev pub Settles : Setting → List Frame → ℕ → List ℕ → Event → Read Found → Type 0
+Settles setting stack at cs (IsAt state) read = read ≡ state_gives setting stack state at cs
+Settles setting stack at cs (IsGiven found) read = (read ≡ Ok (found, at, cs)) × (stack ≡ [])
+Settles setting stack at cs (IsRefused number offset) read = read ≡ fault number offset
 
 -- What a change is to the outcome: more bytes decide it, or it is a form, or a refusal.
 abbrev pub ChangesTo : Setting → List Frame → List ℕ → Change → Outcome → Type 0
@@ -54,10 +54,10 @@ IsReadyChange limits stack count (Goes start at state) = IsStanding limits stack
 IsReadyChange limits stack count (Form x start «end» next) = (next ≤ count) × (count ≤ next + 1) × (length stack ≤ limits.nesting)
 IsReadyChange limits stack count (Refused number offset) = offset ≤ count
 
-abbrev pub IsReadySettled : Limits → List Frame → ℕ → Settled → Type 0
-IsReadySettled limits stack at (SettledOpen state) = IsStanding limits stack state at
-IsReadySettled limits stack at (SettledDone found) = (lookahead found ≡ 0) × (length stack ≤ limits.nesting)
-IsReadySettled limits stack at (SettledRefused number offset) = offset ≤ at
+abbrev pub IsReadySettled : Limits → List Frame → ℕ → Event → Type 0
+IsReadySettled limits stack at (IsAt state) = IsStanding limits stack state at
+IsReadySettled limits stack at (IsGiven found) = (lookahead found ≡ 0) × (length stack ≤ limits.nesting)
+IsReadySettled limits stack at (IsRefused number offset) = offset ≤ at
 
 -- what is open after it, or the object of the form, began at this offset or later
 abbrev pub BeginsFrom : ℕ → Change → Type 0

@@ -8,7 +8,7 @@ ghost use Rattle.form_reader.specs.declared.state.State.TheVariants.{Object as A
 ghost use Rattle.form_reader.specs.declared.reader.ReadOutcome.TheVariants.{Empty as IsEmpty};
 ghost use Rattle.lisp_reading.specs.declared.found.Found.TheVariants.{TheEnd as the_end};
 ghost use Rattle.form_reader.specs.declared.state.Event.TheVariants.{Open as IsAt};
-ghost use Rattle.form_reader.specs.declared.step.Settled.TheVariants.{Done as IsDone};
+ghost use Rattle.form_reader.specs.declared.state.Event.TheVariants.{Gives as IsDone};
 ghost use Rattle.form_reader.specs.State.{Brings, state_gives};
 ghost use Rattle.form_reader.specs.Step.{outcome_of, rest_of, Settles};
 ghost use Rattle.form_reader.specs.EndOfText.{TokenStops, IsLastEvent, IsLastSettled};
@@ -19,7 +19,6 @@ use crate::context::Context;
 use crate::reader::ReadOutcome;
 use crate::stack::Stack;
 use crate::state::{Event, State};
-use crate::step::Settled;
 use crate::token::{BegunScan, refusal_number, token_end};
 use crate::value::{Delivered, return_value};
 use lisp_object::refusal::{DOT_CONTEXT, END_OF_FILE};
@@ -132,7 +131,7 @@ fn last<R: MacroFunctions>(
 }
 
 /// The end of the text at `at`, where an object may begin.
-fn end_at_object(calls: usize, at: usize) -> Settled
+fn end_at_object(calls: usize, at: usize) -> Event
     ensures settles { (setting : Setting) (stack : List Frame) → calls ≡ length stack
         → at ≤ setting.limits.text
         → Settles setting stack at [] result (state_gives setting stack AtObject at []) }
@@ -140,9 +139,9 @@ fn end_at_object(calls: usize, at: usize) -> Settled
     ensures none { calls ≡ 0 → result ≡ IsDone the_end }
 {
     if calls == 0 {
-        return Settled::Done(Found::TheEnd);
+        return Event::Gives(Found::TheEnd);
     }
-    Settled::Refused(END_OF_FILE, at)
+    Event::Refused(END_OF_FILE, at)
 }
 
 /// What the outermost attempt comes to at the end of the text, which is at `at`.
@@ -151,7 +150,7 @@ fn settle_last<R: MacroFunctions>(
     stack: &mut Stack,
     state: State,
     at: usize,
-) -> Result<Settled, AllocError>
+) -> Result<Event, AllocError>
     requires answers { R.answers with.now.macros.now }
     requires within { at ≤ with.now.limits.text }
     ensures settles { let setting = setting R.functions with.now in
@@ -164,10 +163,10 @@ fn settle_last<R: MacroFunctions>(
         Event::Open(_) => Ok(end_at_object(stack.len(), at)),
         Event::Gives(found) => match return_value(with, stack, found, at)? {
             Delivered::Waits(_) => Ok(end_at_object(stack.len(), at)),
-            Delivered::Done(found) => Ok(Settled::Done(found)),
-            Delivered::Refused(code, offset) => Ok(Settled::Refused(code, offset)),
+            Delivered::Done(found) => Ok(Event::Gives(found)),
+            Delivered::Refused(code, offset) => Ok(Event::Refused(code, offset)),
         },
-        Event::Refused(code, offset) => Ok(Settled::Refused(code, offset)),
+        Event::Refused(code, offset) => Ok(Event::Refused(code, offset)),
     }
 }
 
@@ -213,9 +212,9 @@ pub(crate) fn last_outcome<R: MacroFunctions>(
     ensures between { stack.old ≡ [] → state ≡ AtObject → result ≡ Ok IsEmpty }
 {
     match settle_last(with, stack, state, at)? {
-        Settled::Open(_) => unreachable!(),
-        Settled::Done(found) => Ok(done_last(found, start, at)),
-        Settled::Refused(code, offset) => Ok(ReadOutcome::Refused {
+        Event::Open(_) => unreachable!(),
+        Event::Gives(found) => Ok(done_last(found, start, at)),
+        Event::Refused(code, offset) => Ok(ReadOutcome::Refused {
             code,
             at: start + offset,
         }),

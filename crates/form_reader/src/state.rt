@@ -25,12 +25,12 @@ pub enum State {
     Number(HeldCharacter, HeldNumber),
 }
 
-/// What a call or a byte brings.
+/// What a call or a byte brings, also after the open calls took what was found.
 #[derive(Drop)]
 pub enum Event {
     /// More bytes are gathered.
     Open(State),
-    /// The innermost attempt comes to this.
+    /// The attempt comes to this: the innermost, or the outermost after the open calls took what was found.
     Gives(Found),
     /// The number of a refusal, and its offset.
     Refused(u16, usize),

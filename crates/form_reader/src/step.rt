@@ -27,17 +27,6 @@ use user_macros::MacroFunctions;
 pub(crate) mod in_place;
 pub(crate) mod object;
 
-/// What a byte brings, after the open calls took what was found.
-#[derive(Drop)]
-pub enum Settled {
-    /// More bytes are gathered.
-    Open(State),
-    /// The outermost attempt comes to this.
-    Done(Found),
-    /// The number of a refusal, and its offset.
-    Refused(u16, usize),
-}
-
 /// What a byte is to the text.
 #[derive(Drop)]
 pub enum Change {
@@ -84,7 +73,7 @@ fn settle<R: MacroFunctions>(
     stack: &mut Stack,
     event: Event,
     at: usize,
-) -> Result<Settled, AllocError>
+) -> Result<Event, AllocError>
     requires answers { R.answers with.now.macros.now }
     requires nesting { length stack.old ≤ with.now.limits.nesting }
     requires ready { IsReady with.now.limits at event }
@@ -94,13 +83,13 @@ fn settle<R: MacroFunctions>(
     ensures ready { IfOk result (IsReadySettled with.now.limits stack.new at) }
 {
     match event {
-        Event::Open(state) => Ok(Settled::Open(state)),
+        Event::Open(state) => Ok(Event::Open(state)),
         Event::Gives(found) => match return_value(with, stack, found, at)? {
-            Delivered::Waits(_) => Ok(Settled::Open(State::Object)),
-            Delivered::Done(found) => Ok(Settled::Done(found)),
-            Delivered::Refused(code, offset) => Ok(Settled::Refused(code, offset)),
+            Delivered::Waits(_) => Ok(Event::Open(State::Object)),
+            Delivered::Done(found) => Ok(Event::Gives(found)),
+            Delivered::Refused(code, offset) => Ok(Event::Refused(code, offset)),
         },
-        Event::Refused(code, offset) => Ok(Settled::Refused(code, offset)),
+        Event::Refused(code, offset) => Ok(Event::Refused(code, offset)),
     }
 }
 
@@ -147,9 +136,9 @@ fn change_of<R: MacroFunctions>(
     ensures starts { IfOk result (StartsAt start) }
 {
     match settle(with, stack, event, at)? {
-        Settled::Open(state) => Ok(Change::Goes(start, at, state)),
-        Settled::Done(found) => Ok(done_after(found, start, at)),
-        Settled::Refused(code, offset) => Ok(Change::Refused(code, start + offset)),
+        Event::Open(state) => Ok(Change::Goes(start, at, state)),
+        Event::Gives(found) => Ok(done_after(found, start, at)),
+        Event::Refused(code, offset) => Ok(Change::Refused(code, start + offset)),
     }
 }
 
