@@ -15,11 +15,11 @@ use Rattle.std.specs.declared.alloc.AllocError.{AllocError}
 use Rattle.lisp_reading.specs.declared.limits.Limits.{Limits}
 use Rattle.form_reader.specs.declared.state.Event.{Event}
 use Rattle.form_reader.specs.declared.state.Event.TheVariants.{Open as IsAt, Gives as IsGiven, Refused as IsRefused}
-use Rattle.form_reader.specs.declared.value.Received.{Received}
-use Rattle.form_reader.specs.declared.value.Received.TheVariants.{Stays, Gives, Refused}
+use Rattle.form_reader.specs.declared.value.Return.{Return}
+use Rattle.form_reader.specs.declared.value.Return.TheVariants.{Waits, Gives as ReturnGives, Refused as ReturnRefused}
 use Rattle.lisp_reading.specs.declared.found.Found.{Found}
 use Rattle.form_reader.specs.State.{space, lookahead, IsReady, IsEnd, Brings}
-use Rattle.form_reader.specs.Value.{IsReceivedAt}
+use Rattle.form_reader.specs.Value.{IsReturnAt}
 use Rattle.lisp_object.specs.declared.refusal.TheConstants.{DOT_CONTEXT}
 use Rattle.std_macros.specs.Values.{Material, many, dotted}
 use Rattle.form_reader.specs.declared.call.CallValue.{CallValue}
@@ -83,15 +83,15 @@ or_space false false = omega arith
 
 -- ---- what one open call makes of it
 
-module _ (less most at : ℕ) (received : Received) where
-  pub stays_within : (token : Bool) → received ≡ Stays token → IsReceivedAt less at received → less ≤ most → space token ≤ most
-  stays_within token e h le = let here : space token ≤ less = subst (λ (t : Received). IsReceivedAt less at t) e h in omega (arith, here, le)
+module _ (less most at : ℕ) (received : Return) where
+  pub stays_within : (token : Bool) → received ≡ Waits token → IsReturnAt less at received → less ≤ most → space token ≤ most
+  stays_within token e h le = let here : space token ≤ less = subst (λ (t : Return). IsReturnAt less at t) e h in omega (arith, here, le)
 
-  pub gives_within : (found : Found) → received ≡ Gives found → IsReceivedAt less at received → less ≤ most → lookahead found ≤ most
-  gives_within found e h le = let here : lookahead found ≤ less = subst (λ (t : Received). IsReceivedAt less at t) e h in omega (arith, here, le)
+  pub gives_within : (found : Found) → received ≡ ReturnGives found → IsReturnAt less at received → less ≤ most → lookahead found ≤ most
+  gives_within found e h le = let here : lookahead found ≤ less = subst (λ (t : Return). IsReturnAt less at t) e h in omega (arith, here, le)
 
-  pub refused_within : (code offset : ℕ) → received ≡ Refused code offset → IsReceivedAt less at received → offset ≤ at
-  refused_within code offset e h = subst (λ (t : Received). IsReceivedAt less at t) e h
+  pub refused_within : (code offset : ℕ) → received ≡ ReturnRefused code offset → IsReturnAt less at received → offset ≤ at
+  refused_within code offset e h = subst (λ (t : Return). IsReturnAt less at t) e h
 
 module _ (setting : Setting) (stack : List Frame) (call : InvokedCall) (at : ℕ) (cs : List ℕ) where
   abbrev pub closing : Part → Read Found

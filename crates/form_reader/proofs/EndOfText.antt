@@ -11,8 +11,8 @@ use Rattle.form_reader.specs.declared.stack.Frame.{Frame}
 use Rattle.lisp_reading.specs.declared.limits.Limits.{Limits}
 use Rattle.form_reader.specs.declared.state.Event.{Event}
 use Rattle.lisp_reading.specs.declared.way.Keep.{Keep}
-use Rattle.form_reader.specs.declared.value.Delivered.{Delivered}
-use Rattle.form_reader.specs.declared.value.Delivered.TheVariants.{Waits}
+use Rattle.form_reader.specs.declared.value.Return.{Return}
+use Rattle.form_reader.specs.declared.value.Return.TheVariants.{Waits}
 use Rattle.form_reader.specs.declared.reader.ReadOutcome.{ReadOutcome}
 use Rattle.form_reader.specs.declared.state.Event.TheVariants.{Gives as IsGiven}
 use Rattle.form_reader.specs.declared.state.State.{State}
@@ -148,14 +148,14 @@ module _ (setting : Setting) (stack : List Frame) (at : ℕ) where
       → IfOk result (λ event. Brings setting stack at [] event (state_gives setting stack state at []))
   state_last state known result e h = subst (λ (s : State). IfOk result (λ event. Brings setting stack at [] event (state_gives setting stack s at []))) (sym e) h
 
-  pub waits_last : (before : List Frame) (found : Found) (event : Event) (delivered : Delivered) (token : Bool) (settled : Event) (read : Read Found) → event ≡ IsGiven found
+  pub waits_last : (before : List Frame) (found : Found) (event : Event) (delivered : Return) (token : Bool) (settled : Event) (read : Read Found) → event ≡ IsGiven found
       → Brings setting before at [] event read → delivered ≡ Waits token
       → Delivers setting stack at [] delivered (run setting.table setting.limits (outer_plan setting before (gives found)) at [])
       → Settles setting stack at [] settled (run setting.table setting.limits (between setting stack) at []) → Settles setting stack at [] settled read
   waits_last before found event delivered token settled read e brings d delivers settles =
       let given_is : read ≡ run setting.table setting.limits (outer_plan setting before (gives found)) at [] = subst (λ (v : Event). Brings setting before at [] v read) e brings in
       let waiting : run setting.table setting.limits (outer_plan setting before (gives found)) at [] ≡ run setting.table setting.limits (without_space setting.table token (between setting stack)) at []
-      = subst (λ (v : Delivered). Delivers setting stack at [] v (run setting.table setting.limits (outer_plan setting before (gives found)) at [])) d delivers in
+      = subst (λ (v : Return). Delivers setting stack at [] v (run setting.table setting.limits (outer_plan setting before (gives found)) at [])) d delivers in
       subst (λ (r : Read Found). Settles setting stack at [] settled r) (sym (given_is ∙ waiting ∙ no_space setting stack at token)) settles
 
   pub done_ends : (start : ℕ) (settled : Event) (found : Found) (read : Read Found) (outcome : ReadOutcome) → settled ≡ IsGiven found → Settles setting stack at [] settled read

@@ -5,10 +5,8 @@ use Rattle.lisp_object.specs.Object.{Object}
 use Rattle.lisp_object.specs.declared.refusal.TheConstants.{DOT_CONTEXT, END_OF_FILE}
 use Rattle.std_macros.specs.Values.{one as one_object}
 use Rattle.form_reader.specs.declared.call.CallValue.{CallValue}
-use Rattle.form_reader.specs.declared.value.Delivered.{Delivered}
-use Rattle.form_reader.specs.declared.value.Delivered.TheVariants.{Done}
-use Rattle.form_reader.specs.declared.value.Received.{Received}
-use Rattle.form_reader.specs.declared.value.Received.TheVariants.{Stays, Gives as ReceivedGives, Refused as ReceivedRefused}
+use Rattle.form_reader.specs.declared.value.Return.{Return}
+use Rattle.form_reader.specs.declared.value.Return.TheVariants.{Gives as ReturnGives, Waits, Refused as ReturnRefused}
 use Rattle.lisp_reading.specs.declared.found.Found.{Found}
 use Rattle.lisp_reading.specs.declared.found.Found.TheVariants.{Nothing as nothing, One as one, LoneDot as lone_dot, TheEnd as the_end}
 use Rattle.form_reader.specs.declared.stack.Frame.{Frame}
@@ -236,7 +234,7 @@ module _ (setting : Setting) (at : ℕ) (cs : List ℕ) where
       by (Some new) n = let never : Some (calls new) ≡ None = sym (ap (option_map calls) n) ∙ e in cc
 
   -- it waited for its one object
-  pub next_comes : (old stack : List Frame) (call : InvokedCall) (token : Bool) (x y : Object) (depth : ℕ) (done : CallValue) (received : Received) → old ≡ record { call = call; part = InNext } ∷ stack
+  pub next_comes : (old stack : List Frame) (call : InvokedCall) (token : Bool) (x y : Object) (depth : ℕ) (done : CallValue) (received : Return) → old ≡ record { call = call; part = InNext } ∷ stack
       → depth ≡ length stack → y ≡ x → completed setting depth call token token (one_object y) ≡ plan_of done
       → Takes setting stack at cs received (run setting.table setting.limits (outer_plan setting stack (plan_of done)) at cs)
       → Takes setting stack at cs received (found_in old (one token x))
@@ -247,7 +245,7 @@ module _ (setting : Setting) (at : ℕ) (cs : List ℕ) where
       ((λ i. completed setting (sym open_calls i) call token token (one_object (sym same i))) ∙ comes) in
       subst (λ (r : Read Found). Takes setting stack at cs received r) (sym whole) takes
 
-  pub found_dot : (stack after : List Frame) (found : Found) (received : Received) → found ≡ lone_dot → Takes setting after at cs received (found_in stack lone_dot)
+  pub found_dot : (stack after : List Frame) (found : Found) (received : Return) → found ≡ lone_dot → Takes setting after at cs received (found_in stack lone_dot)
       → Takes setting after at cs received (found_in stack found)
   found_dot stack after found received e takes = subst (λ (f : Found). Takes setting after at cs received (found_in stack f)) (sym e) takes
 
@@ -263,14 +261,14 @@ as_many (f ∷ fs) after found e = by (with_found f.part found) refl
     by None n = let never : None ≡ Some after = sym (ap (option_map calls) n) ∙ e in cc
     by (Some new) n = ap length (sym (some_same (calls new) after (sym (ap (option_map calls) n) ∙ e)))
 
-pub stays_open : (stack after : List Frame) (found : Found) (token : Bool) → calls_with stack found ≡ Some after → Shortens stack after (Stays token)
+pub stays_open : (stack after : List Frame) (found : Found) (token : Bool) → calls_with stack found ≡ Some after → Shortens stack after (Waits token)
 stays_open stack after found token e = let many : length after ≡ length stack = as_many stack after found e in omega (arith, many)
 
 -- the innermost ended
-pub fewer_open : (stack after : List Frame) (received : Received) → length after < length stack → Shortens stack after received
-fewer_open stack after (Stays token) less = omega (arith, less)
-fewer_open stack after (ReceivedGives found) less = less
-fewer_open stack after (ReceivedRefused code offset) less = omega (arith, less)
+pub fewer_open : (stack after : List Frame) (received : Return) → length after < length stack → Shortens stack after received
+fewer_open stack after (Waits token) less = omega (arith, less)
+fewer_open stack after (ReturnGives found) less = less
+fewer_open stack after (ReturnRefused code offset) less = omega (arith, less)
 
 -- ---- call after call
 
@@ -282,9 +280,9 @@ none_left setting old stack x found at cs before none =
     before cs ∙ ap (λ (fs : List Frame). run setting.table setting.limits (outer_plan setting fs (gives found)) at cs) none
 
 -- the outermost attempt came to this
-pub done_told : (setting : Setting) (stack : List Frame) (at : ℕ) (cs : List ℕ) (read : Read Found) (delivered : Delivered) (found : Found) → delivered ≡ Done found
+pub done_told : (setting : Setting) (stack : List Frame) (at : ℕ) (cs : List ℕ) (read : Read Found) (delivered : Return) (found : Found) → delivered ≡ ReturnGives found
     → Delivers setting stack at cs delivered read → (read ≡ Ok (found, at, cs)) × (stack ≡ [])
-done_told setting stack at cs read delivered found e h = subst (λ (d : Delivered). Delivers setting stack at cs d read) e h
+done_told setting stack at cs read delivered found e h = subst (λ (d : Return). Delivers setting stack at cs d read) e h
 
 -- what was found before the byte is passed on
 pub before_passes : (setting : Setting) (after last : List Frame) (at c : ℕ) (cs : List ℕ) (moved : Moved) (event : Event) (found : Found) (read : Read Found) (result : Result Passed AllocError)

@@ -20,7 +20,7 @@ use crate::reader::ReadOutcome;
 use crate::stack::Stack;
 use crate::state::{Event, State};
 use crate::token::{BegunScan, refusal_number, token_end};
-use crate::value::{Delivered, return_value};
+use crate::value::{Return, return_value};
 use lisp_object::refusal::{DOT_CONTEXT, END_OF_FILE};
 use lisp_reading::{Found, HeldText, Invoked, Limits};
 use std::alloc::AllocError;
@@ -162,9 +162,9 @@ fn settle_last<R: MacroFunctions>(
     match last(with, stack.len(), state, at)? {
         Event::Open(_) => Ok(end_at_object(stack.len(), at)),
         Event::Gives(found) => match return_value(with, stack, found, at)? {
-            Delivered::Waits(_) => Ok(end_at_object(stack.len(), at)),
-            Delivered::Done(found) => Ok(Event::Gives(found)),
-            Delivered::Refused(code, offset) => Ok(Event::Refused(code, offset)),
+            Return::Waits(_) => Ok(end_at_object(stack.len(), at)),
+            Return::Gives(found) => Ok(Event::Gives(found)),
+            Return::Refused(code, offset) => Ok(Event::Refused(code, offset)),
         },
         Event::Refused(code, offset) => Ok(Event::Refused(code, offset)),
     }

@@ -18,7 +18,7 @@ use crate::state::{Event, Moved, State};
 use crate::step::in_place::is_discarded;
 use crate::step::object::{Passed, after_found, at_object, is_blank};
 use crate::token::{in_call_token, in_token};
-use crate::value::{Delivered, return_value};
+use crate::value::{Return, return_value};
 use lisp_object::refusal::DOT_CONTEXT;
 use lisp_reading::{Found, HeldObject};
 use std::alloc::AllocError;
@@ -85,9 +85,9 @@ fn settle<R: MacroFunctions>(
     match event {
         Event::Open(state) => Ok(Event::Open(state)),
         Event::Gives(found) => match return_value(with, stack, found, at)? {
-            Delivered::Waits(_) => Ok(Event::Open(State::Object)),
-            Delivered::Done(found) => Ok(Event::Gives(found)),
-            Delivered::Refused(code, offset) => Ok(Event::Refused(code, offset)),
+            Return::Waits(_) => Ok(Event::Open(State::Object)),
+            Return::Gives(found) => Ok(Event::Gives(found)),
+            Return::Refused(code, offset) => Ok(Event::Refused(code, offset)),
         },
         Event::Refused(code, offset) => Ok(Event::Refused(code, offset)),
     }

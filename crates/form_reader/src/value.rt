@@ -7,7 +7,7 @@ ghost use Rattle.form_reader.specs.Call.{plan_of, value_lookahead};
 ghost use Rattle.lisp_reading.specs.Setting.{Setting};
 ghost use Rattle.form_reader.specs.Context.{setting};
 ghost use Rattle.form_reader.specs.Stack.{plan_gives};
-ghost use Rattle.form_reader.specs.Value.{Takes, Shortens, Delivers, IsReceivedAt, IsDeliveredAt};
+ghost use Rattle.form_reader.specs.Value.{Takes, Shortens, Delivers, IsReturnAt};
 ghost use Rattle.form_reader.specs.State.{space, lookahead};
 
 use crate::call::{CallValue, call_value};
@@ -19,24 +19,13 @@ use std::alloc::AllocError;
 use std_macros::StdGathered;
 use user_macros::MacroFunctions;
 
-/// What the innermost open call makes of what is found in it.
+/// What the innermost open call makes of a value that is found in it, or all open calls.
 #[derive(Drop)]
-pub enum Received {
-    /// It goes on as this call, after one whitespace character where there is one and a token ended.
-    Stays(bool),
-    /// It ends, and comes to this.
-    Gives(Found),
-    /// The number of a refusal, and its offset.
-    Refused(u16, usize),
-}
-
-/// What all open calls make of what is found in the innermost.
-#[derive(Drop)]
-pub enum Delivered {
+pub enum Return {
     /// More is read where an object may begin, after one whitespace character where there is one and a token ended.
     Waits(bool),
-    /// The outermost attempt comes to this.
-    Done(Found),
+    /// The innermost ends, or the outermost attempt, and comes to this.
+    Gives(Found),
     /// The number of a refusal, and its offset.
     Refused(u16, usize),
 }
@@ -47,21 +36,21 @@ fn take<R: MacroFunctions>(
     stack: &mut Stack,
     found: Found,
     at: usize,
-) -> Result<Received, AllocError>
+) -> Result<Return, AllocError>
     requires answers { R.answers with.now.macros.now }
     requires within { at ≤ with.now.limits.text }
     requires open { 0 < length stack.old }
     ensures takes { let setting = setting R.functions with.now in
         (cs : List ℕ) → IfOk result (λ received. Takes setting stack.new at cs received
         (plan_gives setting stack.old (gives found) at cs)) }
-    ensures leaves { IfOk result (IsReceivedAt (lookahead found) at) }
+    ensures leaves { IfOk result (IsReturnAt (lookahead found) at) }
     ensures shorter { IfOk result (Shortens stack.old stack.new) }
 {
     match found {
-        Found::Nothing(token) => Ok(Received::Stays(token)),
+        Found::Nothing(token) => Ok(Return::Waits(token)),
         Found::One(token, x) => take_one(with, stack, token, x, at),
         Found::LoneDot => Ok(take_dot(stack, at)),
-        Found::TheEnd => Ok(Received::Refused(END_OF_FILE, at)),
+        Found::TheEnd => Ok(Return::Refused(END_OF_FILE, at)),
     }
 }
 
@@ -72,14 +61,14 @@ fn take_one<R: MacroFunctions>(
     token: bool,
     x: HeldObject,
     at: usize,
-) -> Result<Received, AllocError>
+) -> Result<Return, AllocError>
     requires answers { R.answers with.now.macros.now }
     requires within { at ≤ with.now.limits.text }
     requires open { 0 < length stack.old }
     ensures takes { let setting = setting R.functions with.now in
         (cs : List ℕ) → IfOk result (λ received. Takes setting stack.new at cs received
         (plan_gives setting stack.old (gives (one token x)) at cs)) }
-    ensures leaves { IfOk result (IsReceivedAt (space token) at) }
+    ensures leaves { IfOk result (IsReturnAt (space token) at) }
     ensures shorter { IfOk result (Shortens stack.old stack.new) }
 {
     match stack.pop_waiting() {
@@ -90,40 +79,40 @@ fn take_one<R: MacroFunctions>(
         }
         None => {
             if stack.take_object(x)? {
-                Ok(Received::Stays(token))
+                Ok(Return::Waits(token))
             } else {
-                Ok(Received::Refused(DOT_CONTEXT, at))
+                Ok(Return::Refused(DOT_CONTEXT, at))
             }
         }
     }
 }
 
 /// What the innermost open call makes of a dot.
-fn take_dot(stack: &mut Stack, at: usize) -> Received
+fn take_dot(stack: &mut Stack, at: usize) -> Return
     requires open { 0 < length stack.old }
     ensures takes { (setting : Setting) (cs : List ℕ) → at ≤ setting.limits.text
         → Takes setting stack.new at cs result
         (plan_gives setting stack.old (gives lone_dot) at cs) }
-    ensures leaves { IsReceivedAt 1 at result }
+    ensures leaves { IsReturnAt 1 at result }
     ensures shorter { Shortens stack.old stack.new result }
 {
     if stack.take_dot() {
-        Received::Stays(false)
+        Return::Waits(false)
     } else {
-        Received::Refused(DOT_CONTEXT, at)
+        Return::Refused(DOT_CONTEXT, at)
     }
 }
 
 /// What an open call that ends at `at` comes to.
-fn return_of(completed: CallValue, at: usize) -> Received
+fn return_of(completed: CallValue, at: usize) -> Return
     ensures takes { (setting : Setting) (stack : List Frame) (cs : List ℕ)
         → Takes setting stack at cs result
         (plan_gives setting stack (plan_of completed) at cs) }
-    ensures leaves { IsReceivedAt (value_lookahead completed) at result }
+    ensures leaves { IsReturnAt (value_lookahead completed) at result }
 {
     match completed {
-        CallValue::Gives(found) => Received::Gives(found),
-        CallValue::Refused(code, back) => Received::Refused(code, at.saturating_sub(back)),
+        CallValue::Gives(found) => Return::Gives(found),
+        CallValue::Refused(code, back) => Return::Refused(code, at.saturating_sub(back)),
     }
 }
 
@@ -133,22 +122,22 @@ pub(crate) fn return_value<R: MacroFunctions>(
     stack: &mut Stack,
     found: Found,
     at: usize,
-) -> Result<Delivered, AllocError>
+) -> Result<Return, AllocError>
     requires answers { R.answers with.now.macros.now }
     requires within { at ≤ with.now.limits.text }
     ensures delivers { let setting = setting R.functions with.now in
         (cs : List ℕ) → IfOk result (λ delivered. Delivers setting stack.new at cs delivered
         (plan_gives setting stack.old (gives found) at cs)) }
     ensures shorter { IfOk result (λ delivered. length stack.new ≤ length stack.old) }
-    ensures leaves { IfOk result (IsDeliveredAt (lookahead found) at) }
+    ensures leaves { IfOk result (IsReturnAt (lookahead found) at) }
 {
     let mut found = found;
     'calls: while stack.len() > 0 {
         match take(with, stack, found, at)? {
-            Received::Stays(token) => return Ok(Delivered::Waits(token)),
-            Received::Gives(next) => found = next,
-            Received::Refused(code, offset) => return Ok(Delivered::Refused(code, offset)),
+            Return::Waits(token) => return Ok(Return::Waits(token)),
+            Return::Gives(next) => found = next,
+            Return::Refused(code, offset) => return Ok(Return::Refused(code, offset)),
         }
     }
-    Ok(Delivered::Done(found))
+    Ok(Return::Gives(found))
 }

@@ -15,7 +15,7 @@ use crate::dispatch::begin_macro;
 use crate::stack::Stack;
 use crate::state::{Event, State};
 use crate::token::begin_token;
-use crate::value::{Delivered, return_value};
+use crate::value::{Return, return_value};
 use lisp_object::refusal::{FORM_TOO_LONG, INVALID_CHARACTER};
 use lisp_reading::Found;
 use readtable_core::Syntax;
@@ -125,15 +125,15 @@ pub(crate) fn after_found<R: MacroFunctions>(
     ensures nesting { IfOk result (λ _. length stack.new ≤ with.now.limits.nesting) }
 {
     match return_value(with, stack, found, at)? {
-        Delivered::Waits(token) => {
+        Return::Waits(token) => {
             if token {
                 Ok(Passed::Brings(after_token(with, stack, at, c)?))
             } else {
                 Ok(Passed::Brings(at_object(with, stack, at, c)?))
             }
         }
-        Delivered::Done(found) => Ok(Passed::Done(found)),
-        Delivered::Refused(code, offset) => Ok(Passed::Brings(Event::Refused(code, offset))),
+        Return::Gives(found) => Ok(Passed::Done(found)),
+        Return::Refused(code, offset) => Ok(Passed::Brings(Event::Refused(code, offset))),
     }
 }
 
