@@ -16,7 +16,7 @@ use Rattle.form_reader.specs.declared.value.Return.TheVariants.{Waits}
 use Rattle.form_reader.specs.declared.reader.ReadOutcome.{ReadOutcome}
 use Rattle.form_reader.specs.declared.state.Event.TheVariants.{Gives as IsGiven}
 use Rattle.form_reader.specs.declared.state.State.{State}
-use Rattle.form_reader.specs.Value.{Delivers}
+use Rattle.form_reader.specs.Value.{Returns}
 use Rattle.form_reader.specs.Reader.{IsOutcome}
 use Rattle.lisp_reading.specs.Plans.{Plan, gives, then_plan, next_byte, loop, Read, fault, run, stands_below}
 use Rattle.lisp_reading.specs.Setting.{Setting}
@@ -27,7 +27,7 @@ use Rattle.form_reader.specs.Stack.{attempt_in, next_item_in, call_in, close_of,
 use Rattle.form_reader.specs.State.{inner_at, state_gives, Brings}
 use Rattle.form_reader.specs.EndOfText.{TokenStops}
 use Rattle.form_reader.specs.Step.{outcome_of, Settles}
-use Rattle.form_reader.proofs.Values.{delivered}
+use Rattle.form_reader.proofs.Values.{returned}
 use Rattle.lisp_reading.proofs.Forms.{reads_is, the_end_there}
 use Rattle.lisp_reading.proofs.Steps.{and_then, run_then}
 use Rattle.lisp_reading.proofs.Turns.{loop_is, text_guarded, line_guarded, block_guarded, number_guarded, attempt_ends, next_item_at_end}
@@ -148,14 +148,14 @@ module _ (setting : Setting) (stack : List Frame) (at : ℕ) where
       → IfOk result (λ event. Brings setting stack at [] event (state_gives setting stack state at []))
   state_last state known result e h = subst (λ (s : State). IfOk result (λ event. Brings setting stack at [] event (state_gives setting stack s at []))) (sym e) h
 
-  pub waits_last : (before : List Frame) (found : Found) (event : Event) (delivered : Return) (token : Bool) (settled : Event) (read : Read Found) → event ≡ IsGiven found
-      → Brings setting before at [] event read → delivered ≡ Waits token
-      → Delivers setting stack at [] delivered (run setting.table setting.limits (outer_plan setting before (gives found)) at [])
+  pub waits_last : (before : List Frame) (found : Found) (event : Event) (returned : Return) (token : Bool) (settled : Event) (read : Read Found) → event ≡ IsGiven found
+      → Brings setting before at [] event read → returned ≡ Waits token
+      → Returns setting stack at [] returned (run setting.table setting.limits (outer_plan setting before (gives found)) at [])
       → Settles setting stack at [] settled (run setting.table setting.limits (between setting stack) at []) → Settles setting stack at [] settled read
-  waits_last before found event delivered token settled read e brings d delivers settles =
+  waits_last before found event returned token settled read e brings d delivers settles =
       let given_is : read ≡ run setting.table setting.limits (outer_plan setting before (gives found)) at [] = subst (λ (v : Event). Brings setting before at [] v read) e brings in
       let waiting : run setting.table setting.limits (outer_plan setting before (gives found)) at [] ≡ run setting.table setting.limits (without_space setting.table token (between setting stack)) at []
-      = subst (λ (v : Return). Delivers setting stack at [] v (run setting.table setting.limits (outer_plan setting before (gives found)) at [])) d delivers in
+      = subst (λ (v : Return). Returns setting stack at [] v (run setting.table setting.limits (outer_plan setting before (gives found)) at [])) d delivers in
       subst (λ (r : Read Found). Settles setting stack at [] settled r) (sym (given_is ∙ waiting ∙ no_space setting stack at token)) settles
 
   pub done_ends : (start : ℕ) (settled : Event) (found : Found) (read : Read Found) (outcome : ReadOutcome) → settled ≡ IsGiven found → Settles setting stack at [] settled read

@@ -17,7 +17,7 @@ use Rattle.lisp_reading.specs.Calls.{InvokedCall}
 use Rattle.lisp_reading.specs.Setting.{Setting}
 use Rattle.lisp_reading.specs.Reading.{next_item, without_space, items_after, undotted, after_tail, list_end, completed}
 use Rattle.form_reader.specs.Call.{plan_of}
-use Rattle.form_reader.specs.Value.{Takes, Shortens, Delivers}
+use Rattle.form_reader.specs.Value.{Takes, Shortens, Returns}
 use Rattle.form_reader.specs.Stack.{attempt_in, next_item_in, call_in, outer_plan, between, next_item_gives, with_object, with_dot, with_found, calls_with, is_next, is_waiting, plan_gives}
 use Rattle.form_reader.proofs.Stacks.{space_given, list_is, until_is}
 use Rattle.lisp_reading.proofs.Turns.{space_same}
@@ -43,66 +43,66 @@ space_moves setting token p q at cs h same =
     space_same setting.table setting.limits token p q at cs h (λ at2 cs2 from le. same at2 cs2 le)
 
 module _ (setting : Setting) (stack : List Frame) (call : InvokedCall) (at : ℕ) (cs : List ℕ) where
-  abbrev pub delivered : Part → Found → Read Found
-  delivered part found = run setting.table setting.limits (outer_plan setting (framed_by call part ∷ stack) (gives found)) at cs
+  abbrev pub returned : Part → Found → Read Found
+  returned part found = run setting.table setting.limits (outer_plan setting (framed_by call part ∷ stack) (gives found)) at cs
 
   abbrev waiting : Bool → Part → Read Found
   waiting token part = run setting.table setting.limits (without_space setting.table token (between setting (framed_by call part ∷ stack))) at cs
 
   -- only discarded text
-  pub nothing_stays : (token : Bool) (part : Part) → delivered part (nothing token) ≡ waiting token part
+  pub nothing_stays : (token : Bool) (part : Part) → returned part (nothing token) ≡ waiting token part
   unfolding outer_plan then_plan
   nothing_stays token part =
       space_given setting stack token (next_item_in setting (framed_by call part) stack) (λ p. call_in setting (framed_by call part) stack p) at cs
 
   -- the end of the input
-  pub end_fails : (part : Part) → delivered part the_end ≡ fault END_OF_FILE at
+  pub end_fails : (part : Part) → returned part the_end ≡ fault END_OF_FILE at
   unfolding outer_plan then_plan
   end_fails part =
       given_refused setting stack at cs END_OF_FILE 0 ∙ (let e : at - 0 ≡ at = omega arith in ap (λ (n : ℕ). fault END_OF_FILE n) e)
 
-  dot_fails : (part : Part) → outer_plan setting (framed_by call part ∷ stack) (gives lone_dot) ≡ outer_plan setting stack (refuses DOT_CONTEXT 0) → delivered part lone_dot ≡ fault DOT_CONTEXT at
+  dot_fails : (part : Part) → outer_plan setting (framed_by call part ∷ stack) (gives lone_dot) ≡ outer_plan setting stack (refuses DOT_CONTEXT 0) → returned part lone_dot ≡ fault DOT_CONTEXT at
   dot_fails part e =
       ap (λ (p : Plan Found). run setting.table setting.limits p at cs) e ∙ given_refused setting stack at cs DOT_CONTEXT 0
       ∙ (let e : at - 0 ≡ at = omega arith in ap (λ (n : ℕ). fault DOT_CONTEXT n) e)
 
-  pub dot_in_next : delivered InNext lone_dot ≡ fault DOT_CONTEXT at
+  pub dot_in_next : returned InNext lone_dot ≡ fault DOT_CONTEXT at
   unfolding outer_plan then_plan
   dot_in_next = dot_fails InNext refl
 
-  pub dot_in_until : (close : ℕ) (xs : List Object) → delivered (InUntil close xs) lone_dot ≡ fault DOT_CONTEXT at
+  pub dot_in_until : (close : ℕ) (xs : List Object) → returned (InUntil close xs) lone_dot ≡ fault DOT_CONTEXT at
   unfolding outer_plan then_plan
   dot_in_until close xs = dot_fails (InUntil close xs) refl
 
-  pub dot_in_dotted : (xs : List Object) → delivered (InDotted xs) lone_dot ≡ fault DOT_CONTEXT at
+  pub dot_in_dotted : (xs : List Object) → returned (InDotted xs) lone_dot ≡ fault DOT_CONTEXT at
   unfolding outer_plan then_plan
   dot_in_dotted xs = dot_fails (InDotted xs) refl
 
-  pub dot_in_tailed : (xs : List Object) (tail : Object) → delivered (InTailed xs tail) lone_dot ≡ fault DOT_CONTEXT at
+  pub dot_in_tailed : (xs : List Object) (tail : Object) → returned (InTailed xs tail) lone_dot ≡ fault DOT_CONTEXT at
   unfolding outer_plan then_plan
   dot_in_tailed xs tail = dot_fails (InTailed xs tail) refl
 
-  pub dot_in_empty : delivered (InList []) lone_dot ≡ fault DOT_CONTEXT at
+  pub dot_in_empty : returned (InList []) lone_dot ≡ fault DOT_CONTEXT at
   unfolding outer_plan then_plan
   dot_in_empty = dot_fails (InList []) refl
 
-  pub dot_in_list : (xs : List Object) → 0 < length xs → delivered (InList xs) lone_dot ≡ waiting false (InDotted xs)
+  pub dot_in_list : (xs : List Object) → 0 < length xs → returned (InList xs) lone_dot ≡ waiting false (InDotted xs)
   unfolding outer_plan then_plan
   dot_in_list [] some = absurd (omega (arith, some))
   dot_in_list (x ∷ xs) some = refl
 
   -- an object
   pub one_in_next : (token : Bool) (x : Object)
-      → delivered InNext (one token x) ≡ run setting.table setting.limits (outer_plan setting stack (completed setting (length stack) call token token (one_object x))) at cs
+      → returned InNext (one token x) ≡ run setting.table setting.limits (outer_plan setting stack (completed setting (length stack) call token token (one_object x))) at cs
   unfolding outer_plan then_plan
   one_in_next token x = refl
 
-  pub one_in_tailed : (token : Bool) (xs : List Object) (tail x : Object) → delivered (InTailed xs tail) (one token x) ≡ fault DOT_CONTEXT at
+  pub one_in_tailed : (token : Bool) (xs : List Object) (tail x : Object) → returned (InTailed xs tail) (one token x) ≡ fault DOT_CONTEXT at
   unfolding outer_plan then_plan
   one_in_tailed token xs tail x =
       given_refused setting stack at cs DOT_CONTEXT 0 ∙ (let e : at - 0 ≡ at = omega arith in ap (λ (n : ℕ). fault DOT_CONTEXT n) e)
 
-  pub one_in_dotted : (token : Bool) (xs : List Object) (x : Object) → delivered (InDotted xs) (one token x) ≡ waiting token (InTailed xs x)
+  pub one_in_dotted : (token : Bool) (xs : List Object) (x : Object) → returned (InDotted xs) (one token x) ≡ waiting token (InTailed xs x)
   unfolding outer_plan then_plan
   one_in_dotted true xs x =
       space_given setting stack true (next_item setting (Some 41) (attempt_in setting stack))
@@ -112,7 +112,7 @@ module _ (setting : Setting) (stack : List Frame) (call : InvokedCall) (at : ℕ
       (after_tail (λ m. completed setting (length stack) call false false m) xs x) at cs
 
   pub one_in_list : (token : Bool) (xs ys : List Object) (x : Object) → at ≤ setting.limits.text → ys ≡ xs ++ x ∷ []
-      → delivered (InList xs) (one token x) ≡ waiting token (InList ys)
+      → returned (InList xs) (one token x) ≡ waiting token (InList ys)
   unfolding outer_plan then_plan
   one_in_list token xs ys x h e =
       space_given setting stack token (items_after setting 41 (attempt_in setting stack) (xs ++ x ∷ []))
@@ -122,7 +122,7 @@ module _ (setting : Setting) (stack : List Frame) (call : InvokedCall) (at : ℕ
       ∙ ap (λ (ys : List Object). waiting token (InList ys)) (sym e)
 
   pub one_in_until : (token : Bool) (close : ℕ) (xs ys : List Object) (x : Object) → at ≤ setting.limits.text → ys ≡ xs ++ x ∷ []
-      → delivered (InUntil close xs) (one token x) ≡ waiting token (InUntil close ys)
+      → returned (InUntil close xs) (one token x) ≡ waiting token (InUntil close ys)
   unfolding outer_plan then_plan
   one_in_until token close xs ys x h e =
       space_given setting stack token (items_after setting close (attempt_in setting stack) (xs ++ x ∷ []))
@@ -133,7 +133,7 @@ module _ (setting : Setting) (stack : List Frame) (call : InvokedCall) (at : ℕ
 
   -- ---- what the call makes of it
 
-  pub object_taken : (token : Bool) (x : Object) (part new : Part) → at ≤ setting.limits.text → with_object part x ≡ Some new → delivered part (one token x) ≡ waiting token new
+  pub object_taken : (token : Bool) (x : Object) (part new : Part) → at ≤ setting.limits.text → with_object part x ≡ Some new → returned part (one token x) ≡ waiting token new
   object_taken token x InNext new h e = cc
   object_taken token x (InList xs) new h e =
       one_in_list token xs (xs ++ x ∷ []) x h refl ∙ (let same : InList (xs ++ x ∷ []) ≡ new = cc in ap (waiting token) same)
@@ -142,14 +142,14 @@ module _ (setting : Setting) (stack : List Frame) (call : InvokedCall) (at : ℕ
   object_taken token x (InDotted xs) new h e = one_in_dotted token xs x ∙ (let same : InTailed xs x ≡ new = cc in ap (waiting token) same)
   object_taken token x (InTailed xs tail) new h e = cc
 
-  pub object_refused : (token : Bool) (x : Object) (part : Part) → with_object part x ≡ None → is_next part ≡ false → delivered part (one token x) ≡ fault DOT_CONTEXT at
+  pub object_refused : (token : Bool) (x : Object) (part : Part) → with_object part x ≡ None → is_next part ≡ false → returned part (one token x) ≡ fault DOT_CONTEXT at
   object_refused token x InNext e other = cc
   object_refused token x (InList xs) e other = cc
   object_refused token x (InUntil close xs) e other = cc
   object_refused token x (InDotted xs) e other = cc
   object_refused token x (InTailed xs tail) e other = one_in_tailed token xs tail x
 
-  pub dot_taken : (part new : Part) → with_dot part ≡ Some new → delivered part lone_dot ≡ waiting false new
+  pub dot_taken : (part new : Part) → with_dot part ≡ Some new → returned part lone_dot ≡ waiting false new
   dot_taken InNext new e = cc
   dot_taken (InList []) new e = cc
   dot_taken (InList (x ∷ xs)) new e = dot_in_list (x ∷ xs) (omega arith) ∙ (let same : InDotted (x ∷ xs) ≡ new = cc in ap (waiting false) same)
@@ -157,7 +157,7 @@ module _ (setting : Setting) (stack : List Frame) (call : InvokedCall) (at : ℕ
   dot_taken (InDotted xs) new e = cc
   dot_taken (InTailed xs tail) new e = cc
 
-  pub dot_refused : (part : Part) → with_dot part ≡ None → delivered part lone_dot ≡ fault DOT_CONTEXT at
+  pub dot_refused : (part : Part) → with_dot part ≡ None → returned part lone_dot ≡ fault DOT_CONTEXT at
   dot_refused InNext e = dot_in_next
   dot_refused (InList []) e = dot_in_empty
   dot_refused (InList (x ∷ xs)) e = cc
@@ -280,9 +280,9 @@ none_left setting old stack x found at cs before none =
     before cs ∙ ap (λ (fs : List Frame). run setting.table setting.limits (outer_plan setting fs (gives found)) at cs) none
 
 -- the outermost attempt came to this
-pub done_told : (setting : Setting) (stack : List Frame) (at : ℕ) (cs : List ℕ) (read : Read Found) (delivered : Return) (found : Found) → delivered ≡ ReturnGives found
-    → Delivers setting stack at cs delivered read → (read ≡ Ok (found, at, cs)) × (stack ≡ [])
-done_told setting stack at cs read delivered found e h = subst (λ (d : Return). Delivers setting stack at cs d read) e h
+pub done_told : (setting : Setting) (stack : List Frame) (at : ℕ) (cs : List ℕ) (read : Read Found) (returned : Return) (found : Found) → returned ≡ ReturnGives found
+    → Returns setting stack at cs returned read → (read ≡ Ok (found, at, cs)) × (stack ≡ [])
+done_told setting stack at cs read returned found e h = subst (λ (d : Return). Returns setting stack at cs d read) e h
 
 -- what was found before the byte is passed on
 pub before_passes : (setting : Setting) (after last : List Frame) (at c : ℕ) (cs : List ℕ) (moved : Moved) (event : Event) (found : Found) (read : Read Found) (result : Result Passed AllocError)

@@ -23,10 +23,10 @@ Shortens stack after (ReturnGives found) = length after < length stack
 Shortens stack after (ReturnRefused number offset) = length after ≤ length stack
 
 -- What all open calls make of it.
-abbrev pub Delivers : Setting → List Frame → ℕ → List ℕ → Return → Read Found → Type 0
-Delivers setting stack at cs (Waits token) read = read ≡ next_item_gives setting token stack at cs
-Delivers setting stack at cs (ReturnGives found) read = (read ≡ Ok (found, at, cs)) × (stack ≡ [])
-Delivers setting stack at cs (ReturnRefused number offset) read = read ≡ fault number offset
+abbrev pub Returns : Setting → List Frame → ℕ → List ℕ → Return → Read Found → Type 0
+Returns setting stack at cs (Waits token) read = read ≡ next_item_gives setting token stack at cs
+Returns setting stack at cs (ReturnGives found) read = (read ≡ Ok (found, at, cs)) × (stack ≡ [])
+Returns setting stack at cs (ReturnRefused number offset) read = read ≡ fault number offset
 
 -- What open calls make of what is found at this offset: no more of the text matters to it.
 abbrev pub IsReturnAt : ℕ → ℕ → Return → Type 0

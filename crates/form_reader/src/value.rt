@@ -7,7 +7,7 @@ ghost use Rattle.form_reader.specs.Call.{plan_of, value_lookahead};
 ghost use Rattle.lisp_reading.specs.Setting.{Setting};
 ghost use Rattle.form_reader.specs.Context.{setting};
 ghost use Rattle.form_reader.specs.Stack.{plan_gives};
-ghost use Rattle.form_reader.specs.Value.{Takes, Shortens, Delivers, IsReturnAt};
+ghost use Rattle.form_reader.specs.Value.{Takes, Shortens, Returns, IsReturnAt};
 ghost use Rattle.form_reader.specs.State.{space, lookahead};
 
 use crate::call::{CallValue, call_value};
@@ -125,10 +125,10 @@ pub(crate) fn return_value<R: MacroFunctions>(
 ) -> Result<Return, AllocError>
     requires answers { R.answers with.now.macros.now }
     requires within { at ≤ with.now.limits.text }
-    ensures delivers { let setting = setting R.functions with.now in
-        (cs : List ℕ) → IfOk result (λ delivered. Delivers setting stack.new at cs delivered
+    ensures value { let setting = setting R.functions with.now in
+        (cs : List ℕ) → IfOk result (λ returned. Returns setting stack.new at cs returned
         (plan_gives setting stack.old (gives found) at cs)) }
-    ensures shorter { IfOk result (λ delivered. length stack.new ≤ length stack.old) }
+    ensures shorter { IfOk result (λ returned. length stack.new ≤ length stack.old) }
     ensures leaves { IfOk result (IsReturnAt (lookahead found) at) }
 {
     let mut found = found;
