@@ -45,7 +45,7 @@ pub nothing_turns : (setting : Setting) (start at : ℕ) (cs : List ℕ) (found 
 nothing_turns setting start at cs found token e =
     ap (λ (f : Found). outcome_of setting start (Ok (f, at, cs))) e ∙ reads_is setting (start + at) cs
 
--- ---- the stack are within the nesting
+-- ---- the open calls are within the nesting
 
 pub done_nesting : (limits : Limits) (stack : List Frame) (at : ℕ) (settled : Event) (found : Found) → settled ≡ IsGiven found → IsReadySettled limits stack at settled
     → length stack ≤ limits.nesting

@@ -26,7 +26,7 @@ use Rattle.lisp_reading.specs.declared.found.Found.TheVariants.{Nothing as nothi
 abbrev pub outcome_of : Setting → ℕ → Read Found → Outcome
 outcome_of setting start read = outcome setting.table start (λ next cs. reads_at setting next cs) read
 
--- the same, where the attempt is at this state, so many bytes after it began, and these bytes follow
+-- the same, where the attempt is in this state, so many bytes after it began, and these bytes follow
 abbrev pub rest_of : Setting → List Frame → State → ℕ → ℕ → List ℕ → Outcome
 rest_of setting stack state start at cs = outcome_of setting start (state_gives setting stack state at cs)
 

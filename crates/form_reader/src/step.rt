@@ -235,7 +235,7 @@ pub(crate) fn take_byte<R: MacroFunctions>(
     }
 }
 
-/// The byte `c` at `at`, where the reader is at `state` in its innermost call.
+/// The byte `c` at `at`, where the reader is in `state` in its innermost call.
 #[inline(always)]
 pub(crate) fn advance<R: MacroFunctions>(
     with: &Context<'_, R>,

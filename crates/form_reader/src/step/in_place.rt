@@ -27,7 +27,7 @@ pub enum InPlace {
     Refused(u16),
 }
 
-/// The byte `c` at `at`, where the reader is at `state`: it is taken there if it begins a token or goes on one, or is whitespace
+/// The byte `c` at `at`, where the reader is in `state`: it is taken there if it begins a token or goes on one, or is whitespace
 /// that is discarded.
 #[inline(always)]
 pub(crate) fn in_place<R: MacroFunctions>(
