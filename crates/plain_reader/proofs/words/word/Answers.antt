@@ -35,16 +35,16 @@ pub symbol-requires-in-Ok-New-clause-name : goal.symbol-requires-in-Ok-New-claus
 symbol-requires-in-Ok-New-clause-name c =
     subst (λ bs. list_all is_ascii bs ≡ true) (sym c.in_ok-name.ensures) (upper_ascii c.args.bytes.now c.requires.ascii)
 
-pub returns-in_ok-symbol-in-Ok-Found : goal.returns-in_ok-symbol-in-Ok-Found
-returns-in_ok-symbol-in-Ok-Found c =
+pub returns-in_ok-symbol-in-Ok-Found-clause-token : goal.returns-in_ok-symbol-in-Ok-Found-clause-token
+returns-in_ok-symbol-in-Ok-Found-clause-token c =
     word_token c.args.with.now c.args.bytes.now c.in_ok-name.name (found_at c.in-Ok-Found.home.now) c.in_ok-symbol-in-Ok-Found.field-0
     c.requires.standard c.requires.word c.in_ok-name.ensures
-    (ap (resolution c.args.with.now.packages.now.0 c.args.with.now.current.now) (sym c.as_slice.ensures) ∙ found_is (goal.at.returns-in_ok-symbol-in-Ok-Found c).In-Ok-Found)
+    (ap (resolution c.args.with.now.packages.now.0 c.args.with.now.current.now) (sym c.as_slice.ensures) ∙ found_is (goal.at.returns-in_ok-symbol-in-Ok-Found-clause-token c).In-Ok-Found)
     c.in_ok-symbol-in-Ok-Found.ensures
 
-pub returns-in_ok-symbol-in-Ok-New : goal.returns-in_ok-symbol-in-Ok-New
-returns-in_ok-symbol-in-Ok-New c =
+pub returns-in_ok-symbol-in-Ok-New-clause-token : goal.returns-in_ok-symbol-in-Ok-New-clause-token
+returns-in_ok-symbol-in-Ok-New-clause-token c =
     word_token c.args.with.now c.args.bytes.now c.in_ok-name.name (new_in c.in-Ok-New.home.now) c.in_ok-symbol-in-Ok-New.field-0
     c.requires.standard c.requires.word c.in_ok-name.ensures
-    (ap (resolution c.args.with.now.packages.now.0 c.args.with.now.current.now) (sym c.as_slice.ensures) ∙ new_is (goal.at.returns-in_ok-symbol-in-Ok-New c).In-Ok-New)
+    (ap (resolution c.args.with.now.packages.now.0 c.args.with.now.current.now) (sym c.as_slice.ensures) ∙ new_is (goal.at.returns-in_ok-symbol-in-Ok-New-clause-token c).In-Ok-New)
     c.in_ok-symbol-in-Ok-New.ensures
