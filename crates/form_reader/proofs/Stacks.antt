@@ -172,13 +172,13 @@ reverse_push xs x = reverse_onto xs [] x
 pub last_takes : (items : List Frame) (n : ℕ) (frame : Frame) (part : Part) (found : Found) (now : List Frame) → length items ≡ n → 0 < n → frame ≡ slice_index_or items (n - 1) frame
     → reverse items ≡ now → with_found frame.part found ≡ Some part
     → calls_with now found ≡ Some (reverse (slice_set items (n - 1) (record { call = frame.call; part = part })))
-last_takes items n frame part found now is_length some newest view takes =
+last_takes items n frame part found now is_length some newest view given =
     let new : Frame = record { call = frame.call; part = part } in
     let last : IsLast items (n - 1) frame =
     subst (λ (k : ℕ). IsLast items (k - 1) frame) is_length
     (at_last items frame (subst (λ (k : ℕ). 0 < k) (sym is_length) some) (newest ∙ ap (λ (k : ℕ). slice_index_or items (k - 1) frame) (sym is_length))) in
     ap (λ (fs : List Frame). calls_with fs found) (sym view ∙ ap reverse last.1 ∙ reverse_push last.0 frame)
-    ∙ ap (option_map (λ (p : Part). record { call = frame.call; part = p } ∷ reverse last.0)) takes
+    ∙ ap (option_map (λ (p : Part). record { call = frame.call; part = p } ∷ reverse last.0)) given
     ∙ ap (λ (fs : List Frame). Some fs) (sym (ap reverse (last.2 new) ∙ reverse_push last.0 new))
 
 -- the same where it may run out of memory
