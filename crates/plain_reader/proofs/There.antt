@@ -2,11 +2,12 @@
 --     symbol_there, found_there      a symbol that is present in its home, and one that a name stands for
 --     list_there, headed_there      lists of such objects, and quoted ones
 --     more_there      one more such object
-use Rattle.std.proofs.Common.{◌≡◌, Bool, true, false, cond, Option, None, Some, Result, Ok, Err, List, [], ◌∷◌, ◌++◌, codes, bytes_eq, refl, sym, ap, ◌∙◌}
+--     still_same, still_list, still_more      after a call that changes nothing, after one that closes a list, after two calls
+use Rattle.std.proofs.Common.{◌≡◌, Bool, true, false, cond, Option, None, Some, Result, Ok, Err, IfOk, IfSome, List, [], ◌∷◌, ◌++◌, codes, bytes_eq, refl, sym, ap, ◌∙◌}
 use Rattle.std.specs.Prelude.{◌&&◌}
 use Rattle.std.specs.List.{list_all}
 use Rattle.std.specs.Option.{option_map, option_map_or}
-use Rattle.std.proofs.lemmas.Bool.{false≢true, and_parts}
+use Rattle.std.proofs.lemmas.Bool.{and_parts}
 use Rattle.std.proofs.lemmas.List.Folds.{list_all-append}
 use Rattle.lisp_object.specs.Object.{Object, symbol, pair, list_of}
 use Rattle.package_table.specs.declared.error.PackageError.{PackageError}
@@ -20,7 +21,11 @@ use Rattle.package_table.proofs.FirstNames.{lisp_present, nil_present}
 use Rattle.package_table.proofs.Frames.{equal_itself}
 use Rattle.package_table.proofs.Names.{same_some, none_some}
 use Rattle.package_table.proofs.Keeping.{present_at_home}
+use Rattle.std.specs.declared.alloc.AllocError.{AllocError}
 use Rattle.std_macros.specs.Values.{headed}
+use Rattle.plain_reader.specs.declared.context.Context.{Context}
+use Rattle.plain_reader.specs.declared.objects.Taken.{Taken}
+use Rattle.plain_reader.specs.Plain.{AreThere, AllAreThere, IfStill}
 
 -- both of two tests
 both : (a b : Bool) → a ≡ true → b ≡ true → (a && b) ≡ true
@@ -36,7 +41,7 @@ pub symbol_there : (t : Table) (h n : Name) → IsPresent t h n h → are_there 
 symbol_there t h n there = both (is_symbol t h n) true (test_of (entry_at t h n) h there) refl
 
 -- the home of what was found
-home_found : Result Resolution PackageError → Option Name
+abbrev home_found : Result Resolution PackageError → Option Name
 home_found (Ok (found_at h)) = Some h
 home_found (Ok (new_in p)) = None
 home_found (Err e) = None
@@ -74,3 +79,21 @@ headed_there t x sound there =
 
 pub more_there : (t : Table) (xs : List Object) (x : Object) → list_all (are_there t) xs ≡ true → are_there t x ≡ true → list_all (are_there t) (xs ++ x ∷ []) ≡ true
 more_there t xs x all there = list_all-append (are_there t) xs (x ∷ []) ∙ both (list_all (are_there t) xs) (are_there t x && true) all (both (are_there t x) true there refl)
+
+pub still_same : (with : Context) (known : Bool) (result : Result (Option Taken) AllocError) → IfOk result (λ found. IfSome found (λ t. AreThere with t.object))
+    → IfOk result (λ found. IfStill known known (IfSome found (λ t. AreThere with t.object)))
+still_same with known (Err e) there = tt
+still_same with known (Ok found) there = λ e. (e, there)
+
+pub still_list : (with : Context) (xs : List Object) (before after : Bool) (result : Result (Option Taken) AllocError)
+    → IfOk result (λ found. IfSome found (λ t. AllAreThere with xs → AreThere with t.object)) → IfStill before after (AllAreThere with xs)
+    → IfOk result (λ found. IfStill before after (IfSome found (λ t. AreThere with t.object)))
+still_list with xs before after (Err e) there still = tt
+still_list with xs before after (Ok None) there still = λ e. ((still e).0, tt)
+still_list with xs before after (Ok (Some t)) there still = λ e. ((still e).0, there (still e).1)
+
+pub still_more : {a b c : Bool} {P Q : Type 0} → IfStill a b P → IfStill b c (P → Q) → IfStill a c Q
+still_more first then known =
+    let later = then known in
+    let before = first later.0 in
+    (before.0, later.1 before.1)

@@ -1,5 +1,5 @@
 -- What reading a plain form comes to.
-use Rattle.std.specs.Prelude.{ℕ, ◌≡◌, ◌<◌, Bool, List, [], true, false, length}
+use Rattle.std.specs.Prelude.{ℕ, ◌≡◌, ◌<◌, Bool, List, true, false, length}
 use Rattle.std.specs.List.{list_all}
 use Rattle.lisp_object.specs.Object.{Object, list_of}
 use Rattle.package_table.specs.Symbols.{are_there}
