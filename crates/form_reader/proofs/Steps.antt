@@ -15,7 +15,7 @@ use Rattle.std.specs.declared.alloc.AllocError.{AllocError}
 use Rattle.form_reader.specs.declared.step.object.Passed.{Passed}
 use Rattle.form_reader.specs.declared.step.object.Passed.TheVariants.{Done as PassedDone}
 use Rattle.form_reader.specs.Step.{Passes, verdict_of, Settles, ChangesTo, IsReadySettled, FeedsInPlace, is_space, StartsAt, StartsWith, StartsAfter, EndsBefore, Starts}
-use Rattle.form_reader.specs.Stack.{between, close_of_stack, is_closed_by, outer_plan}
+use Rattle.form_reader.specs.Stack.{close_of_stack, is_closed_by, outer_plan}
 use Rattle.lisp_reading.specs.Reading.{Outcome, is_blank, is_whitespace, stands_alone}
 use Rattle.lisp_reading.proofs.Forms.{reads_is}
 use Rattle.lisp_reading.proofs.Deciding.{decided_is}
