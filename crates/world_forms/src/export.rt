@@ -58,7 +58,7 @@ fn push_current(forms: &mut Vec<u8>, world: &World, content: Content) -> Result<
         forms.extend_from_slice(b" (SETF *READ-BASE* ")?;
         push_decimal(forms, world.read_base())?;
         forms.extend_from_slice(b") (IN-READTABLE ")?;
-        push_value(forms, (b"", b""), KEYWORD, world.current_readtable())?;
+        push_value(forms, b"", b"", KEYWORD, world.current_readtable())?;
         forms.push(b')')?;
     }
     forms.extend_from_slice(b")")

@@ -14,7 +14,7 @@ use user_macros::{Macros, NoFunctions};
 
 /// Adds what evaluates to a symbol: its token after a quote.
 fn push_quoted(text: &mut Vec<u8>, home: &[u8], name: &[u8]) -> Result<(), AllocError> {
-    push_value(text, (b"'", b""), home, name)
+    push_value(text, b"'", b"", home, name)
 }
 
 /// The form that sets a property.

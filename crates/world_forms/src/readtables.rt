@@ -26,14 +26,13 @@ impl Forms<'_> {
     fn push_character(&self, text: &mut Vec<u8>, character: u8) -> Result<(), AllocError>
         requires { character < 128 }
     {
-        text.push(b' ')?;
         push_character(self.alloc, text, self.packages, character)
     }
 
     /// The readtable as an argument.
     fn push_table_name(&self, text: &mut Vec<u8>) -> Result<(), AllocError> {
         text.push(b' ')?;
-        push_value(text, (b"", b""), KEYWORD, self.name)
+        push_value(text, b"", b"", KEYWORD, self.name)
     }
 
     fn push_end(&self, text: &mut Vec<u8>) -> Result<(), AllocError> {
