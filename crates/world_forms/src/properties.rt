@@ -145,7 +145,9 @@ fn push_listed(
 {
     for index in 0..properties.len() {
         let property = properties.at(index);
-        push_property(alloc, text, left_out, packages, readtable, symbol, &property)?;
+        push_property(
+            alloc, text, left_out, packages, readtable, symbol, &property,
+        )?;
     }
     Ok(())
 }
@@ -168,7 +170,15 @@ fn push_plist(
 {
     let (home, name) = symbol;
     let properties = world.plist_of(home, name);
-    push_listed(alloc, text, left_out, world.packages(), readtable, symbol, &properties)
+    push_listed(
+        alloc,
+        text,
+        left_out,
+        world.packages(),
+        readtable,
+        symbol,
+        &properties,
+    )
 }
 
 fn push_plists(
