@@ -47,7 +47,8 @@ pub fn all_forms(alloc: Global, world: &World, content: Content) -> Result<Expor
 /// The forms of all of a world.
 #[tactic(auto, unfolding(crate::specs::Forms::forms))]
 fn world_forms(alloc: Global, world: &World) -> Result<Export, AllocError>
-    ensures forms { IfOk result (λ exported. exported.forms.items ≡ forms world.now.0 Content.World) }
+    ensures forms { IfOk result
+        (λ exported. exported.forms.items ≡ forms world.now.0 Content.World) }
     ensures left_out { IfOk result (λ exported. exported.left_out.items ≡ left_out world.now.0) }
 {
     let mut forms = Vec::new(alloc);
@@ -64,7 +65,8 @@ fn world_forms(alloc: Global, world: &World) -> Result<Export, AllocError>
 /// Those of its packages and properties.
 #[tactic(auto, unfolding(crate::specs::Forms::forms))]
 fn data_forms(alloc: Global, world: &World) -> Result<Export, AllocError>
-    ensures forms { IfOk result (λ exported. exported.forms.items ≡ forms world.now.0 Content.Data) }
+    ensures forms { IfOk result
+        (λ exported. exported.forms.items ≡ forms world.now.0 Content.Data) }
     ensures left_out { IfOk result (λ exported. exported.left_out.items ≡ left_out world.now.0) }
 {
     let mut forms = Vec::new(alloc);

@@ -33,7 +33,8 @@ fn is_first(name: &[u8]) -> bool
 
 /// A form of an operator and texts.
 fn push_form(text: &mut Vec<u8>, operator: &[u8], texts: &[&[u8]]) -> Result<(), AllocError>
-    ensures { OnOk result (Writes text.old text.new (line (call_text operator.now (names_of texts.now)))) }
+    ensures { OnOk result (Writes text.old text.new
+        (line (call_text operator.now (names_of texts.now)))) }
 {
     push_call(text, operator, texts)?;
     text.push(b'\n')?;
@@ -49,7 +50,8 @@ fn push_change(
     name: &[u8],
     owner: &[u8],
 ) -> Result<(), AllocError>
-    ensures { OnOk result (Writes text.old text.new (change_line operator.now home.now name.now owner.now)) }
+    ensures { OnOk result (Writes text.old text.new
+        (change_line operator.now home.now name.now owner.now)) }
 {
     text.push(b'(')?;
     text.extend_from_slice(operator)?;
@@ -95,7 +97,8 @@ fn push_own_names(
     names: &[&[u8]],
 ) -> Result<(), AllocError>
     requires { first.now.0 ≡ initial_packages }
-    ensures { OnOk result (Writes text.old text.new (flat_map (own_line owner.now) (names_of names.now))) }
+    ensures { OnOk result (Writes text.old text.new
+        (flat_map (own_line owner.now) (names_of names.now))) }
 {
     for name in names {
         push_own_name(text, first, owner, name)?;
@@ -124,7 +127,8 @@ fn push_imports(
     owner: &[u8],
     imports: &[(Bytes, Bytes)],
 ) -> Result<(), AllocError>
-    ensures { OnOk result (Writes text.old text.new (flat_map (import_line owner.now) imports.now)) }
+    ensures { OnOk result (Writes text.old text.new
+        (flat_map (import_line owner.now) imports.now)) }
 {
     for import in imports {
         let (name, home) = import;
@@ -134,7 +138,8 @@ fn push_imports(
 }
 
 fn push_exports(text: &mut Vec<u8>, owner: &[u8], names: &[&[u8]]) -> Result<(), AllocError>
-    ensures { OnOk result (Writes text.old text.new (flat_map (export_line owner.now) (names_of names.now))) }
+    ensures { OnOk result (Writes text.old text.new
+        (flat_map (export_line owner.now) (names_of names.now))) }
 {
     for name in names {
         push_change(text, b"EXPORT", owner, name, owner)?;
@@ -210,7 +215,8 @@ fn push_each_own(
     packages: &Packages,
     owners: &[&[u8]],
 ) -> Result<(), AllocError>
-    ensures { OnOk result (Writes text.old text.new (flat_map (own_lines packages.now.0) (names_of owners.now))) }
+    ensures { OnOk result (Writes text.old text.new
+        (flat_map (own_lines packages.now.0) (names_of owners.now))) }
 {
     let first = Packages::new(alloc)?;
     for owner in owners {
@@ -225,7 +231,8 @@ fn push_each_shown(
     packages: &Packages,
     owners: &[&[u8]],
 ) -> Result<(), AllocError>
-    ensures { OnOk result (Writes text.old text.new (flat_map (shown_lines packages.now.0) (names_of owners.now))) }
+    ensures { OnOk result (Writes text.old text.new
+        (flat_map (shown_lines packages.now.0) (names_of owners.now))) }
 {
     for owner in owners {
         push_shown(alloc, text, packages, owner)?;
@@ -239,7 +246,8 @@ fn push_each_use(
     packages: &Packages,
     owners: &[&[u8]],
 ) -> Result<(), AllocError>
-    ensures { OnOk result (Writes text.old text.new (flat_map (use_lines packages.now.0) (names_of owners.now))) }
+    ensures { OnOk result (Writes text.old text.new
+        (flat_map (use_lines packages.now.0) (names_of owners.now))) }
 {
     for owner in owners {
         push_uses(alloc, text, packages, owner)?;

@@ -152,7 +152,8 @@ pub(crate) fn push_value(
     home: &[u8],
     name: &[u8],
 ) -> Result<(), AllocError>
-    ensures { OnOk result (Writes text.old text.new (value_text before.now after.now home.now name.now)) }
+    ensures { OnOk result (Writes text.old text.new
+        (value_text before.now after.now home.now name.now)) }
 {
     if is_too_long(home, name) {
         return push_call(text, b"INTERN", &[name, home]);
