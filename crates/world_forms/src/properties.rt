@@ -3,12 +3,13 @@ ghost use Rattle.std.specs.Prelude.{◌≡◌, ◌++◌, true, codes, IfOk, OnOk
 ghost use Rattle.std.specs.List.{flat_map};
 ghost use Rattle.lisp_object.specs.Datum.{object_of, is_proper};
 ghost use Rattle.readtable_core.specs.Tables.{standard};
-ghost use Rattle.plist_state.specs.Changes.{plist};
+ghost use Rattle.lisp_reading.specs.Reading.{Outcome, reads};
+ghost use Rattle.form_reader.specs.Reader.{IsOutcome};
 ghost use Rattle.plist_state.specs.Readers.{borrowed_symbol, borrowed_symbols};
 ghost use Rattle.plist_state.specs.Shown.{property_of};
 ghost use Rattle.canon_printer.specs.Written.{Writes};
 ghost use Rattle.world_forms.specs.Tokens.{line, symbol_text, quoted_text};
-ghost use Rattle.world_forms.specs.Properties.{property_form, is_form, property_line, left_out_line, plist_lines, plist_left_out, property_lines, left_out};
+ghost use Rattle.world_forms.specs.Properties.{form_setting, ends_at, property_form, is_form, property_line, left_out_line, plist_lines, plist_left_out, property_lines, left_out};
 
 use crate::texts::{push_symbol, push_value};
 use canon_printer::print;
@@ -53,16 +54,16 @@ fn form_of(
     Ok(form)
 }
 
-/// Whether a text is read whole, as one form. What is too long or too deep for a form is not.
-#[tactic(auto, using(crate::proofs::Settings::unnamed), unfolding(crate::specs::Properties::is_form))]
-fn is_form(
+/// What a text begins with, read as the forms are.
+#[tactic(auto, using(crate::proofs::Settings::read_so))]
+fn read_form(
     alloc: Global,
     readtable: &Readtable,
     packages: &Packages,
     text: &[u8],
-) -> Result<bool, AllocError>
+) -> Result<ReadOutcome, AllocError>
     requires { readtable.now ≡ standard }
-    ensures { IfOk result (λ is. is ≡ is_form packages.now.0 text.now) }
+    ensures { IfOk result (λ read. IsOutcome read (reads (form_setting packages.now.0) text.now)) }
 {
     packages.soundness();
     let macros = Macros::new(alloc, NoFunctions);
@@ -76,10 +77,32 @@ fn is_form(
         &macros,
         text,
     )?;
+    Ok(read)
+}
+
+/// Whether it is a form that ends at this place.
+fn ends_at(read: &ReadOutcome, len: usize) -> bool
+    ensures { (outcome : Outcome) → IsOutcome read.now outcome → result ≡ ends_at outcome len }
+{
     match read {
-        ReadOutcome::Form { end, .. } => Ok(end == text.len()),
-        ReadOutcome::Empty | ReadOutcome::Refused { .. } => Ok(false),
+        ReadOutcome::Form { end, .. } => *end == len,
+        ReadOutcome::Empty | ReadOutcome::Refused { .. } => false,
     }
+}
+
+/// Whether a text is read whole, as one form. What is too long or too deep for a form is not.
+#[tactic(auto, unfolding(crate::specs::Properties::is_form))]
+fn is_form(
+    alloc: Global,
+    readtable: &Readtable,
+    packages: &Packages,
+    text: &[u8],
+) -> Result<bool, AllocError>
+    requires { readtable.now ≡ standard }
+    ensures { IfOk result (λ is. is ≡ is_form packages.now.0 text.now) }
+{
+    let read = read_form(alloc, readtable, packages, text)?;
+    Ok(ends_at(&read, text.len()))
 }
 
 /// Adds the line of a property that no form can set: the symbol and its indicator.
