@@ -18,7 +18,7 @@ unnamed limits table base packages current functions none =
     ap (λ names. setting_of limits table base packages current (record { names = names; way = functions.way; answer = functions.answer })) none
 
 -- what was read with such functions was read as the forms are
-pub read_so : (read : ReadOutcome) (limits : Limits) (table : Table) (packages : Packages) (functions : Functions) (text : List ℕ)
+pub read_so : (read : _) (limits : Limits) (table : Table) (packages : Packages) (functions : Functions) (text : List ℕ)
     → limits ≡ record { text = 1048576; token = 4096; nesting = 100 } → table ≡ standard → functions.names ≡ []
     → IsOutcome read (reads (setting_of limits table 10 packages common_lisp_user functions) text)
     → IsOutcome read (reads (form_setting packages) text)
