@@ -10,7 +10,7 @@ use Rattle.canon_printer.specs.Written.{printed_text}
 use Rattle.world_forms.specs.Tokens.{line, call_text, value_text}
 
 -- a package that is there from the first
-abbrev pub is_first : Name → Bool
+unfoldable pub is_first : Name → Bool
 is_first p = bytes_eq p common_lisp || (bytes_eq p common_lisp_user || bytes_eq p keyword)
 
 -- the form that makes a package, if it is not there from the first

@@ -25,6 +25,7 @@ fn listed<T>(list: Result<T, PackageError>) -> Result<T, AllocError>
 }
 
 /// Whether a package is there from the first.
+#[tactic(auto, unfolding(crate::specs::Packages::is_first))]
 fn is_first(name: &[u8]) -> bool
     ensures { result ≡ is_first name.now }
 {
