@@ -10,7 +10,7 @@ use Rattle.prevalence_store.specs.declared.outcome.Outcome.TheVariants.{Accepted
 use Rattle.user_macros.specs.Functions.{Functions}
 use Rattle.world_forms.specs.declared.export.Content.{Content}
 use Rattle.world_forms.specs.Forms.{forms}
-use Rattle.world_forms.specs.Properties.{left_out}
+use Rattle.world_forms.specs.Properties.{left_out_lines}
 use Rattle.lisp_object.specs.declared.refusal.TheConstants.{NO_MEMORY}
 use Rattle.std.specs.Option.{IfSome}
 use Rattle.store_commands.specs.Commands.{TaskBreaksOff, is_of_opening}
@@ -84,7 +84,7 @@ module _ (functions : Functions) {D R : Type 0} (state : D → State) (old new :
 
 module _ (held written : Option (List ℕ)) (world : WorldState) (content : Content) (lines : List ℕ) where
   abbrev Tells : Status → Type 0
-  Tells status = TellsForms status held written (forms world content) (left_out world) lines
+  Tells status = TellsForms status held written (forms world content) (left_out_lines world) lines
 
   pub forms_taken : (status : Status) → Tells status → TakesWords status
   forms_taken LeftOut told = tt
@@ -122,12 +122,12 @@ module _ (held written : Option (List ℕ)) (world : WorldState) (content : Cont
 
 -- the forms of the world of an open store, and that none were written
 module _ (content : Content) (world : WorldState) (of : Option WorldState) (is : Some world ≡ of) (held : Option (List ℕ)) where
-  pub forms_of_world : (written : Option (List ℕ)) (status : Status) (text lines : List ℕ) → text ≡ forms world content → lines ≡ left_out world
-      → TellsForms status held written text lines lines → IfSome of (λ w. TellsForms status held written (forms w content) (left_out w) lines)
+  pub forms_of_world : (written : Option (List ℕ)) (status : Status) (text lines : List ℕ) → text ≡ forms world content → lines ≡ left_out_lines world
+      → TellsForms status held written text lines lines → IfSome of (λ w. TellsForms status held written (forms w content) (left_out_lines w) lines)
   forms_of_world written status text lines same_forms same_lines told =
-      subst (λ (o : Option WorldState). IfSome o (λ w. TellsForms status held written (forms w content) (left_out w) lines)) is
+      subst (λ (o : Option WorldState). IfSome o (λ w. TellsForms status held written (forms w content) (left_out_lines w) lines)) is
       (subst (λ (l : List ℕ). TellsForms status held written (forms world content) l lines) same_lines
       (subst (λ (t : List ℕ). TellsForms status held written t lines lines) same_forms told))
 
-  pub no_forms : (lines : List ℕ) → IfSome of (λ w. TellsForms (Fault NO_MEMORY) held held (forms w content) (left_out w) lines)
-  no_forms lines = subst (λ (o : Option WorldState). IfSome o (λ w. TellsForms (Fault NO_MEMORY) held held (forms w content) (left_out w) lines)) is (inr (refl, refl))
+  pub no_forms : (lines : List ℕ) → IfSome of (λ w. TellsForms (Fault NO_MEMORY) held held (forms w content) (left_out_lines w) lines)
+  no_forms lines = subst (λ (o : Option WorldState). IfSome o (λ w. TellsForms (Fault NO_MEMORY) held held (forms w content) (left_out_lines w) lines)) is (inr (refl, refl))

@@ -6,7 +6,7 @@ use Rattle.disk_trait.specs.declared.half.Half.TheVariants.{A, B}
 use Rattle.plist_state.specs.State.{WorldState}
 use Rattle.world_text.specs.Snapshot.{snapshot}
 use Rattle.world_forms.specs.Forms.{forms}
-use Rattle.world_forms.specs.Properties.{left_out}
+use Rattle.world_forms.specs.Properties.{left_out_lines}
 use Rattle.world_forms.specs.declared.export.Content.{Content}
 use Rattle.user_macros.specs.Functions.{Functions}
 use Rattle.prevalence_store.specs.calls.Open.{IsOpened}
@@ -115,7 +115,7 @@ pub record IsExport (functions : Functions) {D R : Type 0} (state : D → State)
     (held written : Option (List ℕ)) (status : Status) (back : D) (lines : List ℕ) : Type 0 where
   pub opened : StoreView D R
   pub is_opened : IsOpened functions state disk macros half_limit opened
-  pub tells : TellsForms status held written (forms is_opened.world content) (left_out is_opened.world) lines
+  pub tells : TellsForms status held written (forms is_opened.world content) (left_out_lines is_opened.world) lines
   pub disk_is : back ≡ opened.disk
 
 -- ---- over the files of a folder, of which no clause can say what they hold
@@ -150,9 +150,9 @@ TellsVersion (Fault number) held written = Unit {0}
 -- and the forms of some world; the lines are on the properties of it that no form can set
 abbrev pub WritesForms : Content → Status → List ℕ → List ℕ → Option (List ℕ) → Type 0
 WritesForms content Done lines held written =
-    (world : WorldState) × (written ≡ Some (held ++ forms world content)) × (left_out world ≡ [])
+    (world : WorldState) × (written ≡ Some (held ++ forms world content)) × (left_out_lines world ≡ [])
 WritesForms content LeftOut lines held written =
-    (world : WorldState) × (written ≡ Some (held ++ forms world content)) × (lines ≡ left_out world)
+    (world : WorldState) × (written ≡ Some (held ++ forms world content)) × (lines ≡ left_out_lines world)
 WritesForms content FormRefused lines held written = ⊥
 WritesForms content Helped lines held written = Unit {0}
 WritesForms content WordsRefused lines held written = Unit {0}

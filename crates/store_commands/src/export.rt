@@ -3,7 +3,7 @@ ghost use Rattle.std.specs.Prelude.{◌≡◌, ◌<◌, ◌-◌, ◌^◌, IsSome
 ghost use Rattle.prevalence_store.specs.calls.Open.{IsUnopened};
 ghost use Rattle.user_macros.specs.Functions.{are_registered};
 ghost use Rattle.world_forms.specs.Forms.{forms};
-ghost use Rattle.world_forms.specs.Properties.{left_out};
+ghost use Rattle.world_forms.specs.Properties.{left_out_lines};
 ghost use Rattle.store_commands.specs.Report.{IsExport, TellsForms};
 ghost use Rattle.store_commands.specs.Session.{half_limit};
 
@@ -62,7 +62,7 @@ fn write_forms<D: Disk, M, O: Write>(
 ) -> (Status, Vec<u8>)
     requires known { IsSome store.now.world }
     ensures { IfSome store.now.world (λ world. TellsForms result.0 (O.contents output.old) (O.contents output.new)
-        (forms world content) (left_out world) result.1.items) }
+        (forms world content) (left_out_lines world) result.1.items) }
 {
     // a store that was just opened has a world
     let Some(world) = store.world() else {

@@ -57,5 +57,5 @@ module _ (s : WorldState) where
   property_lines = flat_map plist_lines (symbols_with_properties s)
 
   -- the lines of those that none can
-  unfoldable pub left_out : List ℕ
-  left_out = flat_map plist_left_out (symbols_with_properties s)
+  unfoldable pub left_out_lines : List ℕ
+  left_out_lines = flat_map plist_left_out (symbols_with_properties s)

@@ -2,7 +2,7 @@
 ghost use Rattle.std.specs.Prelude.{◌≡◌, decimal, IfOk, OnOk};
 ghost use Rattle.canon_printer.specs.Written.{Writes};
 ghost use Rattle.world_forms.specs.Forms.{package_form, reading_forms, current_form, forms};
-ghost use Rattle.world_forms.specs.Properties.{left_out};
+ghost use Rattle.world_forms.specs.Properties.{left_out_lines};
 
 use crate::packages::push_packages;
 use crate::properties::push_properties;
@@ -36,7 +36,7 @@ pub struct Export {
 /// Out of memory.
 pub fn all_forms(alloc: Global, world: &World, content: Content) -> Result<Export, AllocError>
     ensures forms { IfOk result (λ exported. exported.forms.items ≡ forms world.now.0 content) }
-    ensures left_out { IfOk result (λ exported. exported.left_out.items ≡ left_out world.now.0) }
+    ensures left_out { IfOk result (λ exported. exported.left_out.items ≡ left_out_lines world.now.0) }
 {
     match content {
         Content::World => world_forms(alloc, world),
@@ -49,7 +49,7 @@ pub fn all_forms(alloc: Global, world: &World, content: Content) -> Result<Expor
 fn world_forms(alloc: Global, world: &World) -> Result<Export, AllocError>
     ensures forms { IfOk result
         (λ exported. exported.forms.items ≡ forms world.now.0 Content.World) }
-    ensures left_out { IfOk result (λ exported. exported.left_out.items ≡ left_out world.now.0) }
+    ensures left_out { IfOk result (λ exported. exported.left_out.items ≡ left_out_lines world.now.0) }
 {
     let mut forms = Vec::new(alloc);
     let mut left_out = Vec::new(alloc);
@@ -67,7 +67,7 @@ fn world_forms(alloc: Global, world: &World) -> Result<Export, AllocError>
 fn data_forms(alloc: Global, world: &World) -> Result<Export, AllocError>
     ensures forms { IfOk result
         (λ exported. exported.forms.items ≡ forms world.now.0 Content.Data) }
-    ensures left_out { IfOk result (λ exported. exported.left_out.items ≡ left_out world.now.0) }
+    ensures left_out { IfOk result (λ exported. exported.left_out.items ≡ left_out_lines world.now.0) }
 {
     let mut forms = Vec::new(alloc);
     let mut left_out = Vec::new(alloc);

@@ -9,7 +9,7 @@ ghost use Rattle.plist_state.specs.Readers.{borrowed_symbol, borrowed_symbols};
 ghost use Rattle.plist_state.specs.Shown.{property_of};
 ghost use Rattle.canon_printer.specs.Written.{Writes};
 ghost use Rattle.world_forms.specs.Tokens.{line, symbol_text, quoted_text};
-ghost use Rattle.world_forms.specs.Properties.{form_setting, ends_at, property_form, is_form, property_line, left_out_line, plist_lines, plist_left_out, property_lines, left_out};
+ghost use Rattle.world_forms.specs.Properties.{form_setting, ends_at, property_form, is_form, property_line, left_out_line, plist_lines, plist_left_out, property_lines, left_out_lines};
 
 use crate::texts::{push_symbol, push_value};
 use canon_printer::print;
@@ -225,7 +225,7 @@ fn push_plists(
 }
 
 /// Adds the forms that set the properties of a world.
-#[tactic(auto, unfolding(crate::specs::Properties::property_lines, crate::specs::Properties::left_out))]
+#[tactic(auto, unfolding(crate::specs::Properties::property_lines, crate::specs::Properties::left_out_lines))]
 pub(crate) fn push_properties(
     alloc: Global,
     text: &mut Vec<u8>,
@@ -233,7 +233,7 @@ pub(crate) fn push_properties(
     world: &World,
 ) -> Result<(), AllocError>
     ensures text { OnOk result (Writes text.old text.new (property_lines world.now.0)) }
-    ensures left_out { OnOk result (Writes left_out.old left_out.new (left_out world.now.0)) }
+    ensures left_out { OnOk result (Writes left_out.old left_out.new (left_out_lines world.now.0)) }
 {
     let readtable = Readtable::standard(alloc)?;
     let symbols = world.owners(alloc)?;
