@@ -7,7 +7,6 @@ use Rattle.lisp_reading.specs.Reading.{Outcome, reads}
 use Rattle.lisp_reading.specs.Setting.{Setting, setting_of}
 use Rattle.lisp_reading.specs.declared.limits.Limits.{Limits}
 use Rattle.form_reader.specs.Reader.{IsOutcome}
-use Rattle.form_reader.specs.declared.outcome.ReadOutcome.{ReadOutcome}
 use Rattle.world_forms.specs.Properties.{form_setting}
 
 -- functions with no name among them are none

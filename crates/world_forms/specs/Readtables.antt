@@ -34,27 +34,31 @@ module _ (name : Name) where
   abbrev pub table_argument : List ℕ
   table_argument = codes " " ++ value_text [] [] keyword name
 
+  -- the same, and the end of the form
+  abbrev pub table_end : List ℕ
+  table_end = table_argument ++ line (codes ")")
+
   -- a character without a function
   unfoldable pub syntax_line : ℕ → Syntax → List ℕ
   syntax_line c syntax =
-      option_map_or (λ there. line (codes "(SET-SYNTAX-FROM-CHAR" ++ character_argument c ++ character_argument there ++ table_argument ++ codes " :STANDARD)"))
+      option_map_or (λ there. codes "(SET-SYNTAX-FROM-CHAR" ++ character_argument c ++ character_argument there ++ table_argument ++ line (codes " :STANDARD)"))
       (character_of_type syntax) []
 
   -- one with a function
   unfoldable pub macro_line : ℕ → List ℕ → Syntax → List ℕ
   macro_line c function syntax =
-      line (codes "(SET-MACRO-CHARACTER" ++ character_argument c ++ keyword_argument function ++ kind_argument syntax ++ table_argument ++ codes ")")
+      codes "(SET-MACRO-CHARACTER" ++ character_argument c ++ keyword_argument function ++ kind_argument syntax ++ table_end
 
   -- a sub-character that has a function
   unfoldable pub sub_line : ℕ → ℕ → Option (List ℕ) → List ℕ
   sub_line c sub None = []
   sub_line c sub (Some function) =
-      line (codes "(SET-DISPATCH-MACRO-CHARACTER" ++ character_argument c ++ character_argument sub ++ keyword_argument function ++ table_argument ++ codes ")")
+      codes "(SET-DISPATCH-MACRO-CHARACTER" ++ character_argument c ++ character_argument sub ++ keyword_argument function ++ table_end
 
   -- a dispatching character, and its sub-characters
   unfoldable pub dispatch_lines : ℕ → CharacterEntry → List ℕ
   dispatch_lines c e =
-      line (codes "(MAKE-DISPATCH-MACRO-CHARACTER" ++ character_argument c ++ kind_argument e.syntax ++ table_argument ++ codes ")")
+      codes "(MAKE-DISPATCH-MACRO-CHARACTER" ++ character_argument c ++ kind_argument e.syntax ++ table_end
       ++ flat_map (λ sub. sub_line c sub (get_or e.dispatch sub None)) (range_with_len 0 128)
 
   abbrev pub entry_lines : ℕ → CharacterEntry → List ℕ
@@ -69,11 +73,11 @@ module _ (name : Name) where
   -- the case, if it is another than in the standard readtable
   unfoldable pub case_line : Case → List ℕ
   case_line Upcase = []
-  case_line letters = line (codes "(SETF (READTABLE-CASE" ++ table_argument ++ codes ")" ++ keyword_argument (case_name letters) ++ codes ")")
+  case_line letters = codes "(SETF (READTABLE-CASE" ++ table_argument ++ codes ")" ++ keyword_argument (case_name letters) ++ line (codes ")")
 
   unfoldable pub table_lines : Table → List ℕ
   table_lines table =
-      line (codes "(COPY-READTABLE :STANDARD" ++ table_argument ++ codes ")") ++ case_line table.letters
+      codes "(COPY-READTABLE :STANDARD" ++ table_end ++ case_line table.letters
       ++ flat_map (changed_lines table) (range_with_len 0 128)
 
 module _ (s : WorldState) where

@@ -4,8 +4,8 @@ ghost use Rattle.std.specs.List.{flat_map, range_with_len};
 ghost use Rattle.readtable_core.specs.Cases.{case_name};
 ghost use Rattle.readtable_core.specs.Tables.{entry_at, standard as standard_table};
 ghost use Rattle.canon_printer.specs.Written.{Writes};
-ghost use Rattle.world_forms.specs.Tokens.{line, character_argument, keyword_argument};
-ghost use Rattle.world_forms.specs.Readtables.{character_of_type, kind_argument, table_argument, syntax_line, macro_line, sub_line, dispatch_lines};
+ghost use Rattle.world_forms.specs.Tokens.{character_argument};
+ghost use Rattle.world_forms.specs.Readtables.{character_of_type, kind_argument, table_argument, table_end, syntax_line, macro_line, sub_line, dispatch_lines};
 ghost use Rattle.world_forms.specs.Readtables.{entry_lines, changed_lines, case_line, table_lines, named_lines, readtable_lines};
 
 use crate::texts::{push_character, push_keyword, push_value};
@@ -53,8 +53,7 @@ impl Forms<'_> {
 
     /// The same, and the end of the form.
     fn push_end(&self, text: &mut Vec<u8>) -> Result<(), AllocError>
-        ensures { OnOk result (Writes text.old text.new
-            (line (table_argument self.now.name.now ++ codes ")"))) }
+        ensures { OnOk result (Writes text.old text.new (table_end self.now.name.now)) }
     {
         self.push_table_name(text)?;
         text.extend_from_slice(b")\n")
@@ -121,8 +120,22 @@ impl Forms<'_> {
         self.push_end(text)
     }
 
+    fn push_sub_of(
+        &self,
+        text: &mut Vec<u8>,
+        c: u8,
+        entry: &CharacterSlot,
+        sub: u8,
+    ) -> Result<(), AllocError>
+        requires character { c < 128 }
+        requires sub_character { sub < 128 }
+        ensures { OnOk result (Writes text.old text.new
+            (sub_line self.now.name.now c sub (get_or entry.now.dispatch sub None))) }
+    {
+        self.push_sub(text, c, sub, function_at(entry, sub))
+    }
+
     /// The sub-characters below `count`.
-    #[tactic(auto, using(crate::proofs::Ranges::flat_map_more))]
     fn push_subs(
         &self,
         text: &mut Vec<u8>,
@@ -137,7 +150,7 @@ impl Forms<'_> {
             (range_with_len 0 count))) }
     {
         for sub in 0..count {
-            self.push_sub(text, c, sub, function_at(entry, sub))?;
+            self.push_sub_of(text, c, entry, sub)?;
         }
         Ok(())
     }
@@ -189,7 +202,6 @@ impl Forms<'_> {
     }
 
     /// The characters below `count` whose entries are not as in the standard readtable.
-    #[tactic(auto, using(crate::proofs::Ranges::flat_map_more))]
     fn push_characters(
         &self,
         text: &mut Vec<u8>,

@@ -1,0 +1,25 @@
+-- Texts that are added one after the other.
+use Rattle.std.proofs.Common.{◌≡◌, ◌∙◌, ℕ, ◌+◌, List, [], ◌∷◌, ◌++◌, sym, ap, zero-add, append-nil, append_assoc}
+use Rattle.std.specs.List.{flat_map, range_with_len}
+use Rattle.std.proofs.lemmas.List.{map-id}
+use Rattle.std.proofs.lemmas.List.FromFn.{map-range_with_len_more}
+use Rattle.std.proofs.lemmas.Grind.{flat_map-append}
+
+-- a text and then another
+pub and_then : {t u v a b : List ℕ} → u ≡ t ++ a → v ≡ u ++ b → v ≡ t ++ (a ++ b)
+and_then {t} {u} {v} {a} {b} one two = two ∙ ap (λ s. s ++ b) one ∙ append_assoc t a b
+
+range_more : (n : ℕ) → range_with_len 0 (n + 1) ≡ range_with_len 0 n ++ n ∷ []
+range_more n =
+    sym (map-id (range_with_len 0 (n + 1))) ∙ map-range_with_len_more (λ (x : ℕ). x) 0 n n (zero-add n)
+    ∙ ap (λ xs. xs ++ n ∷ []) (map-id (range_with_len 0 n))
+
+flat_map_more : (f : ℕ → List ℕ) (n : ℕ) → flat_map f (range_with_len 0 (n + 1)) ≡ flat_map f (range_with_len 0 n) ++ f n
+flat_map_more f n =
+    ap (flat_map f) (range_more n) ∙ flat_map-append f (range_with_len 0 n) (n ∷ [])
+    ∙ ap (λ ys. flat_map f (range_with_len 0 n) ++ ys) (append-nil (f n))
+
+-- the text of one number more
+pub range_added : (f : ℕ → List ℕ) (n : ℕ) {t u v : List ℕ} → u ≡ t ++ flat_map f (range_with_len 0 n) → v ≡ u ++ f n
+    → v ≡ t ++ flat_map f (range_with_len 0 (n + 1))
+range_added f n {t} {u} {v} before one = and_then before one ∙ ap (λ s. t ++ s) (sym (flat_map_more f n))
