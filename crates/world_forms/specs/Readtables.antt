@@ -38,11 +38,13 @@ module _ (name : Name) where
   abbrev pub table_end : List ℕ
   table_end = table_argument ++ line (codes ")")
 
+  -- a character that is as another one in the standard readtable
+  unfoldable pub like_line : ℕ → ℕ → List ℕ
+  like_line c there = codes "(SET-SYNTAX-FROM-CHAR" ++ character_argument c ++ character_argument there ++ table_argument ++ line (codes " :STANDARD)")
+
   -- a character without a function
   unfoldable pub syntax_line : ℕ → Syntax → List ℕ
-  syntax_line c syntax =
-      option_map_or (λ there. codes "(SET-SYNTAX-FROM-CHAR" ++ character_argument c ++ character_argument there ++ table_argument ++ line (codes " :STANDARD)"))
-      (character_of_type syntax) []
+  syntax_line c syntax = option_map_or (like_line c) (character_of_type syntax) []
 
   -- one with a function
   unfoldable pub macro_line : ℕ → List ℕ → Syntax → List ℕ
@@ -70,10 +72,14 @@ module _ (name : Name) where
   unfoldable pub changed_lines : Table → ℕ → List ℕ
   changed_lines table c = if same_entry (entry_at table c) (entry_at standard c) then [] else entry_lines c (entry_at table c)
 
+  -- the case of this name
+  unfoldable pub set_case_line : List ℕ → List ℕ
+  set_case_line case = codes "(SETF (READTABLE-CASE" ++ table_argument ++ codes ")" ++ keyword_argument case ++ line (codes ")")
+
   -- the case, if it is another than in the standard readtable
   unfoldable pub case_line : Case → List ℕ
   case_line Upcase = []
-  case_line letters = codes "(SETF (READTABLE-CASE" ++ table_argument ++ codes ")" ++ keyword_argument (case_name letters) ++ line (codes ")")
+  case_line letters = set_case_line (case_name letters)
 
   unfoldable pub table_lines : Table → List ℕ
   table_lines table =

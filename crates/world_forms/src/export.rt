@@ -112,7 +112,8 @@ fn push_reading(forms: &mut Vec<u8>, world: &World) -> Result<(), AllocError>
     push_decimal(forms, world.read_base())?;
     forms.extend_from_slice(b") (IN-READTABLE ")?;
     push_value(forms, b"", b"", KEYWORD, world.current_readtable())?;
-    forms.extend_from_slice(b")")
+    forms.extend_from_slice(b")")?;
+    Ok(())
 }
 
 /// Adds a number.

@@ -5,8 +5,8 @@ ghost use Rattle.readtable_core.specs.Cases.{case_name};
 ghost use Rattle.readtable_core.specs.Tables.{entry_at, standard as standard_table};
 ghost use Rattle.canon_printer.specs.Written.{Writes};
 ghost use Rattle.world_forms.specs.Tokens.{character_argument};
-ghost use Rattle.world_forms.specs.Readtables.{character_of_type, kind_argument, table_argument, table_end, syntax_line, macro_line, sub_line, dispatch_lines};
-ghost use Rattle.world_forms.specs.Readtables.{entry_lines, changed_lines, case_line, table_lines, named_lines, readtable_lines};
+ghost use Rattle.world_forms.specs.Readtables.{character_of_type, kind_argument, table_argument, table_end, like_line, syntax_line, macro_line, sub_line, dispatch_lines};
+ghost use Rattle.world_forms.specs.Readtables.{entry_lines, changed_lines, set_case_line, case_line, table_lines, named_lines, readtable_lines};
 
 use crate::texts::{push_character, push_keyword, push_value};
 use lisp_object::Bytes;
@@ -59,6 +59,20 @@ impl Forms<'_> {
         text.extend_from_slice(b")\n")
     }
 
+    /// A character that is as another one in the standard readtable.
+    fn push_like(&self, text: &mut Vec<u8>, c: u8, there: u8) -> Result<(), AllocError>
+        requires character { c < 128 }
+        requires there { there < 128 }
+        ensures { OnOk result (Writes text.old text.new (like_line self.now.name.now c there)) }
+    {
+        text.extend_from_slice(b"(SET-SYNTAX-FROM-CHAR")?;
+        self.push_character(text, c)?;
+        self.push_character(text, there)?;
+        self.push_table_name(text)?;
+        text.extend_from_slice(b" :STANDARD)\n")?;
+        Ok(())
+    }
+
     /// A character without a function.
     #[tactic(auto, unfolding(crate::specs::Readtables::syntax_line))]
     fn push_syntax(&self, text: &mut Vec<u8>, c: u8, syntax: Syntax) -> Result<(), AllocError>
@@ -66,14 +80,10 @@ impl Forms<'_> {
         requires character { c < 128 }
         ensures { OnOk result (Writes text.old text.new (syntax_line self.now.name.now c syntax)) }
     {
-        let Some(there) = character_of_type(self.standard, syntax) else {
-            return Ok(());
-        };
-        text.extend_from_slice(b"(SET-SYNTAX-FROM-CHAR")?;
-        self.push_character(text, c)?;
-        self.push_character(text, there)?;
-        self.push_table_name(text)?;
-        text.extend_from_slice(b" :STANDARD)\n")
+        match character_of_type(self.standard, syntax) {
+            Some(there) => self.push_like(text, c, there),
+            None => Ok(()),
+        }
     }
 
     /// A character with a function.
@@ -156,7 +166,6 @@ impl Forms<'_> {
     }
 
     /// A dispatching character, and its sub-characters.
-    #[tactic(auto, unfolding(crate::specs::Readtables::dispatch_lines))]
     fn push_dispatch(
         &self,
         text: &mut Vec<u8>,
@@ -171,7 +180,8 @@ impl Forms<'_> {
         self.push_character(text, c)?;
         push_kind(text, entry.syntax())?;
         self.push_end(text)?;
-        self.push_subs(text, c, entry, 128)
+        self.push_subs(text, c, entry, 128)?;
+        Ok(())
     }
 
     fn push_entry(&self, text: &mut Vec<u8>, c: u8, entry: &CharacterSlot) -> Result<(), AllocError>
@@ -219,6 +229,18 @@ impl Forms<'_> {
         Ok(())
     }
 
+    /// The case of this name.
+    fn push_set_case(&self, text: &mut Vec<u8>, case: &[u8]) -> Result<(), AllocError>
+        ensures { OnOk result (Writes text.old text.new (set_case_line self.now.name.now case.now)) }
+    {
+        text.extend_from_slice(b"(SETF (READTABLE-CASE")?;
+        self.push_table_name(text)?;
+        text.push(b')')?;
+        push_keyword(text, case)?;
+        text.extend_from_slice(b")\n")?;
+        Ok(())
+    }
+
     /// The case, if it is another than in the standard readtable.
     #[tactic(auto, unfolding(crate::specs::Readtables::case_line))]
     fn push_case(&self, text: &mut Vec<u8>, letters: Case) -> Result<(), AllocError>
@@ -227,16 +249,12 @@ impl Forms<'_> {
         match letters {
             Case::Upcase => Ok(()),
             Case::Downcase | Case::Preserve | Case::Invert => {
-                text.extend_from_slice(b"(SETF (READTABLE-CASE")?;
-                self.push_table_name(text)?;
-                text.push(b')')?;
-                push_keyword(text, letters.name())?;
-                text.extend_from_slice(b")\n")
+                self.push_set_case(text, letters.name())
             }
         }
     }
 
-    #[tactic(auto, unfolding(crate::specs::Readtables::table_lines))]
+    /// All of it.
     fn push_table(&self, text: &mut Vec<u8>, table: &Readtable) -> Result<(), AllocError>
         requires { self.now.standard.now ≡ standard_table }
         ensures { OnOk result (Writes text.old text.new
@@ -245,7 +263,8 @@ impl Forms<'_> {
         text.extend_from_slice(b"(COPY-READTABLE :STANDARD")?;
         self.push_end(text)?;
         self.push_case(text, table.case())?;
-        self.push_characters(text, table, 128)
+        self.push_characters(text, table, 128)?;
+        Ok(())
     }
 }
 
