@@ -6,8 +6,19 @@ use Rattle.std.proofs.lemmas.List.FromFn.{map-range_with_len_more}
 use Rattle.std.proofs.lemmas.Grind.{flat_map-append}
 
 -- a text and then another
-pub and_then : {t u v a b : List ℕ} → u ≡ t ++ a → v ≡ u ++ b → v ≡ t ++ (a ++ b)
-and_then {t} {u} {v} {a} {b} one two = two ∙ ap (λ s. s ++ b) one ∙ append_assoc t a b
+and_then : (t a b : List ℕ) {u v : List ℕ} → u ≡ t ++ a → v ≡ u ++ b → v ≡ t ++ (a ++ b)
+and_then t a b one two = two ∙ ap (λ s. s ++ b) one ∙ append_assoc t a b
+
+-- four texts, and five
+pub four_added : (t a b c d : List ℕ) {t₁ t₂ t₃ t₄ : List ℕ} → t₁ ≡ t ++ a → t₂ ≡ t₁ ++ b → t₃ ≡ t₂ ++ c → t₄ ≡ t₃ ++ d
+    → t₄ ≡ t ++ (a ++ (b ++ (c ++ d)))
+four_added t a b c d {t₁} {t₂} {t₃} {t₄} one two three four =
+    and_then t a (b ++ (c ++ d)) one (and_then t₁ b (c ++ d) two (and_then t₂ c d three four))
+
+pub five_added : (t a b c d e : List ℕ) {t₁ t₂ t₃ t₄ t₅ : List ℕ} → t₁ ≡ t ++ a → t₂ ≡ t₁ ++ b → t₃ ≡ t₂ ++ c → t₄ ≡ t₃ ++ d → t₅ ≡ t₄ ++ e
+    → t₅ ≡ t ++ (a ++ (b ++ (c ++ (d ++ e))))
+five_added t a b c d e {t₁} {t₂} {t₃} {t₄} {t₅} one two three four five =
+    and_then t a (b ++ (c ++ (d ++ e))) one (four_added t₁ b c d e two three four five)
 
 range_more : (n : ℕ) → range_with_len 0 (n + 1) ≡ range_with_len 0 n ++ n ∷ []
 range_more n =
@@ -20,6 +31,6 @@ flat_map_more f n =
     ∙ ap (λ ys. flat_map f (range_with_len 0 n) ++ ys) (append-nil (f n))
 
 -- the text of one number more
-pub range_added : (f : ℕ → List ℕ) (n : ℕ) {t u v : List ℕ} → u ≡ t ++ flat_map f (range_with_len 0 n) → v ≡ u ++ f n
+pub range_added : (t : List ℕ) (f : ℕ → List ℕ) (n : ℕ) {u v : List ℕ} → u ≡ t ++ flat_map f (range_with_len 0 n) → v ≡ u ++ f n
     → v ≡ t ++ flat_map f (range_with_len 0 (n + 1))
-range_added f n {t} {u} {v} before one = and_then before one ∙ ap (λ s. t ++ s) (sym (flat_map_more f n))
+range_added t f n before one = and_then t (flat_map f (range_with_len 0 n)) (f n) before one ∙ ap (λ s. t ++ s) (sym (flat_map_more f n))

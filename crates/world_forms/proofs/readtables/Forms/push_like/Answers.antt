@@ -1,10 +1,12 @@
-use Rattle.world_forms.proofs.Added.{and_then}
-use Rattle.world_forms.specs.Readtables.{like_line}
+use Rattle.std.proofs.Common.{codes}
+use Rattle.world_forms.specs.Tokens.{line, character_argument}
+use Rattle.world_forms.specs.Readtables.{like_line, table_argument}
+use Rattle.world_forms.proofs.Added.{five_added}
 use Rattle.world_forms.proofs.readtables.Forms.push_like.Goals as goal
 
 pub returns : goal.returns
 unfolding like_line
 returns c =
-    let whole = and_then c.in_ok-extend_from_slice.ensures.items (and_then c.in_ok-push_character.ensures (and_then c.in_ok-push_character-2.ensures
-    (and_then c.in_ok-push_table_name.ensures c.in_ok-extend_from_slice-2.ensures.items))) in
-    whole
+    five_added c.args.text.now.items (codes "(SET-SYNTAX-FROM-CHAR") (character_argument c.args.c) (character_argument c.args.there) (table_argument c.args.self.now.name.now)
+    (line (codes " :STANDARD)")) c.in_ok-extend_from_slice.ensures.items c.in_ok-push_character.ensures c.in_ok-push_character-2.ensures
+    c.in_ok-push_table_name.ensures c.in_ok-extend_from_slice-2.ensures.items
