@@ -1,7 +1,8 @@
 -- Texts that are added one after the other.
-use Rattle.std.proofs.Common.{◌≡◌, ◌∙◌, ℕ, ◌+◌, List, [], ◌∷◌, ◌++◌, sym, ap, zero-add, append-nil, append_assoc}
-use Rattle.std.specs.List.{flat_map, range_with_len}
-use Rattle.std.proofs.lemmas.List.{map-id}
+use Rattle.std.proofs.Common.{◌≡◌, ◌∙◌, ℕ, ◌+◌, List, [], ◌∷◌, ◌++◌, Some, take, sym, ap, zero-add, append-nil, append_assoc}
+use Rattle.std.specs.List.{flat_map, range_with_len, slice_get}
+use Rattle.std.proofs.lemmas.List.{map-id, take_more}
+use Rattle.std.proofs.lemmas.Option.{slice_get_within, get_or_from_slice_get}
 use Rattle.std.proofs.lemmas.List.FromFn.{map-range_with_len_more}
 use Rattle.std.proofs.lemmas.Grind.{flat_map-append}
 
@@ -34,3 +35,13 @@ flat_map_more f n =
 pub range_added : (t : List ℕ) (f : ℕ → List ℕ) (n : ℕ) {u v : List ℕ} → u ≡ t ++ flat_map f (range_with_len 0 n) → v ≡ u ++ f n
     → v ≡ t ++ flat_map f (range_with_len 0 (n + 1))
 range_added t f n before one = and_then t (flat_map f (range_with_len 0 n)) (f n) before one ∙ ap (λ s. t ++ s) (sym (flat_map_more f n))
+
+-- the text of one item more
+pub item_added : {A : Type 0} (t : List ℕ) (f : A → List ℕ) (xs : List A) (i : ℕ) (x : A) {u v : List ℕ} → slice_get xs i ≡ Some x
+    → u ≡ t ++ flat_map f (take i xs) → v ≡ u ++ f x → v ≡ t ++ flat_map f (take (i + 1) xs)
+item_added t f xs i x is before one =
+    and_then t (flat_map f (take i xs)) (f x) before one
+    ∙ ap (λ s. t ++ s) (
+    sym (flat_map-append f (take i xs) (x ∷ []) ∙ ap (λ ys. flat_map f (take i xs) ++ ys) (append-nil (f x)))
+    ∙ ap (λ y. flat_map f (take i xs ++ y ∷ [])) (sym (get_or_from_slice_get xs i x x is))
+    ∙ ap (flat_map f) (sym (take_more xs i x (slice_get_within xs i x is))))
