@@ -12,14 +12,13 @@ and_then t a b one two = two ∙ ap (λ s. s ++ b) one ∙ append_assoc t a b
 
 -- four texts, and five
 pub four_added : (t a b c d : List ℕ) {t₁ t₂ t₃ t₄ : List ℕ} → t₁ ≡ t ++ a → t₂ ≡ t₁ ++ b → t₃ ≡ t₂ ++ c → t₄ ≡ t₃ ++ d
-    → t₄ ≡ t ++ (a ++ (b ++ (c ++ d)))
-four_added t a b c d {t₁} {t₂} {t₃} {t₄} one two three four =
-    and_then t a (b ++ (c ++ d)) one (and_then t₁ b (c ++ d) two (and_then t₂ c d three four))
+    → t₄ ≡ t ++ (((a ++ b) ++ c) ++ d)
+four_added t a b c d one two three four =
+    and_then t ((a ++ b) ++ c) d (and_then t (a ++ b) c (and_then t a b one two) three) four
 
 pub five_added : (t a b c d e : List ℕ) {t₁ t₂ t₃ t₄ t₅ : List ℕ} → t₁ ≡ t ++ a → t₂ ≡ t₁ ++ b → t₃ ≡ t₂ ++ c → t₄ ≡ t₃ ++ d → t₅ ≡ t₄ ++ e
-    → t₅ ≡ t ++ (a ++ (b ++ (c ++ (d ++ e))))
-five_added t a b c d e {t₁} {t₂} {t₃} {t₄} {t₅} one two three four five =
-    and_then t a (b ++ (c ++ (d ++ e))) one (four_added t₁ b c d e two three four five)
+    → t₅ ≡ t ++ ((((a ++ b) ++ c) ++ d) ++ e)
+five_added t a b c d e one two three four five = and_then t (((a ++ b) ++ c) ++ d) e (four_added t a b c d one two three four) five
 
 range_more : (n : ℕ) → range_with_len 0 (n + 1) ≡ range_with_len 0 n ++ n ∷ []
 range_more n =

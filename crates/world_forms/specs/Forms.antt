@@ -12,19 +12,24 @@ use Rattle.world_forms.specs.Properties.{property_lines}
 use Rattle.world_forms.specs.Readtables.{readtable_lines}
 
 module _ (s : WorldState) where
-  -- what makes the package current
-  abbrev pub package_form : List ℕ
+  -- what makes the package, the base of numbers and the readtable current
+  unfoldable pub package_form : List ℕ
   package_form = codes "(IN-PACKAGE " ++ printed_text s.current_package ++ codes ")"
 
-  -- what makes the base of numbers and the readtable current
-  abbrev pub reading_forms : List ℕ
-  reading_forms =
-      codes "(SETF *READ-BASE* " ++ decimal s.read_base ++ codes ") (IN-READTABLE " ++ value_text [] [] keyword s.current_readtable ++ codes ")"
+  unfoldable pub base_form : List ℕ
+  base_form = codes "(SETF *READ-BASE* " ++ decimal s.read_base ++ codes ")"
+
+  unfoldable pub readtable_form : List ℕ
+  readtable_form = codes "(IN-READTABLE " ++ value_text [] [] keyword s.current_readtable ++ codes ")"
+
+  -- the last two, each after a space
+  unfoldable pub reading_forms : Content → List ℕ
+  reading_forms World = codes " " ++ base_form ++ codes " " ++ readtable_form
+  reading_forms Data = []
 
   -- One form makes current what is, since the next one would be read under it.
   unfoldable pub current_form : Content → List ℕ
-  current_form World = codes "(PROGN " ++ package_form ++ codes " " ++ reading_forms ++ codes ")"
-  current_form Data = codes "(PROGN " ++ package_form ++ codes ")"
+  current_form content = codes "(PROGN " ++ package_form ++ reading_forms content ++ codes ")"
 
   -- the forms of what is exported, with a newline between each two
   unfoldable pub forms : Content → List ℕ

@@ -1,7 +1,7 @@
 //! All forms of a world.
 ghost use Rattle.std.specs.Prelude.{◌≡◌, decimal, IfOk, OnOk};
 ghost use Rattle.canon_printer.specs.Written.{Writes};
-ghost use Rattle.world_forms.specs.Forms.{package_form, reading_forms, current_form, forms};
+ghost use Rattle.world_forms.specs.Forms.{package_form, base_form, readtable_form, reading_forms, current_form, forms};
 ghost use Rattle.world_forms.specs.Properties.{left_out_lines};
 
 use crate::packages::push_packages;
@@ -85,17 +85,12 @@ fn push_current(forms: &mut Vec<u8>, world: &World, content: Content) -> Result<
 {
     forms.extend_from_slice(b"(PROGN ")?;
     push_package(forms, world)?;
-    match content {
-        Content::World => {
-            forms.push(b' ')?;
-            push_reading(forms, world)?;
-        }
-        Content::Data => {}
-    }
+    push_reading(forms, world, content)?;
     forms.extend_from_slice(b")")
 }
 
 /// What makes the package of a world current.
+#[tactic(auto, unfolding(crate::specs::Forms::package_form))]
 fn push_package(forms: &mut Vec<u8>, world: &World) -> Result<(), AllocError>
     ensures { OnOk result (Writes forms.old forms.new (package_form world.now.0)) }
 {
@@ -104,16 +99,40 @@ fn push_package(forms: &mut Vec<u8>, world: &World) -> Result<(), AllocError>
     forms.extend_from_slice(b")")
 }
 
-/// What makes its read base and its readtable current.
-fn push_reading(forms: &mut Vec<u8>, world: &World) -> Result<(), AllocError>
-    ensures { OnOk result (Writes forms.old forms.new (reading_forms world.now.0)) }
+/// What makes its read base and its readtable current, if the readtables are exported.
+#[tactic(auto, unfolding(crate::specs::Forms::reading_forms))]
+fn push_reading(forms: &mut Vec<u8>, world: &World, content: Content) -> Result<(), AllocError>
+    ensures { OnOk result (Writes forms.old forms.new (reading_forms world.now.0 content)) }
+{
+    match content {
+        Content::World => {
+            forms.push(b' ')?;
+            push_base(forms, world)?;
+            forms.push(b' ')?;
+            push_readtable(forms, world)
+        }
+        Content::Data => Ok(()),
+    }
+}
+
+/// What makes its read base current.
+#[tactic(auto, unfolding(crate::specs::Forms::base_form))]
+fn push_base(forms: &mut Vec<u8>, world: &World) -> Result<(), AllocError>
+    ensures { OnOk result (Writes forms.old forms.new (base_form world.now.0)) }
 {
     forms.extend_from_slice(b"(SETF *READ-BASE* ")?;
     push_decimal(forms, world.read_base())?;
-    forms.extend_from_slice(b") (IN-READTABLE ")?;
+    forms.extend_from_slice(b")")
+}
+
+/// What makes its readtable current.
+#[tactic(auto, unfolding(crate::specs::Forms::readtable_form))]
+fn push_readtable(forms: &mut Vec<u8>, world: &World) -> Result<(), AllocError>
+    ensures { OnOk result (Writes forms.old forms.new (readtable_form world.now.0)) }
+{
+    forms.extend_from_slice(b"(IN-READTABLE ")?;
     push_value(forms, b"", b"", KEYWORD, world.current_readtable())?;
-    forms.extend_from_slice(b")")?;
-    Ok(())
+    forms.extend_from_slice(b")")
 }
 
 /// Adds a number.
