@@ -10,11 +10,13 @@ use Rattle.std.proofs.lemmas.Grind.{flat_map-append}
 and_then : (t a b : List ℕ) {u v : List ℕ} → u ≡ t ++ a → v ≡ u ++ b → v ≡ t ++ (a ++ b)
 and_then t a b one two = two ∙ ap (λ s. s ++ b) one ∙ append_assoc t a b
 
--- four texts, and five
+-- three texts, four, and five
+pub three_added : (t a b c : List ℕ) {t₁ t₂ t₃ : List ℕ} → t₁ ≡ t ++ a → t₂ ≡ t₁ ++ b → t₃ ≡ t₂ ++ c → t₃ ≡ t ++ ((a ++ b) ++ c)
+three_added t a b c one two three = and_then t (a ++ b) c (and_then t a b one two) three
+
 pub four_added : (t a b c d : List ℕ) {t₁ t₂ t₃ t₄ : List ℕ} → t₁ ≡ t ++ a → t₂ ≡ t₁ ++ b → t₃ ≡ t₂ ++ c → t₄ ≡ t₃ ++ d
     → t₄ ≡ t ++ (((a ++ b) ++ c) ++ d)
-four_added t a b c d one two three four =
-    and_then t ((a ++ b) ++ c) d (and_then t (a ++ b) c (and_then t a b one two) three) four
+four_added t a b c d one two three four = and_then t ((a ++ b) ++ c) d (three_added t a b c one two three) four
 
 pub five_added : (t a b c d e : List ℕ) {t₁ t₂ t₃ t₄ t₅ : List ℕ} → t₁ ≡ t ++ a → t₂ ≡ t₁ ++ b → t₃ ≡ t₂ ++ c → t₄ ≡ t₃ ++ d → t₅ ≡ t₄ ++ e
     → t₅ ≡ t ++ ((((a ++ b) ++ c) ++ d) ++ e)

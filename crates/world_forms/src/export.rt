@@ -116,23 +116,23 @@ fn push_reading(forms: &mut Vec<u8>, world: &World, content: Content) -> Result<
 }
 
 /// What makes its read base current.
-#[tactic(auto, unfolding(crate::specs::Forms::base_form))]
 fn push_base(forms: &mut Vec<u8>, world: &World) -> Result<(), AllocError>
     ensures { OnOk result (Writes forms.old forms.new (base_form world.now.0)) }
 {
     forms.extend_from_slice(b"(SETF *READ-BASE* ")?;
     push_decimal(forms, world.read_base())?;
-    forms.extend_from_slice(b")")
+    forms.extend_from_slice(b")")?;
+    Ok(())
 }
 
 /// What makes its readtable current.
-#[tactic(auto, unfolding(crate::specs::Forms::readtable_form))]
 fn push_readtable(forms: &mut Vec<u8>, world: &World) -> Result<(), AllocError>
     ensures { OnOk result (Writes forms.old forms.new (readtable_form world.now.0)) }
 {
     forms.extend_from_slice(b"(IN-READTABLE ")?;
     push_value(forms, b"", b"", KEYWORD, world.current_readtable())?;
-    forms.extend_from_slice(b")")
+    forms.extend_from_slice(b")")?;
+    Ok(())
 }
 
 /// Adds a number.
