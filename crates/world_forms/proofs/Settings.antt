@@ -3,7 +3,7 @@ use Rattle.std.proofs.Common.{◌≡◌, ◌∙◌, ℕ, List, [], ap, ap₂, su
 use Rattle.readtable_core.specs.Tables.{Table, standard}
 use Rattle.package_table.specs.Table.{Name, Table as Packages, common_lisp_user}
 use Rattle.user_macros.specs.Functions.{Functions, no_functions}
-use Rattle.lisp_reading.specs.Reading.{Outcome, reads}
+use Rattle.lisp_reading.specs.Reading.{reads}
 use Rattle.lisp_reading.specs.Setting.{Setting, setting_of}
 use Rattle.lisp_reading.specs.declared.limits.Limits.{Limits}
 use Rattle.form_reader.specs.Reader.{IsOutcome}

@@ -9,7 +9,7 @@ use Rattle.user_macros.specs.Functions.{no_functions}
 use Rattle.canon_printer.specs.Printed.{printed}
 use Rattle.lisp_reading.specs.Setting.{Setting, setting_of}
 use Rattle.lisp_reading.specs.Reading.{Outcome, form, reads}
-use Rattle.plist_state.specs.Properties.{Symbol, Plist}
+use Rattle.plist_state.specs.Properties.{Symbol}
 use Rattle.plist_state.specs.State.{WorldState}
 use Rattle.plist_state.specs.Changes.{plist}
 use Rattle.plist_state.specs.Readers.{symbols_with_properties}

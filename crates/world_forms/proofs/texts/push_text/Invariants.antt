@@ -1,4 +1,4 @@
-use Rattle.std.proofs.Common.{◌≡◌, ◌++◌, take, codes}
+use Rattle.std.proofs.Common.{◌≡◌, ◌++◌, take}
 use Rattle.canon_printer.specs.Names.{escaped}
 use Rattle.canon_printer.specs.Written.{is_escaped_in_text}
 use Rattle.world_forms.proofs.texts.push_text.Given as goal
