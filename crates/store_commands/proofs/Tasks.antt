@@ -6,6 +6,7 @@ use Rattle.lisp_object.specs.declared.refusal.TheConstants.{DEVICE, INPUT, NO_ME
 use Rattle.clap.specs.Words.{Text}
 use Rattle.plist_state.specs.State.{initial}
 use Rattle.world_text.specs.Snapshot.{snapshot}
+use Rattle.world_forms.specs.Forms.{forms}
 use Rattle.user_macros.specs.Functions.{Functions}
 use Rattle.prevalence_store.specs.declared.outcome.Ended.{Ended}
 use Rattle.prevalence_store.specs.declared.outcome.Ended.TheVariants.{End, Store, Unaccepted, Unreadable}
@@ -37,7 +38,7 @@ module _ (functions : Functions) (input had : List ℕ) (left written : Option (
   breaks_nothing (Run wanted) holds = nothing_written functions wanted.mode input had written holds
   breaks_nothing Snapshot holds = (A, 0, 0, ([], half_line A 0 0, refl, holds ∙ ap (λ l. Some l) (sym (append-nil had))))
   breaks_nothing Upgrade holds = (0, ([], version_line 0, refl, holds ∙ ap (λ l. Some l) (sym (append-nil had))))
-  breaks_nothing (Export content) holds = ([], ([], [], refl, holds ∙ ap (λ l. Some l) (sym (append-nil had))))
+  breaks_nothing (Export content) holds = (initial, ([], forms initial content, refl, holds ∙ ap (λ l. Some l) (sym (append-nil had))))
   breaks_nothing (Tell Dump) holds = (initial, ([], snapshot initial, refl, holds ∙ ap (λ l. Some l) (sym (append-nil had))))
   breaks_nothing (Tell Verify) holds = (A, 0, 0, ([], half_line A 0 0, refl, holds ∙ ap (λ l. Some l) (sym (append-nil had))))
 
@@ -161,15 +162,15 @@ module _ (functions : Functions) {D R : Type 0} (state : D → State) (macros : 
       → CarriesOut functions state macros whole remaining contents input left held written disk back (Export content) status told
       → PerformedHere folder (Export content) status
   performs_export disk back folder content status named (done, same) = record {
-    taken = forms_taken _ _ done.forms _ status done.tells;
+    taken = forms_taken _ _ _ _ _ status done.tells;
     nameless = λ none. absurd (named none);
     unread = λ none. same;
-    unopened = λ number is of. absurd (forms_of_no_opening _ _ done.forms _ status number is done.tells of);
-    fault = forms_fault _ _ done.forms _ status done.tells;
+    unopened = λ number is of. absurd (forms_of_no_opening _ _ _ _ _ status number is done.tells of);
+    fault = forms_fault _ _ _ _ _ status done.tells;
     reads = λ text had. ap remaining same ∙ had;
-    writes = λ text had reads holds. forms_written (contents held) (contents written) done.forms _ had holds status done.tells;
+    writes = λ text had reads holds. forms_written (contents held) (contents written) _ _ _ had holds status done.tells;
     breaks_off = λ text had number reads holds is.
-        forms_break (contents held) (contents written) done.forms _ had holds functions content status number text is done.tells;
+        forms_break (contents held) (contents written) _ _ _ had holds functions status number text is done.tells;
   }
 
   performs_report : (disk back : D) (folder : Text) (report : Report) (status : Status) → (folder ≡ [] → ⊥)
@@ -228,7 +229,7 @@ module _ (functions : Functions) {D R : Type 0} (state : D → State) (macros : 
       (inl (done, same))
 
   pub does_export : (disk back : D) (task : Task) (status : Status) (content : Content) → task ≡ Export content
-      → IsExport functions state disk macros (contents held) (contents written) status back (left_out_of told) → left ≡ input
+      → IsExport functions state content disk macros (contents held) (contents written) status back (left_out_of told) → left ≡ input
       → DoesOn functions state macros whole remaining contents input left held written disk back task status told
   does_export disk back task status content is done same =
       subst (λ (t : Task). DoesOn functions state macros whole remaining contents input left held written disk back t status told) (sym is)
@@ -272,6 +273,6 @@ told_so functions state macros whole remaining contents input left held written 
 told_so functions state macros whole remaining contents input left held written told later disk back Snapshot status kept (inl done) = inl done
 told_so functions state macros whole remaining contents input left held written told later disk back Upgrade status kept (inl done) = inl done
 told_so functions state macros whole remaining contents input left held written told later disk back (Export content) status kept (inl (export, same)) =
-    inl (subst (IsExport functions state disk macros (contents held) (contents written) status back) (kept_out told later kept) export, same)
+    inl (subst (IsExport functions state content disk macros (contents held) (contents written) status back) (kept_out told later kept) export, same)
 told_so functions state macros whole remaining contents input left held written told later disk back (Tell report) status kept (inl done) = inl done
 told_so functions state macros whole remaining contents input left held written told later disk back task status kept (inr not) = inr not

@@ -9,6 +9,10 @@ use Rattle.prevalence_store.specs.declared.outcome.Outcome.{Outcome}
 use Rattle.prevalence_store.specs.declared.outcome.Outcome.TheVariants.{Accepted, Snapshotted, Refused}
 use Rattle.user_macros.specs.Functions.{Functions}
 use Rattle.world_forms.specs.declared.export.Content.{Content}
+use Rattle.world_forms.specs.Forms.{forms}
+use Rattle.world_forms.specs.Properties.{left_out_lines}
+use Rattle.lisp_object.specs.declared.refusal.TheConstants.{NO_MEMORY}
+use Rattle.std.specs.Option.{IfSome}
 use Rattle.store_commands.specs.Commands.{TaskBreaksOff, is_of_opening}
 use Rattle.store_commands.specs.Report.{HasNoValue, TellsForms, TellsUpgrade, TellsVersion, Upgrades, WritesForms, version_line}
 use Rattle.store_commands.specs.Status.{HasFaultNumber, TakesWords}
@@ -78,8 +82,11 @@ module _ (functions : Functions) {D R : Type 0} (state : D → State) (old new :
 
 -- ---- forms that were written
 
-module _ (held written : Option (List ℕ)) (forms left_out : List ℕ) where
-  pub forms_taken : (status : Status) → TellsForms status held written forms left_out → TakesWords status
+module _ (held written : Option (List ℕ)) (world : WorldState) (content : Content) (lines : List ℕ) where
+  abbrev Tells : Status → Type 0
+  Tells status = TellsForms status held written (forms world content) (left_out_lines world) lines
+
+  pub forms_taken : (status : Status) → Tells status → TakesWords status
   forms_taken LeftOut told = tt
   forms_taken Done told = tt
   forms_taken (Fault number) told = tt
@@ -87,28 +94,40 @@ module _ (held written : Option (List ℕ)) (forms left_out : List ℕ) where
   forms_taken FormRefused told = absurd told
   forms_taken WordsRefused told = absurd told
 
-  pub forms_fault : (status : Status) → TellsForms status held written forms left_out → HasFaultNumber status
+  pub forms_fault : (status : Status) → Tells status → HasFaultNumber status
   forms_fault LeftOut told = λ number is. absurd (cc)
   forms_fault Done told = λ number is. absurd (cc)
-  forms_fault (Fault number) told = text_fault held written forms (Fault number) told
+  forms_fault (Fault number) told = text_fault held written (forms world content) (Fault number) told
   forms_fault Helped told = absurd told
   forms_fault FormRefused told = absurd told
   forms_fault WordsRefused told = absurd told
 
-  pub forms_of_no_opening : (status : Status) (number : ℕ) → status ≡ Fault number → TellsForms status held written forms left_out → is_of_opening number ≡ true → ⊥
+  pub forms_of_no_opening : (status : Status) (number : ℕ) → status ≡ Fault number → Tells status → is_of_opening number ≡ true → ⊥
   forms_of_no_opening status number is told =
-      text_of_no_opening held written forms (Fault number) number refl (subst (λ (s : Status). TellsForms s held written forms left_out) is told)
+      text_of_no_opening held written (forms world content) (Fault number) number refl (subst Tells is told)
 
   module _ (had : List ℕ) (holds : held ≡ Some had) where
-    pub forms_written : (status : Status) → TellsForms status held written forms left_out → WritesForms status had written
-    forms_written LeftOut told = (forms, told.0 had holds)
-    forms_written Done told = (forms, told.0 had holds)
+    pub forms_written : (status : Status) → Tells status → WritesForms content status lines had written
+    forms_written LeftOut told = (world, told.0 had holds, told.1.0)
+    forms_written Done told = (world, told.0 had holds, told.1.1)
     forms_written (Fault number) told = tt
     forms_written Helped told = absurd told
     forms_written FormRefused told = absurd told
     forms_written WordsRefused told = absurd told
 
-    pub forms_break : (functions : Functions) (content : Content) (status : Status) (number : ℕ) (input : List ℕ) → status ≡ Fault number
-        → TellsForms status held written forms left_out → TaskBreaksOff functions (Export content) input had written
-    forms_break functions content status number input is told =
-        (forms, text_front held written forms (Fault number) number had holds refl (subst (λ (s : Status). TellsForms s held written forms left_out) is told))
+    pub forms_break : (functions : Functions) (status : Status) (number : ℕ) (input : List ℕ) → status ≡ Fault number
+        → Tells status → TaskBreaksOff functions (Export content) input had written
+    forms_break functions status number input is told =
+        (world, text_front held written (forms world content) (Fault number) number had holds refl (subst Tells is told))
+
+-- the forms of the world of an open store, and that none were written
+module _ (content : Content) (world : WorldState) (of : Option WorldState) (is : Some world ≡ of) (held : Option (List ℕ)) where
+  pub forms_of_world : (written : Option (List ℕ)) (status : Status) (text lines : List ℕ) → text ≡ forms world content → lines ≡ left_out_lines world
+      → TellsForms status held written text lines lines → IfSome of (λ w. TellsForms status held written (forms w content) (left_out_lines w) lines)
+  forms_of_world written status text lines same_forms same_lines told =
+      subst (λ (o : Option WorldState). IfSome o (λ w. TellsForms status held written (forms w content) (left_out_lines w) lines)) is
+      (subst (λ (l : List ℕ). TellsForms status held written (forms world content) l lines) same_lines
+      (subst (λ (t : List ℕ). TellsForms status held written t lines lines) same_forms told))
+
+  pub no_forms : (lines : List ℕ) → IfSome of (λ w. TellsForms (Fault NO_MEMORY) held held (forms w content) (left_out_lines w) lines)
+  no_forms lines = subst (λ (o : Option WorldState). IfSome o (λ w. TellsForms (Fault NO_MEMORY) held held (forms w content) (left_out_lines w) lines)) is (inr (refl, refl))

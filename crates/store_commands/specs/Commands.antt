@@ -7,6 +7,7 @@ use Rattle.lisp_object.specs.declared.refusal.TheConstants.{DEVICE, DAMAGED, MIS
 use Rattle.clap.specs.Words.{Text}
 use Rattle.plist_state.specs.State.{WorldState}
 use Rattle.world_text.specs.Snapshot.{snapshot}
+use Rattle.world_forms.specs.Forms.{forms}
 use Rattle.user_macros.specs.Functions.{Functions}
 use Rattle.prevalence_store.specs.calls.Open.{IsUnopened}
 use Rattle.prevalence_store.specs.declared.outcome.Ended.{Ended}
@@ -61,7 +62,7 @@ module _ (functions : Functions) where
   TaskWrites (Run wanted) status told input held written = AnswersInput functions wanted status told input held written
   TaskWrites Snapshot status told input held written = TellsHalf status held written
   TaskWrites Upgrade status told input held written = TellsVersion status held written
-  TaskWrites (Export content) status told input held written = WritesForms status held written
+  TaskWrites (Export content) status told input held written = WritesForms content status (left_out_of told) held written
   TaskWrites (Tell Dump) status told input held written = DumpsWorld status held written
   TaskWrites (Tell Verify) status told input held written = TellsHalf status held written
 
@@ -70,7 +71,7 @@ module _ (functions : Functions) where
   TaskBreaksOff (Run wanted) input held written = IsBrokenOff functions wanted.mode input held written
   TaskBreaksOff Snapshot input held written = (half : Half) × (generation : ℕ) × (records : ℕ) × IsFront held written (half_line half generation records)
   TaskBreaksOff Upgrade input held written = (version : ℕ) × IsFront held written (version_line version)
-  TaskBreaksOff (Export content) input held written = (forms : List ℕ) × IsFront held written forms
+  TaskBreaksOff (Export content) input held written = (world : WorldState) × IsFront held written (forms world content)
   TaskBreaksOff (Tell Dump) input held written = (world : WorldState) × IsFront held written (snapshot world)
   TaskBreaksOff (Tell Verify) input held written = (half : Half) × (generation : ℕ) × (records : ℕ) × IsFront held written (half_line half generation records)
 
@@ -95,7 +96,7 @@ module _ (functions : Functions) {D R : Type 0} (state : D → State) (macros : 
   CarriesOut disk back Upgrade status told =
       IsUpgrade functions state disk macros (contents held) (contents written) status back × (left ≡ input)
   CarriesOut disk back (Export content) status told =
-      IsExport functions state disk macros (contents held) (contents written) status back (left_out_of told) × (left ≡ input)
+      IsExport functions state content disk macros (contents held) (contents written) status back (left_out_of told) × (left ≡ input)
   CarriesOut disk back (Tell report) status told =
       IsReport functions state report disk macros (contents held) (contents written) status back × (left ≡ input)
 

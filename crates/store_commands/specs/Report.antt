@@ -5,6 +5,9 @@ use Rattle.disk_trait.specs.declared.half.Half.{Half}
 use Rattle.disk_trait.specs.declared.half.Half.TheVariants.{A, B}
 use Rattle.plist_state.specs.State.{WorldState}
 use Rattle.world_text.specs.Snapshot.{snapshot}
+use Rattle.world_forms.specs.Forms.{forms}
+use Rattle.world_forms.specs.Properties.{left_out_lines}
+use Rattle.world_forms.specs.declared.export.Content.{Content}
 use Rattle.user_macros.specs.Functions.{Functions}
 use Rattle.prevalence_store.specs.calls.Open.{IsOpened}
 use Rattle.prevalence_store.specs.calls.Snapshot.{Snapshots}
@@ -98,22 +101,21 @@ pub record IsUpgrade (functions : Functions) {D R : Type 0} (state : D → State
 
 -- All forms were written, and nothing was left out; or all but what no form can make, of which there are lines; or a part of them, as of
 -- every text.
-abbrev pub TellsForms : Status → Option (List ℕ) → Option (List ℕ) → (forms left_out : List ℕ) → Type 0
-TellsForms LeftOut held written forms left_out = Writes held written forms × (left_out ≢ [])
-TellsForms Done held written forms left_out = TellsText Done held written forms × (left_out ≡ [])
-TellsForms (Fault number) held written forms left_out = TellsText (Fault number) held written forms
-TellsForms Helped held written forms left_out = ⊥
-TellsForms FormRefused held written forms left_out = ⊥
-TellsForms WordsRefused held written forms left_out = ⊥
+abbrev pub TellsForms : Status → Option (List ℕ) → Option (List ℕ) → (forms left_out lines : List ℕ) → Type 0
+TellsForms LeftOut held written forms left_out lines = Writes held written forms × ((lines ≡ left_out) × (left_out ≢ []))
+TellsForms Done held written forms left_out lines = TellsText Done held written forms × ((lines ≡ left_out) × (left_out ≡ []))
+TellsForms (Fault number) held written forms left_out lines = TellsText (Fault number) held written forms
+TellsForms Helped held written forms left_out lines = ⊥
+TellsForms FormRefused held written forms left_out lines = ⊥
+TellsForms WordsRefused held written forms left_out lines = ⊥
 
--- The store that a disk holds was opened with these macro functions, forms were written, and it was closed: this is its disk, and these
--- are the lines on what was left out. That the forms make its world is not said.
-pub record IsExport (functions : Functions) {D R : Type 0} (state : D → State) (disk : D) (macros : R)
-    (held written : Option (List ℕ)) (status : Status) (back : D) (left_out : List ℕ) : Type 0 where
+-- The store that a disk holds was opened with these macro functions, the forms of its world were written, and it was closed: this is its
+-- disk, and these are the lines on the properties that no form can set.
+pub record IsExport (functions : Functions) {D R : Type 0} (state : D → State) (content : Content) (disk : D) (macros : R)
+    (held written : Option (List ℕ)) (status : Status) (back : D) (lines : List ℕ) : Type 0 where
   pub opened : StoreView D R
   pub is_opened : IsOpened functions state disk macros half_limit opened
-  pub forms : List ℕ
-  pub tells : TellsForms status held written forms left_out
+  pub tells : TellsForms status held written (forms is_opened.world content) (left_out_lines is_opened.world) lines
   pub disk_is : back ≡ opened.disk
 
 -- ---- over the files of a folder, of which no clause can say what they hold
@@ -145,11 +147,13 @@ TellsVersion WordsRefused held written = Unit {0}
 TellsVersion LeftOut held written = ⊥
 TellsVersion (Fault number) held written = Unit {0}
 
--- and some forms
-abbrev pub WritesForms : Status → List ℕ → Option (List ℕ) → Type 0
-WritesForms Done held written = (forms : List ℕ) × (written ≡ Some (held ++ forms))
-WritesForms LeftOut held written = (forms : List ℕ) × (written ≡ Some (held ++ forms))
-WritesForms FormRefused held written = ⊥
-WritesForms Helped held written = Unit {0}
-WritesForms WordsRefused held written = Unit {0}
-WritesForms (Fault number) held written = Unit {0}
+-- and the forms of some world; the lines are on the properties of it that no form can set
+abbrev pub WritesForms : Content → Status → List ℕ → List ℕ → Option (List ℕ) → Type 0
+WritesForms content Done lines held written =
+    (world : WorldState) × (written ≡ Some (held ++ forms world content)) × (left_out_lines world ≡ [])
+WritesForms content LeftOut lines held written =
+    (world : WorldState) × (written ≡ Some (held ++ forms world content)) × (lines ≡ left_out_lines world)
+WritesForms content FormRefused lines held written = ⊥
+WritesForms content Helped lines held written = Unit {0}
+WritesForms content WordsRefused lines held written = Unit {0}
+WritesForms content (Fault number) lines held written = Unit {0}

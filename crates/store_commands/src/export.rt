@@ -1,7 +1,9 @@
 // The forms that make the world of the store that a disk holds.
-ghost use Rattle.std.specs.Prelude.{◌≡◌, ◌<◌, ◌-◌, ◌^◌, ℕ, List, IsSome, IfOk, IfErr};
+ghost use Rattle.std.specs.Prelude.{◌≡◌, ◌<◌, ◌-◌, ◌^◌, IsSome, IfSome, IfOk, IfErr};
 ghost use Rattle.prevalence_store.specs.calls.Open.{IsUnopened};
 ghost use Rattle.user_macros.specs.Functions.{are_registered};
+ghost use Rattle.world_forms.specs.Forms.{forms};
+ghost use Rattle.world_forms.specs.Properties.{left_out_lines};
 ghost use Rattle.store_commands.specs.Report.{IsExport, TellsForms};
 ghost use Rattle.store_commands.specs.Session.{half_limit};
 
@@ -37,7 +39,7 @@ where
     O: Write,
     requires room { (D.state disk).failures < 2 ^ 64 - 1 }
     requires answers { M.answers macros }
-    ensures exports { IfOk result (λ p. IsExport M.Meaning.functions D.state
+    ensures exports { IfOk result (λ p. IsExport M.Meaning.functions D.state content
         disk macros (O.contents output.old) (O.contents output.new) p.0 p.1 p.3.items) }
     ensures kept { IfOk result (λ p. p.2 ≡ macros) }
     ensures refused { IfErr result (λ e. IsUnopened M.Meaning.functions D.state disk
@@ -59,8 +61,8 @@ fn write_forms<D: Disk, M, O: Write>(
     output: &mut O,
 ) -> (Status, Vec<u8>)
     requires known { IsSome store.now.world }
-    ensures { (forms : List ℕ)
-        × TellsForms result.0 (O.contents output.old) (O.contents output.new) forms result.1.items }
+    ensures { IfSome store.now.world (λ world. TellsForms result.0 (O.contents output.old) (O.contents output.new)
+        (forms world content) (left_out_lines world) result.1.items) }
 {
     // a store that was just opened has a world
     let Some(world) = store.world() else {
@@ -77,8 +79,8 @@ fn write_forms<D: Disk, M, O: Write>(
 
 // Writes forms.
 fn write_exported<O: Write>(exported: &Export, output: &mut O) -> Status
-    ensures { TellsForms result (O.contents output.old) (O.contents output.new) exported.now.forms.items
-        exported.now.left_out.items }
+    ensures { TellsForms result (O.contents output.old) (O.contents output.new)
+        exported.now.forms.items exported.now.left_out.items exported.now.left_out.items }
 {
     match write_out(output, exported.forms.as_slice()) {
         Ok(()) if exported.left_out.is_empty() => Status::Done,

@@ -1,23 +1,35 @@
 //! The forms that make the properties.
-ghost use Rattle.std.specs.Prelude.{◌≡◌, true};
-ghost use Rattle.lisp_object.specs.Datum.{is_proper};
+ghost use Rattle.std.specs.Prelude.{◌≡◌, ◌++◌, true, codes, IfOk, OnOk};
+ghost use Rattle.std.specs.List.{flat_map};
+ghost use Rattle.lisp_object.specs.Datum.{object_of, is_proper};
+ghost use Rattle.readtable_core.specs.Tables.{standard};
+ghost use Rattle.lisp_reading.specs.Reading.{Outcome, reads};
+ghost use Rattle.form_reader.specs.Reader.{IsOutcome};
+ghost use Rattle.plist_state.specs.Readers.{borrowed_symbol, borrowed_symbols};
+ghost use Rattle.plist_state.specs.Shown.{property_of};
+ghost use Rattle.canon_printer.specs.Written.{Writes};
+ghost use Rattle.world_forms.specs.Tokens.{line, symbol_text, quoted_text};
+ghost use Rattle.world_forms.specs.Properties.{form_setting, ends_at, property_form, is_form, property_line, left_out_line, plist_lines, plist_left_out, property_lines, left_out_lines};
 
 use crate::texts::{push_symbol, push_value};
 use canon_printer::print;
 use form_reader::{Limits, ReadOutcome, read_one};
 use package_table::Packages;
 use package_table::standardized::COMMON_LISP_USER;
-use plist_state::{Property, World};
+use plist_state::{Property, PropertyList, World};
 use readtable_core::Readtable;
 use std::alloc::{AllocError, Global};
 use user_macros::{Macros, NoFunctions};
 
 /// Adds what evaluates to a symbol: its token after a quote.
-fn push_quoted(text: &mut Vec<u8>, home: &[u8], name: &[u8]) -> Result<(), AllocError> {
-    push_value(text, (b"'", b""), home, name)
+fn push_quoted(text: &mut Vec<u8>, home: &[u8], name: &[u8]) -> Result<(), AllocError>
+    ensures { OnOk result (Writes text.old text.new (quoted_text home.now name.now)) }
+{
+    push_value(text, b"'", b"", home, name)
 }
 
 /// The form that sets a property.
+#[tactic(auto, unfolding(crate::specs::Properties::property_form))]
 fn form_of(
     alloc: Global,
     packages: &Packages,
@@ -26,6 +38,8 @@ fn form_of(
     property: &Property<'_>,
 ) -> Result<Vec<u8>, AllocError>
     requires { is_proper property.now.value.now ≡ true }
+    ensures { IfOk result (λ form. form.items
+        ≡ property_form packages.now.0 (home.now, name.now) (property_of property.now)) }
 {
     packages.soundness();
     let mut form = Vec::new(alloc);
@@ -40,19 +54,22 @@ fn form_of(
     Ok(form)
 }
 
-/// Whether a text is read whole, as one form. What is too long or too deep for a form is not.
-fn is_form(
+/// What a text begins with, read as the forms are.
+#[tactic(auto, using(crate::proofs::Settings::read_so))]
+fn read_form(
     alloc: Global,
     readtable: &Readtable,
     packages: &Packages,
     text: &[u8],
-) -> Result<bool, AllocError> {
+) -> Result<ReadOutcome, AllocError>
+    requires { readtable.now ≡ standard }
+    ensures { IfOk result (λ read. IsOutcome read (reads (form_setting packages.now.0) text.now)) }
+{
     packages.soundness();
     let macros = Macros::new(alloc, NoFunctions);
-    let limits = Limits::form();
     let read = read_one(
         alloc,
-        limits,
+        Limits::form(),
         readtable,
         10,
         packages,
@@ -60,48 +77,165 @@ fn is_form(
         &macros,
         text,
     )?;
+    Ok(read)
+}
+
+/// Whether it is a form that ends at this place.
+fn ends_at(read: &ReadOutcome, len: usize) -> bool
+    ensures { (outcome : Outcome) → IsOutcome read.now outcome → result ≡ ends_at outcome len }
+{
     match read {
-        ReadOutcome::Form { end, .. } => Ok(end == text.len()),
-        ReadOutcome::Empty | ReadOutcome::Refused { .. } => Ok(false),
+        ReadOutcome::Form { end, .. } => *end == len,
+        ReadOutcome::Empty | ReadOutcome::Refused { .. } => false,
     }
 }
 
-/// Adds the forms that set the properties of a symbol, in their order; those that no form can set go to `left_out`, a line each.
+/// Whether a text is read whole, as one form. What is too long or too deep for a form is not.
+#[tactic(auto, unfolding(crate::specs::Properties::is_form))]
+fn is_form(
+    alloc: Global,
+    readtable: &Readtable,
+    packages: &Packages,
+    text: &[u8],
+) -> Result<bool, AllocError>
+    requires { readtable.now ≡ standard }
+    ensures { IfOk result (λ is. is ≡ is_form packages.now.0 text.now) }
+{
+    let read = read_form(alloc, readtable, packages, text)?;
+    Ok(ends_at(&read, text.len()))
+}
+
+/// Adds the line of a property that no form can set: the symbol and its indicator.
+fn push_names(
+    left_out: &mut Vec<u8>,
+    home: &[u8],
+    name: &[u8],
+    property: &Property<'_>,
+) -> Result<(), AllocError>
+    ensures { OnOk result (Writes left_out.old left_out.new (line (symbol_text home.now name.now
+        ++ codes " " ++ symbol_text property.now.home.now property.now.name.now))) }
+{
+    push_symbol(left_out, home, name)?;
+    left_out.push(b' ')?;
+    push_symbol(left_out, property.home, property.name)?;
+    left_out.push(b'\n')?;
+    Ok(())
+}
+
+/// Adds the form that sets a property of a symbol, or the line of one that no form can set to `left_out`.
+#[tactic(auto, unfolding(crate::specs::Properties::property_line, crate::specs::Properties::left_out_line))]
+fn push_property(
+    alloc: Global,
+    text: &mut Vec<u8>,
+    left_out: &mut Vec<u8>,
+    packages: &Packages,
+    readtable: &Readtable,
+    symbol: &(&[u8], &[u8]),
+    property: &Property<'_>,
+) -> Result<(), AllocError>
+    requires proper { is_proper property.now.value.now ≡ true }
+    requires readtable { readtable.now ≡ standard }
+    ensures text { OnOk result (Writes text.old text.new
+        (property_line packages.now.0 (borrowed_symbol symbol.now) (property_of property.now))) }
+    ensures left_out { OnOk result (Writes left_out.old left_out.new
+        (left_out_line packages.now.0 (borrowed_symbol symbol.now) (property_of property.now))) }
+{
+    let (home, name) = symbol;
+    let form = form_of(alloc, packages, home, name, property)?;
+    if is_form(alloc, readtable, packages, form.as_slice())? {
+        text.extend_from_slice(form.as_slice())?;
+        text.push(b'\n')?;
+        return Ok(());
+    }
+    push_names(left_out, home, name, property)
+}
+
+/// Adds those of a symbol, in the order of its list.
+fn push_listed(
+    alloc: Global,
+    text: &mut Vec<u8>,
+    left_out: &mut Vec<u8>,
+    packages: &Packages,
+    readtable: &Readtable,
+    symbol: &(&[u8], &[u8]),
+    properties: &PropertyList<'_>,
+) -> Result<(), AllocError>
+    requires { readtable.now ≡ standard }
+    ensures text { OnOk result (Writes text.old text.new
+        (flat_map (property_line packages.now.0 (borrowed_symbol symbol.now)) properties.now)) }
+    ensures left_out { OnOk result (Writes left_out.old left_out.new
+        (flat_map (left_out_line packages.now.0 (borrowed_symbol symbol.now)) properties.now)) }
+{
+    for index in 0..properties.len() {
+        let property = properties.at(index);
+        push_property(
+            alloc, text, left_out, packages, readtable, symbol, &property,
+        )?;
+    }
+    Ok(())
+}
+
+/// Adds the forms that set the properties of a symbol; those that no form can set go to `left_out`, a line each.
+#[tactic(auto, unfolding(crate::specs::Properties::plist_lines, crate::specs::Properties::plist_left_out))]
 fn push_plist(
     alloc: Global,
     text: &mut Vec<u8>,
     left_out: &mut Vec<u8>,
     world: &World,
     readtable: &Readtable,
-    (home, name): (&[u8], &[u8]),
-) -> Result<(), AllocError> {
-    let plist = world.plist_of(home, name);
-    for index in 0..plist.len() {
-        let property = plist.at(index);
-        let form = form_of(alloc, world.packages(), home, name, &property)?;
-        if is_form(alloc, readtable, world.packages(), form.as_slice())? {
-            text.extend_from_slice(form.as_slice())?;
-            text.push(b'\n')?;
-        } else {
-            push_symbol(left_out, home, name)?;
-            left_out.push(b' ')?;
-            push_symbol(left_out, property.home, property.name)?;
-            left_out.push(b'\n')?;
-        }
+    symbol: &(&[u8], &[u8]),
+) -> Result<(), AllocError>
+    requires { readtable.now ≡ standard }
+    ensures text { OnOk result (Writes text.old text.new
+        (plist_lines world.now.0 (borrowed_symbol symbol.now))) }
+    ensures left_out { OnOk result (Writes left_out.old left_out.new
+        (plist_left_out world.now.0 (borrowed_symbol symbol.now))) }
+{
+    let (home, name) = symbol;
+    let properties = world.plist_of(home, name);
+    push_listed(
+        alloc,
+        text,
+        left_out,
+        world.packages(),
+        readtable,
+        symbol,
+        &properties,
+    )
+}
+
+fn push_plists(
+    alloc: Global,
+    text: &mut Vec<u8>,
+    left_out: &mut Vec<u8>,
+    world: &World,
+    readtable: &Readtable,
+    symbols: &[(&[u8], &[u8])],
+) -> Result<(), AllocError>
+    requires { readtable.now ≡ standard }
+    ensures text { OnOk result (Writes text.old text.new
+        (flat_map (plist_lines world.now.0) (borrowed_symbols symbols.now))) }
+    ensures left_out { OnOk result (Writes left_out.old left_out.new
+        (flat_map (plist_left_out world.now.0) (borrowed_symbols symbols.now))) }
+{
+    for symbol in symbols {
+        push_plist(alloc, text, left_out, world, readtable, symbol)?;
     }
     Ok(())
 }
 
 /// Adds the forms that set the properties of a world.
+#[tactic(auto, unfolding(crate::specs::Properties::property_lines, crate::specs::Properties::left_out_lines))]
 pub(crate) fn push_properties(
     alloc: Global,
     text: &mut Vec<u8>,
     left_out: &mut Vec<u8>,
     world: &World,
-) -> Result<(), AllocError> {
+) -> Result<(), AllocError>
+    ensures text { OnOk result (Writes text.old text.new (property_lines world.now.0)) }
+    ensures left_out { OnOk result (Writes left_out.old left_out.new (left_out_lines world.now.0)) }
+{
     let readtable = Readtable::standard(alloc)?;
-    for symbol in world.owners(alloc)? {
-        push_plist(alloc, text, left_out, world, &readtable, symbol)?;
-    }
-    Ok(())
+    let symbols = world.owners(alloc)?;
+    push_plists(alloc, text, left_out, world, &readtable, symbols.as_slice())
 }

@@ -1,5 +1,11 @@
 //! Names, texts, symbols and characters as they stand in a form.
-ghost use Rattle.std.specs.Prelude.{◌<◌};
+ghost use Rattle.std.specs.Prelude.{◌≡◌, ◌<◌, [], ◌∷◌, ◌++◌, map, if◌then◌else◌, codes, OnOk};
+ghost use Rattle.std.specs.List.{list_all, flat_map};
+ghost use Rattle.canon_printer.specs.Names.{escaped, is_escaped_in_bars, is_invalid};
+ghost use Rattle.canon_printer.specs.Written.{Writes, printed_text};
+ghost use Rattle.package_table.specs.Readers.{names_of};
+ghost use Rattle.world_forms.specs.Tokens.{is_plain, is_plain_after, name_text, prefix_text, symbol_text, prefix_length, is_too_long};
+ghost use Rattle.world_forms.specs.Tokens.{text_argument, call_text, value_text, quoted_text, character_argument, keyword_argument};
 
 use canon_printer::print;
 use lisp_object::Datum;
@@ -9,7 +15,10 @@ use package_table::standardized::{COMMON_LISP_USER, KEYWORD};
 use std::alloc::{AllocError, Global};
 
 /// Adds a byte, after a backslash if it would not stand for itself.
-fn push_byte(text: &mut Vec<u8>, byte: u8, is_escaped: bool) -> Result<(), AllocError> {
+fn push_byte(text: &mut Vec<u8>, byte: u8, is_escaped: bool) -> Result<(), AllocError>
+    ensures { OnOk result (Writes text.old text.new
+        (if is_escaped then codes "\\" ++ byte ∷ [] else byte ∷ [])) }
+{
     if is_escaped {
         text.push(b'\\')?;
     }
@@ -18,7 +27,9 @@ fn push_byte(text: &mut Vec<u8>, byte: u8, is_escaped: bool) -> Result<(), Alloc
 }
 
 /// Adds a text.
-pub(crate) fn push_text(text: &mut Vec<u8>, bytes: &[u8]) -> Result<(), AllocError> {
+pub(crate) fn push_text(text: &mut Vec<u8>, bytes: &[u8]) -> Result<(), AllocError>
+    ensures { OnOk result (Writes text.old text.new (printed_text bytes.now)) }
+{
     text.push(b'"')?;
     for byte in bytes {
         push_byte(text, *byte, *byte == b'"' || *byte == b'\\')?;
@@ -27,14 +38,25 @@ pub(crate) fn push_text(text: &mut Vec<u8>, bytes: &[u8]) -> Result<(), AllocErr
     Ok(())
 }
 
-/// Whether a character between bars needs a backslash: a bar, a backslash, and one whose syntax type is invalid (standard 2.1.4),
-/// which no token takes without one.
-fn is_escaped_in_bars(byte: u8) -> bool {
-    byte == b'|' || byte == b'\\' || byte < 8 || byte == 11 || (14 <= byte && byte < 32)
+// Whether the character has syntax type invalid in the standard readtable (standard 2.1.4): no token takes it without a backslash.
+fn is_invalid(c: u8) -> bool
+    ensures { result ≡ is_invalid c }
+{
+    c < 8 || c == 11 || (14 <= c && c < 32)
+}
+
+/// Whether a character between bars needs a backslash: a bar, a backslash, and what no token takes without one.
+fn is_escaped_in_bars(c: u8) -> bool
+    ensures { result ≡ is_escaped_in_bars c }
+{
+    c == b'|' || c == b'\\' || is_invalid(c)
 }
 
 /// Adds a name between bars.
-fn push_barred(text: &mut Vec<u8>, name: &[u8]) -> Result<(), AllocError> {
+fn push_barred(text: &mut Vec<u8>, name: &[u8]) -> Result<(), AllocError>
+    ensures { OnOk result (Writes text.old text.new
+        (codes "|" ++ escaped is_escaped_in_bars name.now ++ codes "|")) }
+{
     text.push(b'|')?;
     for byte in name {
         push_byte(text, *byte, is_escaped_in_bars(*byte))?;
@@ -43,19 +65,32 @@ fn push_barred(text: &mut Vec<u8>, name: &[u8]) -> Result<(), AllocError> {
     Ok(())
 }
 
+fn is_plain_after(c: u8) -> bool
+    ensures { result ≡ is_plain_after c }
+{
+    c.is_ascii_uppercase() || c.is_ascii_digit() || c == b'-'
+}
+
+fn are_plain_after(name: &[u8]) -> bool
+    ensures { result ≡ list_all is_plain_after name.now }
+{
+    name.iter().all(|c| is_plain_after(*c))
+}
+
 /// Whether a name is read as it stands: a capital letter, and then capital letters, digits and hyphens.
-fn is_plain(name: &[u8]) -> bool {
-    let Some(first) = name.first() else {
-        return false;
-    };
-    first.is_ascii_uppercase()
-        && name.iter().all(|byte| byte.is_ascii_uppercase()
-            || byte.is_ascii_digit()
-            || *byte == b'-')
+fn is_plain(name: &[u8]) -> bool
+    ensures { result ≡ is_plain name.now }
+{
+    match name {
+        [] => false,
+        [first, others @ ..] => first.is_ascii_uppercase() && are_plain_after(others),
+    }
 }
 
 /// Adds a name as a part of a token.
-fn push_name(text: &mut Vec<u8>, name: &[u8]) -> Result<(), AllocError> {
+fn push_name(text: &mut Vec<u8>, name: &[u8]) -> Result<(), AllocError>
+    ensures { OnOk result (Writes text.old text.new (name_text name.now)) }
+{
     if is_plain(name) {
         text.extend_from_slice(name)
     } else {
@@ -63,41 +98,63 @@ fn push_name(text: &mut Vec<u8>, name: &[u8]) -> Result<(), AllocError> {
     }
 }
 
-/// Adds the token of a symbol: the name alone if its home is COMMON-LISP-USER, and else after its home.
-pub(crate) fn push_symbol(text: &mut Vec<u8>, home: &[u8], name: &[u8]) -> Result<(), AllocError> {
+/// Adds what comes before the name of a symbol.
+fn push_prefix(text: &mut Vec<u8>, home: &[u8]) -> Result<(), AllocError>
+    ensures { OnOk result (Writes text.old text.new (prefix_text home.now)) }
+{
     if home == KEYWORD {
-        text.push(b':')?;
-    } else if home != COMMON_LISP_USER {
-        push_name(text, home)?;
-        text.extend_from_slice(b"::")?;
+        return text.extend_from_slice(b":");
     }
+    if home == COMMON_LISP_USER {
+        return Ok(());
+    }
+    push_name(text, home)?;
+    text.extend_from_slice(b"::")
+}
+
+/// Adds the token of a symbol: the name alone if its home is COMMON-LISP-USER, and else after its home.
+#[tactic(auto, unfolding(crate::specs::Tokens::symbol_text))]
+pub(crate) fn push_symbol(text: &mut Vec<u8>, home: &[u8], name: &[u8]) -> Result<(), AllocError>
+    ensures { OnOk result (Writes text.old text.new (symbol_text home.now name.now)) }
+{
+    push_prefix(text, home)?;
     push_name(text, name)
 }
 
 /// How many characters of a symbol's token come before its name.
-fn prefix_len(home: &[u8]) -> usize {
+fn prefix_len(home: &[u8]) -> usize
+    ensures { result ≡ prefix_length home.now }
+{
     if home == KEYWORD {
         1
     } else if home == COMMON_LISP_USER {
         0
     } else {
-        home.len().saturating_add(2)
+        home.len() + 2
     }
 }
 
 /// Whether the token of a symbol has more characters than one in a form may have.
-fn is_too_long(home: &[u8], name: &[u8]) -> bool {
+#[tactic(auto, unfolding(crate::specs::Tokens::is_too_long))]
+fn is_too_long(home: &[u8], name: &[u8]) -> bool
+    ensures { result ≡ is_too_long home.now name.now }
+{
     prefix_len(home).saturating_add(name.len()) > Limits::form().token
 }
 
 /// Adds what evaluates to a symbol, with the marks round a token that keep it from being evaluated. A symbol whose token would be too
 /// long is the value of INTERN, which finds it.
+#[tactic(auto, unfolding(crate::specs::Tokens::value_text))]
 pub(crate) fn push_value(
     text: &mut Vec<u8>,
-    (before, after): (&[u8], &[u8]),
+    before: &[u8],
+    after: &[u8],
     home: &[u8],
     name: &[u8],
-) -> Result<(), AllocError> {
+) -> Result<(), AllocError>
+    ensures { OnOk result (Writes text.old text.new
+        (value_text before.now after.now home.now name.now)) }
+{
     if is_too_long(home, name) {
         return push_call(text, b"INTERN", &[name, home]);
     }
@@ -106,23 +163,42 @@ pub(crate) fn push_value(
     text.extend_from_slice(after)
 }
 
-/// Adds a call of an operator with texts.
-pub(crate) fn push_call(
-    text: &mut Vec<u8>,
-    operator: &[u8],
-    texts: &[&[u8]],
-) -> Result<(), AllocError> {
-    text.push(b'(')?;
-    text.extend_from_slice(operator)?;
+/// Adds texts as arguments.
+fn push_arguments(text: &mut Vec<u8>, texts: &[&[u8]]) -> Result<(), AllocError>
+    ensures { OnOk result (Writes text.old text.new (flat_map text_argument (names_of texts.now))) }
+{
     for argument in texts {
         text.push(b' ')?;
         push_text(text, argument)?;
     }
+    Ok(())
+}
+
+/// Adds a call of an operator with texts.
+#[tactic(auto, unfolding(crate::specs::Tokens::call_text))]
+pub(crate) fn push_call(
+    text: &mut Vec<u8>,
+    operator: &[u8],
+    texts: &[&[u8]],
+) -> Result<(), AllocError>
+    ensures { OnOk result (Writes text.old text.new (call_text operator.now (names_of texts.now))) }
+{
+    text.push(b'(')?;
+    text.extend_from_slice(operator)?;
+    push_arguments(text, texts)?;
     text.push(b')')?;
     Ok(())
 }
 
-/// Adds a character below 128.
+/// Adds a keyword as an argument.
+pub(crate) fn push_keyword(text: &mut Vec<u8>, name: &[u8]) -> Result<(), AllocError>
+    ensures { OnOk result (Writes text.old text.new (keyword_argument name.now)) }
+{
+    text.push(b' ')?;
+    push_symbol(text, KEYWORD, name)
+}
+
+/// Adds a character below 128 as an argument.
 pub(crate) fn push_character(
     alloc: Global,
     text: &mut Vec<u8>,
@@ -130,8 +206,10 @@ pub(crate) fn push_character(
     character: u8,
 ) -> Result<(), AllocError>
     requires { character < 128 }
+    ensures { OnOk result (Writes text.old text.new (character_argument character)) }
 {
     packages.soundness();
     let printed = print(alloc, &Datum::Char(character), packages, COMMON_LISP_USER)?;
+    text.push(b' ')?;
     text.extend_from_slice(printed.as_slice())
 }

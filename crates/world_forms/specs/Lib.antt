@@ -1,0 +1,5 @@
+pub mod Forms
+pub mod Packages
+pub mod Properties
+pub mod Readtables
+pub mod Tokens
