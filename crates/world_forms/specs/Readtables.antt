@@ -1,8 +1,7 @@
 -- The forms that make the readtables of a world, in the order of their names: each a copy of the standard one, and then what differs.
 use Rattle.std.specs.Prelude.{ℕ, ◌==◌, ◌&&◌, is_none, if◌then◌else◌, List, [], ◌++◌, codes, Option, Some, None, get_or}
-use Rattle.std.specs.List.{flat_map, range_with_len}
+use Rattle.std.specs.List.{find, flat_map, range_with_len}
 use Rattle.std.specs.Option.{option_map_or}
-use Rattle.core.specs.List.{find}
 use Rattle.std.specs.Str.{bytes_eq}
 use Rattle.std.specs.FinMap as finite
 use Rattle.readtable_core.specs.declared.characters.Syntax.{Syntax}
