@@ -52,7 +52,7 @@ impl<D: Disk, R: MacroFunctions> Store<D, R> {
             → (result ≡ Ending.Store REOPEN) × (self.new ≡ self.old)
             × (reader.new ≡ reader.old) × (writer.new ≡ writer.old) }
         ensures serves { (world : WorldState) → self.old.world ≡ Some world
-            → ServesInput R.Meaning.functions D.state snapshot_every self.old self.new world mode
+            → ServesInput R.Meaning.functions D.state false snapshot_every self.old self.new world mode
             (I.remaining reader.old) (I.remaining reader.new) (W.contents writer.old) (W.contents writer.new) result }
         ensures honest { (D.state self.new.disk).honest ≡ (D.state self.old.disk).honest }
         ensures macros { self.new.macros ≡ self.old.macros }
@@ -61,6 +61,7 @@ impl<D: Disk, R: MacroFunctions> Store<D, R> {
             mode,
             snapshot_every,
             strict: false,
+            group: false,
         };
         match self.serve_wanted(reader, writer, wanted) {
             Ended::End => Ending::End,
@@ -131,7 +132,7 @@ impl<D: Disk, R: MacroFunctions> Store<D, R> {
         requires count { (course_of course.old).bytes + fed pending.old.reader + length piece.now < 2 ^ 63 }
         ensures answers { (w : WorldState) → self.old.world ≡ Some w → (bytes : List ℕ)
             → IsPending R.Meaning.functions w wanted.mode pending.old bytes
-            → Answers R.Meaning.functions D.state wanted.strict (course_of course.old) (course_of course.new) self.old self.new w wanted.mode
+            → Answers R.Meaning.functions D.state wanted (course_of course.old) (course_of course.new) self.old self.new w wanted.mode
             (bytes ++ piece.now) (W.contents writer.old) (W.contents writer.new) pending.new result }
         ensures forms { (course_of course.new).forms ≤ (course_of course.new).bytes }
         ensures count { (course_of course.new).bytes + fed pending.new.reader
@@ -167,7 +168,7 @@ impl<D: Disk, R: MacroFunctions> Store<D, R> {
         requires count { (course_of course.old).bytes + fed pending.old.reader + length piece.now < 2 ^ 63 }
         ensures answers { (w : WorldState) → self.old.world ≡ Some w → (bytes : List ℕ)
             → IsPending R.Meaning.functions w wanted.mode pending.old bytes
-            → ComesTo R.Meaning.functions D.state wanted.strict (course_of course.old) (course_of course.new) self.old self.new w wanted.mode
+            → ComesTo R.Meaning.functions D.state wanted (course_of course.old) (course_of course.new) self.old self.new w wanted.mode
             (bytes ++ piece.now) (W.contents writer.old) (W.contents writer.new) pending.new piece.now result }
         ensures some { MovesOn (fed pending.old.reader) (fed pending.new.reader)
             (length piece.now) result }
@@ -232,7 +233,7 @@ impl<D: Disk, R: MacroFunctions> Store<D, R> {
         requires count { (course_of course.old).bytes + fed pending.reader < 2 ^ 63 }
         ensures ends { (w : WorldState) → self.old.world ≡ Some w → (bytes : List ℕ)
             → IsPending R.Meaning.functions w wanted.mode pending bytes
-            → EndsAt R.Meaning.functions D.state wanted.strict (course_of course.old) self.old self.new w wanted.mode
+            → EndsAt R.Meaning.functions D.state wanted (course_of course.old) self.old self.new w wanted.mode
             bytes (W.contents writer.old) (W.contents writer.new) result }
         ensures honest { (D.state self.new.disk).honest ≡ (D.state self.old.disk).honest }
         ensures macros { self.new.macros ≡ self.old.macros }

@@ -16,7 +16,7 @@ pub returns-in-Err-clause-answers : goal.returns-in-Err-clause-answers
 returns-in-Err-clause-answers g c = λ w known bytes p more.
     let functions = g.R.Meaning.Meaning.functions in
     let held = g.W.Write.contents c.args.writer.now in
-    memory_ended functions g.D.Disk.state g.met.D.Disk.sound c.args.wanted.strict (course_of c.args.course.now) c.args.self.now w c.args.wanted.mode ((bytes ++ c.args.piece.now) ++ more) held known
+    memory_ended functions g.D.Disk.state g.met.D.Disk.sound c.args.wanted (course_of c.args.course.now) c.args.self.now w c.args.wanted.mode ((bytes ++ c.args.piece.now) ++ more) held known
 
 pub returns-in-Nothing-clause-answers : goal.returns-in-Nothing-clause-answers
 returns-in-Nothing-clause-answers g c = λ w known bytes p.
@@ -41,9 +41,9 @@ returns-in-Refused-clause-answers g c = λ w known bytes p.
     let f = c.in-Refused in
     let refuses = subst (λ (fed : Fed). Feeds functions w c.args.wanted.mode c.feed.new.pending text fed) f.is (c.in-Ok.ensures.feeds w known bytes p) in
     let place = c.place-place.ensures in
-    subst (λ ended. Answers functions g.D.Disk.state c.args.wanted.strict course course c.args.self.now c.answer_fault.new.self w c.args.wanted.mode (bytes ++ piece) held written c.feed.new.pending (Some ended)) (sym c.at.ensures)
-    (ended_within functions g.D.Disk.state c.args.wanted.strict course course c.args.self.now c.answer_fault.new.self w c.args.wanted.mode held written c.feed.new.pending bytes piece n (ended_at c.place-place.result c.answer_fault.result)
-    (fault_ended functions g.D.Disk.state g.met.D.Disk.sound c.args.wanted.strict course course c.args.self.now c.answer_fault.new.self w c.args.wanted.mode text held written c.feed.new.pending f.number known
+    subst (λ ended. Answers functions g.D.Disk.state c.args.wanted course course c.args.self.now c.answer_fault.new.self w c.args.wanted.mode (bytes ++ piece) held written c.feed.new.pending (Some ended)) (sym c.at.ensures)
+    (ended_within functions g.D.Disk.state c.args.wanted course course c.args.self.now c.answer_fault.new.self w c.args.wanted.mode held written c.feed.new.pending bytes piece n (ended_at c.place-place.result c.answer_fault.result)
+    (fault_ended functions g.D.Disk.state g.met.D.Disk.sound c.args.wanted course course c.args.self.now c.answer_fault.new.self w c.args.wanted.mode text held written c.feed.new.pending f.number known
     refuses.0 c.answer_fault.ensures.same f.start c.place-place.result place.0 place.1 (place.2 ∙ ap (λ k. course.bytes + k) (sym refuses.1)) refuses.2 c.answer_fault.result c.answer_fault.ensures.answers))
 
 pub place-place-requires-clause-start : goal.place-place-requires-clause-start
@@ -85,7 +85,7 @@ returns-clause-answers g c = λ w known bytes p.
     let f = c.in-Form in
     let has = subst (λ (fed : Fed). Feeds functions w c.args.wanted.mode c.feed.new.pending text fed) f.is (c.in-Ok.ensures.feeds w known bytes p) in
     let within = subst (λ (given : Fed). IsWithin (fed c.args.pending.now.reader + c.in-Ok.part.count) given) f.is c.in-Ok.ensures.part.places in
-    ended_within functions g.D.Disk.state c.args.wanted.strict course later c.args.self.now c.answer_read.new.self w c.args.wanted.mode held written c.feed.new.pending bytes piece n c.in-Err-answer_read.ended
+    ended_within functions g.D.Disk.state c.args.wanted course later c.args.self.now c.answer_read.new.self w c.args.wanted.mode held written c.feed.new.pending bytes piece n c.in-Err-answer_read.ended
     (λ more. read_ended functions g.D.Disk.state c.args.wanted course later c.args.self.now c.answer_read.new.self w (text ++ more) held written f.form.start f.form.next c.in-Err-answer_read.ended
     (c.in-Err-answer_read.ensures.answers w known (text ++ more) has.0.next
     (form_begins functions w c.args.wanted.mode c.feed.new.pending text (object_of f.form.datum) f.form.own.items f.left has.0 f.form.own.items more refl)
