@@ -159,13 +159,17 @@ form_framed setting whole x start «end» next e =
 
 -- ---- a form, attempt by attempt
 
-outcome_same : (setting : Setting) (more again : ℕ → List ℕ → Outcome) (start : ℕ) (whole : List ℕ) (r : Read Found) → first setting whole ≡ r → Parts 0 whole r
-    → ((at : ℕ) (cs : List ℕ) → length cs < length whole → more at cs ≡ again at cs) → outcome setting.table start more r ≡ outcome setting.table start again r
-outcome_same setting more again start whole (Ok (nothing token, at, cs)) found p same =
+-- what came to nothing took a byte
+pub nothing_takes : (setting : Setting) (whole cs : List ℕ) (token : Bool) (at : ℕ) → first setting whole ≡ Ok (nothing token, at, cs) → Parted 0 whole at cs → length cs < length whole
+nothing_takes setting whole cs token at found p =
     let some : 0 < at = eats setting.table setting.limits (attempt setting setting.limits.nesting) 0 at whole cs (nothing token)
     (λ f. let never : 0 ≡ 1 = ap count_of (sym (the_end_there setting) ∙ f) in omega (arith, never)) found in
     let total : length whole ≡ length p.taken + length cs = ap length p.split ∙ length-append p.taken cs in
-    same (start + at) cs (omega (arith, some, p.offset, total))
+    omega (arith, some, p.offset, total)
+
+outcome_same : (setting : Setting) (more again : ℕ → List ℕ → Outcome) (start : ℕ) (whole : List ℕ) (r : Read Found) → first setting whole ≡ r → Parts 0 whole r
+    → ((at : ℕ) (cs : List ℕ) → length cs < length whole → more at cs ≡ again at cs) → outcome setting.table start more r ≡ outcome setting.table start again r
+outcome_same setting more again start whole (Ok (nothing token, at, cs)) found p same = same (start + at) cs (nothing_takes setting whole cs token at found p)
 outcome_same setting more again start whole (Ok (one token x, at, cs)) found p same = refl
 outcome_same setting more again start whole (Ok (lone_dot, at, cs)) found p same = refl
 outcome_same setting more again start whole (Ok (the_end, at, cs)) found p same = refl

@@ -3,6 +3,7 @@ pub mod Framing
 pub mod Offsets
 pub mod Steps
 pub mod Forms
+pub mod Deciding
 pub mod Turns
 mod Rows
 pub mod Fed

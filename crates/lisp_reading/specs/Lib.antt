@@ -5,6 +5,7 @@ pub mod Setting
 pub mod Naming
 pub mod Answering
 pub mod Reading
+pub mod Deciding
 pub mod Fitting
 pub mod Discarding
 pub mod Depending

@@ -12,6 +12,7 @@ ghost use Rattle.lisp_reading.specs.Plans.{GiveSame, loop, run};
 ghost use Rattle.lisp_reading.specs.Setting.{Setting, setting_of};
 ghost use Rattle.lisp_reading.specs.Gathering.{text_turn, line_turn, block_turn, number_turn};
 ghost use Rattle.lisp_reading.specs.Reading.{is_whitespace, form, empty, refused, next_item_turn, next_item, items_turn, items_after, attempt, outcome, reads_at, reads, IsFramed};
+ghost use Rattle.lisp_reading.specs.Deciding.{deciding, decided_at, decided_from};
 ghost use Rattle.lisp_reading.specs.Depending.{FindsSame};
 ghost use Rattle.lisp_reading.specs.Discarding.{IsDiscarded};
 ghost use Rattle.lisp_reading.specs.Fitting.{IsFitting};
@@ -84,6 +85,16 @@ pub fn only_what_is_found_matters()
     ensures { (setting : Setting) (packages : Packages) (text : List ℕ)
         → FindsSame setting.packages packages
         → reads (record setting { packages = packages }) text ≡ reads setting text }
+{}
+
+/// Where the attempt begins that decides a text is, of a form, its start. It goes on attempt by attempt, and no number of turns
+/// is in it.
+pub fn a_text_is_decided()
+    ensures form { (setting : Setting) (text : List ℕ) (x : Object) (start end next : ℕ)
+        → reads setting text ≡ form x start end next → decided_from setting text ≡ start }
+    ensures goes_on { (setting : Setting) (start : ℕ) (text : List ℕ) → decided_at setting start text
+        ≡ deciding start (λ next cs. decided_at setting next cs)
+        (run setting.table setting.limits (attempt setting setting.limits.nesting) 0 text) }
 {}
 
 /// What is read is what the next byte says, and then what is read after it: before a form, before the next item of a call,

@@ -10,7 +10,7 @@
 //! - specs/Plans.antt: plans, and what they give; specs/Gathering.antt: texts, lines, blocks and numbers
 //! - specs/Calls.antt: calls; specs/Naming.antt: what a token means in packages; specs/Answering.antt: what a function of a
 //!   user may answer
-//! - specs/Reading.antt: objects, calls and forms
+//! - specs/Reading.antt: objects, calls and forms; specs/Deciding.antt: where the attempt begins that decides a text
 //! - specs/Discarding.antt, specs/Fitting.antt, specs/Depending.antt: words of the laws
 //!
 //! What holds of each reading is on functions that do nothing: `forms_are_framed` says that a form is read again from its own
@@ -24,7 +24,7 @@
 //! - `told`: what a token means
 //! - `laws`: `forms_are_framed`, `spaced_forms_are_framed`, `forms_are_within_the_limit`, `forms_are_decided`,
 //!   `refusals_are_decided`, `refusals_are_of_reading`, `empty_texts_are_discarded`, `forms_fit`,
-//!   `only_what_is_found_matters`, `only_registered_names_matter`, `reading_goes_on`
+//!   `only_what_is_found_matters`, `only_registered_names_matter`, `a_text_is_decided`, `reading_goes_on`
 #![tactic(auto)]
 
 mod call;
@@ -40,9 +40,10 @@ pub use call::Invoked;
 pub use found::Found;
 pub use held::{HeldCharacter, HeldNumber, HeldObject, HeldObjects, HeldText};
 pub use laws::{
-    empty_texts_are_discarded, forms_are_decided, forms_are_framed, forms_are_within_the_limit,
-    forms_fit, only_registered_names_matter, only_what_is_found_matters, reading_goes_on,
-    refusals_are_decided, refusals_are_of_reading, spaced_forms_are_framed,
+    a_text_is_decided, empty_texts_are_discarded, forms_are_decided, forms_are_framed,
+    forms_are_within_the_limit, forms_fit, only_registered_names_matter,
+    only_what_is_found_matters, reading_goes_on, refusals_are_decided, refusals_are_of_reading,
+    spaced_forms_are_framed,
 };
 pub use limits::Limits;
 pub use told::{TellError, Told, tell};

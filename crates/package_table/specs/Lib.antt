@@ -2,6 +2,7 @@ pub mod Limits
 pub mod Errors
 pub mod Table
 pub mod Lookup
+pub mod Symbols
 pub mod Numbers
 pub mod Numbering
 pub mod Resolving

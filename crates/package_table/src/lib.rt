@@ -12,7 +12,8 @@
 //!   names
 //! - `standardized`, `limits`, `initial`: the names of the first packages, how much there may be, and the first
 //!   packages
-//! - `find`, `resolve`: names of packages, and what the name in a token stands for; they take no memory
+//! - `find`, `resolve`: names of packages, and what the name in a token stands for; `one_package`: the same in a package
+//!   that was found before; they take no memory
 //! - `make`, `intern`, `export`, `import`, `use_package`: the calls that write, over `put` (single changes).
 //!   `specs/Changes.antt` says what each makes of a table, or why it refuses, and whether it changes it.
 //! - `marks`: `mark`, `back_to` and `settle`. The value of `Packages` has the marked tables beside the table of now:
@@ -54,6 +55,7 @@ mod lists;
 mod look_ups;
 mod make;
 mod marks;
+mod one_package;
 mod packages;
 mod put;
 mod queries;
@@ -64,6 +66,7 @@ mod use_package;
 pub use error::PackageError;
 pub use intern::Interned;
 pub use laws::look_up_laws;
+pub use one_package::OnePackage;
 pub use package_sets::Seed;
 pub use packages::Packages;
 pub use resolve::Resolved;

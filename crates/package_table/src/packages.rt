@@ -8,8 +8,9 @@ ghost use Rattle.package_table.specs.Readers.{names_of, package_names, used_name
 
 use crate::find::{is_locked, package_name};
 use crate::initial::first_packages;
-use crate::resolve::{resolve_external, resolve_in, resolve_internal};
-use crate::{PackageError, Resolved, lists};
+use crate::look_ups::package_number;
+use crate::resolve::{resolve_external, resolve_internal};
+use crate::{OnePackage, PackageError, Resolved, lists};
 use lisp_object::{Bytes, Items};
 use package_sets::{PackageSets, Seed, Sizes};
 use std::alloc::{AllocError, Global};
@@ -215,6 +216,17 @@ impl Packages {
         is_locked(owner)
     }
 
+    /// The package of this name, which exists: names are resolved in it without seeking it again. Takes no memory.
+    pub fn package(&self, owner: &[u8]) -> OnePackage<'_>
+        requires { IsPackage self.now.0 owner.now }
+        ensures { result ≡ (self.now.0, owner.now) }
+    {
+        match package_number(&self.sets, owner) {
+            Some(number) => OnePackage::at(&self.sets, number),
+            None => unreachable!(),
+        }
+    }
+
     /// What `name` stands for in the package `current`, which exists (standard 2.3.5): the symbol that it finds, or a
     /// new one. Takes no memory.
     ///
@@ -224,7 +236,7 @@ impl Packages {
         requires { IsPackage self.now.0 current.now }
         ensures { Answers resolution_of result (resolution self.now.0 current.now name.now) }
     {
-        resolve_in(&self.sets, current, name)
+        self.package(current).resolve(name)
     }
 
     /// The home of the external symbol `name` of the package that `prefix` names, by name or nickname (standard 2.3.5).

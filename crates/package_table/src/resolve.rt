@@ -1,13 +1,12 @@
 //! What the name in a token stands for (standard 2.3.5).
 ghost use Rattle.std.specs.Prelude.{◌≡◌};
-ghost use Rattle.package_table.specs.Table.{IsJoined, IsPackage};
+ghost use Rattle.package_table.specs.Table.{IsJoined};
 ghost use Rattle.package_table.specs.Meaning.{numbered_of};
-ghost use Rattle.package_table.specs.Resolving.{resolution, external_resolution, internal_resolution, resolution_of, Answers};
+ghost use Rattle.package_table.specs.Resolving.{external_resolution, internal_resolution, resolution_of, Answers};
 
-use crate::PackageError;
-use crate::find::package_name;
-use crate::look_ups::{external_home, home_of, stored_name};
-use crate::standardized::COMMON_LISP;
+use crate::find::{full_name, package_name};
+use crate::look_ups::{external_home, package_number};
+use crate::{OnePackage, PackageError};
 use package_sets::PackageSets;
 
 /// What a name stands for in a package.
@@ -17,29 +16,6 @@ pub enum Resolved<'a> {
     Found(&'a [u8]),
     /// A new symbol, by the name of the package that would be its home.
     New(&'a [u8]),
-}
-
-/// What the name stands for in the package `owner`, which exists.
-pub(crate) fn resolve_in<'a>(
-    sets: &'a PackageSets,
-    owner: &[u8],
-    name: &[u8],
-) -> Result<Resolved<'a>, PackageError>
-    requires package { IsPackage (numbered_of sets.now).0 owner.now }
-    requires joined { IsJoined (numbered_of sets.now).0 }
-    ensures { Answers resolution_of result
-        (resolution (numbered_of sets.now).0 owner.now name.now) }
-{
-    if let Some(home) = home_of(sets, owner, name) {
-        return Ok(Resolved::Found(home));
-    }
-    if owner == COMMON_LISP {
-        return Err(PackageError::LockedPackage);
-    }
-    match stored_name(sets, owner) {
-        Some(stored) => Ok(Resolved::New(stored)),
-        None => unreachable!(),
-    }
 }
 
 /// The home of the external symbol after one package marker.
@@ -70,8 +46,8 @@ pub(crate) fn resolve_internal<'a>(
     ensures { Answers resolution_of result
         (internal_resolution (numbered_of sets.now).0 prefix.now name.now) }
 {
-    match package_name(sets, prefix) {
-        Some(owner) => resolve_in(sets, owner, name),
+    match package_number(sets, full_name(prefix)) {
+        Some(number) => OnePackage::at(sets, number).resolve(name),
         None => Err(PackageError::NoPackage),
     }
 }

@@ -1,9 +1,9 @@
 -- A token that is a word is a name.
-use Rattle.std.proofs.Common.{◌≡◌, ℕ, suc, ◌+◌, ◌-◌, ◌*◌, ◌^◌, ◌<◌, ◌≤◌, pos, length, take, get_or, lit≤, add-one, length-append, Bool, true, false, not, ◌&&◌, ◌||◌, List, [], ◌∷◌, ◌++◌, map, None, Some, Result, Ok, Err, IfSome, IfOk, IsTrue, refl, sym, ap, subst, ◌∙◌, inl, inr, arith}
-use Rattle.std.specs.Prelude.{◌==◌, if◌then◌else◌, nat_lt, nat_le, MatchResult}
+use Rattle.std.proofs.Common.{◌≡◌, ℕ, ◌+◌, ◌-◌, ◌*◌, ◌^◌, ◌<◌, ◌≤◌, pos, length, take, get_or, lit≤, add-one, length-append, Bool, true, false, not, ◌||◌, List, [], ◌∷◌, ◌++◌, map, None, Some, Ok, Err, refl, sym, ap, ◌∙◌, arith}
+use Rattle.std.specs.Prelude.{◌==◌, if◌then◌else◌, nat_lt, nat_le}
 use Rattle.std.specs.List.{list_all, list_any, slice_split}
 use Rattle.std.specs.Char.{digit_value}
-use Rattle.std.proofs.lemmas.Bool.{and_parts, and_from, or_left, not-true, ltb-true, ltb-false, lt-ltb, le-ltb, leb-true, ne_eqb, both_ways}
+use Rattle.std.proofs.lemmas.Bool.{and_parts, and_from, not-true, ltb-true, lt-ltb, le-ltb, leb-true, ne_eqb}
 use Rattle.std.proofs.lemmas.Bool.Decides.{nat_tests}
 use Rattle.std.proofs.lemmas.List.{take_all, take_more}
 use Rattle.std.proofs.lemmas.List.Folds.{list_all_more}
@@ -11,20 +11,18 @@ use Rattle.std.proofs.Math.Nat.{pow-suc, pow-zero}
 use Rattle.lisp_object.specs.Ascii.{is_ascii}
 use Rattle.lisp_object.specs.Object.{Object, integer, symbol}
 use Rattle.readtable_core.specs.Characters.{is_lower_case, upper_case, is_digit}
-use Rattle.readtable_core.specs.declared.table.Case.{Case}
 use Rattle.readtable_core.specs.declared.table.Case.TheVariants.{Upcase}
 use Rattle.token_scan.specs.declared.mark.Mark.{Mark}
-use Rattle.token_scan.specs.declared.mark.Mark.TheVariants.{Plain, Quoted, Bar}
+use Rattle.token_scan.specs.declared.mark.Mark.TheVariants.{Plain}
 use Rattle.token_scan.specs.Marks.{characters}
-use Rattle.token_meaning.specs.declared.refusal.MeaningRefusal.{MeaningRefusal}
 use Rattle.token_meaning.specs.declared.refusal.MeaningRefusal.TheVariants.{NumberRange}
 use Rattle.token_meaning.specs.declared.token.TokenName.TheVariants.{Unqualified}
-use Rattle.token_meaning.specs.Folding.{on_plain, folded}
-use Rattle.token_meaning.specs.Numerals.{is_digit_in, is_sign, is_empty, is_numeral, are_digits, value}
-use Rattle.token_meaning.specs.Numbers.{is_point, integer_of, number_of}
-use Rattle.token_meaning.specs.Grammar.{Sign, absent, plus, minus, spelled, IsNumber}
-use Rattle.token_meaning.specs.Meanings.{Meaning, number, name, is_plain, is_package_marker, pattern, name_of, dots_of, number_or_name, meaning_of}
-use Rattle.token_meaning.proofs.Forms.{found}
+use Rattle.token_meaning.specs.Folding.{folded}
+use Rattle.token_meaning.specs.Numerals.{is_digit_in, is_empty, is_numeral, are_digits, value}
+use Rattle.token_meaning.specs.Numbers.{integer_of, number_of}
+use Rattle.token_meaning.specs.Grammar.{absent}
+use Rattle.token_meaning.specs.Meanings.{number, name, is_plain, is_package_marker, pattern, name_of, meaning_of}
+use Rattle.token_meaning.proofs.NumberFronts.{begins_number, no_number}
 use Rattle.token_meaning.proofs.Spelled.{digits_given}
 use Rattle.package_table.specs.Resolving.{Resolution, home_of, resolution}
 use Rattle.lisp_reading.specs.Naming.{told_of, symbol_in}
@@ -32,46 +30,6 @@ use Rattle.lisp_reading.specs.declared.told.Told.TheVariants.{Object as told_obj
 use Rattle.plain_reader.specs.declared.context.Context.{Context}
 use Rattle.plain_reader.specs.Tokens.{marks_of, IsToken}
 use Rattle.plain_reader.specs.Words.{is_word}
-
--- ---- what begins no number is none
-
-abbrev pub begins_number : ℕ → Bool
-begins_number c = is_digit_in 10 c || (is_sign c || is_point c)
-
-abbrev begins : List ℕ → Bool
-begins [] = false
-begins (c ∷ cs) = begins_number c
-
-signed_begins : (sign : Sign) (body : List ℕ) → begins body ≡ true → begins (spelled sign ++ body) ≡ true
-signed_begins absent body e = e
-signed_begins plus body e = refl
-signed_begins minus body e = refl
-
-numeral_begins : (ds more : List ℕ) → is_numeral 10 ds ≡ true → begins (ds ++ more) ≡ true
-numeral_begins [] more e = absurd cc
-numeral_begins (d ∷ ds) more e = or_left (is_digit_in 10 d) _ (and_parts (is_digit_in 10 d) (are_digits 10 ds) e).0
-
-bare_numeral_begins : (ds : List ℕ) → is_numeral 10 ds ≡ true → begins ds ≡ true
-bare_numeral_begins [] e = absurd cc
-bare_numeral_begins (d ∷ ds) e = or_left (is_digit_in 10 d) _ (and_parts (is_digit_in 10 d) (are_digits 10 ds) e).0
-
-point_begins : (ds more : List ℕ) → are_digits 10 ds ≡ true → begins (ds ++ 46 ∷ more) ≡ true
-point_begins [] more e = refl
-point_begins (d ∷ ds) more e = or_left (is_digit_in 10 d) _ (and_parts (is_digit_in 10 d) (are_digits 10 ds) e).0
-
-number_begins : (text : List ℕ) (given : Result Object MeaningRefusal) → IsNumber 10 text given → begins text ≡ true
-number_begins text given (inl (negative, size, inl h, is)) = ap begins h.parts ∙ signed_begins h.sign h.digits (bare_numeral_begins h.digits h.numeral)
-number_begins text given (inl (negative, size, inr h, is)) = ap begins h.parts ∙ signed_begins h.sign _ (numeral_begins h.digits _ h.numeral)
-number_begins text given (inr (inl (negative, numerator, denominator, h, is))) = ap begins h.parts ∙ signed_begins h.sign _ (numeral_begins h.above _ h.numeral_above)
-number_begins text given (inr (inr (inl h, is))) = ap begins h.parts ∙ signed_begins h.sign _ (point_begins h.whole _ h.digits)
-number_begins text given (inr (inr (inr h, is))) = ap begins h.parts ∙ signed_begins h.sign _ (numeral_begins h.whole _ h.numeral)
-
-no_number : (text : List ℕ) → begins text ≡ false → number_of 10 text ≡ None
-no_number text e =
-    elim (number_of 10 text) as (λ o. IfSome o (IsNumber 10 text) → o ≡ None) [
-      | None ↦ λ _. refl
-      | Some given ↦ λ is. absurd (both_ways (begins text) e (number_begins text given is))
-    ] (found 10 text)
 
 -- ---- characters beyond the digits
 

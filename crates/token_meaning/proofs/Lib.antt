@@ -8,6 +8,7 @@ pub mod Forms
 pub mod Fronts
 pub mod Loops
 pub mod Meant
+pub mod NumberFronts
 pub mod Parts
 pub mod Patterns
 pub mod Rationals

@@ -7,8 +7,9 @@ use Rattle.readtable_core.specs.declared.characters.Syntax.{Syntax}
 use Rattle.readtable_core.specs.declared.characters.Syntax.TheVariants.{Constituent}
 use Rattle.readtable_core.specs.Characters.{standard_syntax, has_invalid_trait, upper_case}
 use Rattle.token_scan.specs.Spelling.{is_plain, ends_tokens}
-use Rattle.token_meaning.specs.Numerals.{is_digit_in, is_sign}
+use Rattle.token_meaning.specs.Numerals.{is_digit_in}
 use Rattle.token_meaning.specs.Numbers.{is_point, is_slash}
+use Rattle.token_meaning.proofs.NumberFronts.{begins_number}
 use Rattle.canon_printer.specs.Names.{begins_plain, goes_on_plain, is_escaped_in_bars}
 
 abbrev pub is_constituent : Syntax → Bool
@@ -26,10 +27,6 @@ is_bare c = is_constituent (standard_syntax c) && not (has_invalid_trait c)
 -- and keeps its case
 abbrev pub is_kept : ℕ → Bool
 is_kept c = is_bare c && upper_case c == c
-
--- a number may begin with it
-abbrev pub begins_number : ℕ → Bool
-begins_number c = is_digit_in 10 c || (is_sign c || is_point c)
 
 abbrev pub in_number : ℕ → Bool
 in_number c = is_digit_in 10 c || (c == 45 || is_slash c)
