@@ -20,3 +20,4 @@ pub mod Inputs
 pub mod Gathering
 pub mod Counting
 pub mod Gathered
+pub mod TakingGroups

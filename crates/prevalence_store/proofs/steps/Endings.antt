@@ -48,7 +48,7 @@ module _ (functions : Functions) where
   -- ---- with groups or without
 
   module _ {D R : Type 0} (state : D → State) (old new : StoreView D R) (w : WorldState) (mode : Mode) (text : List ℕ) (held written : Option (List ℕ)) (group : Bool) where
-    ends_any : (forms : ℕ) (far : Progress) (lines : ℕ) (answered : Progress) (part : List ℕ) (ending : Ending)
+    pub ends_any : (forms : ℕ) (far : Progress) (lines : ℕ) (answered : Progress) (part : List ℕ) (ending : Ending)
         → Ends functions state old new w mode text held written forms far lines answered part false ending → Ends functions state old new w mode text held written forms far lines answered part group ending
     ends_any forms far lines answered part End ends = ends
     ends_any forms far lines answered part (Reader number) ends = ends

@@ -5,6 +5,7 @@ use Rattle.std.specs.List.{flat_map}
 use Rattle.std.proofs.lemmas.List.{drop-drop}
 use Rattle.disk_trait.specs.Disk.{State, IsHonest, IsSound}
 use Rattle.gate_log.specs.Layout.{LogRecord, open_record}
+use Rattle.lisp_object.specs.Object.{Object}
 use Rattle.lisp_object.specs.declared.refusal.TheConstants.{DEVICE, OUTPUT}
 use Rattle.lisp_operators.specs.Evaluation.{Evaluation}
 use Rattle.lisp_reading.specs.Reading.{Outcome as Reading, form, empty, refused}
@@ -15,6 +16,7 @@ use Rattle.prevalence_store.specs.declared.mode.Mode.{Mode}
 use Rattle.prevalence_store.specs.declared.outcome.Ended.TheVariants as ways
 use Rattle.prevalence_store.specs.declared.outcome.Wanted.{Wanted}
 use Rattle.prevalence_store.specs.declared.session.gather.Gathered.{Gathered}
+use Rattle.prevalence_store.specs.declared.session.together.Grouped.TheVariants as grouped
 use Rattle.prevalence_store.specs.meaning.Acceptance.{after, between, read_in}
 use Rattle.prevalence_store.specs.meaning.Answers.{Progress, after_forms, begun, evaluated, last_line, one_form, one_form_more, onward}
 use Rattle.prevalence_store.specs.calls.ExecuteAll.{LogsAll}
@@ -50,12 +52,16 @@ cut_twice (x ∷ xs) ys (c ∷ front) rest is =
       | inr (mid, some, here) ↦ inr (mid, some, λ i. head i ∷ here i)
     ]
 
+none_after : (xs ys : List ℕ) → xs ++ ys ≡ [] → ys ≡ []
+none_after [] ys none = none
+none_after (x ∷ xs) ys none = absurd (cc)
+
 none_before : (xs ys : List ℕ) → xs ++ ys ≡ [] → xs ≡ []
 none_before [] ys is = refl
 none_before (x ∷ xs) ys is = absurd (cc)
 
 module _ (functions : Functions) where
-  some_line : (w : WorldState) (mode : Mode) (own rest : List ℕ) (given : Evaluation _) → (evaluated w mode own rest given).lines ≢ []
+  some_line : (w : WorldState) (mode : Mode) (own rest : List ℕ) (given : Evaluation Object) → (evaluated w mode own rest given).lines ≢ []
   some_line w mode own rest (Ok done) = some_last (printed done.state.packages done.state.current_package done.value) 10
   some_line w mode own rest (Err number) = λ none. absurd (cc)
 
@@ -91,12 +97,7 @@ module _ (functions : Functions) where
       → IsBroken n w mode text far front
   broken zero w mode text far front rest is parts some =
       let same : begun w text ≡ far = cc in
-      let none : [] ≡ front ++ rest = ap (λ (p : Progress). p.lines) same ∙ parts in
-      absurd (no_rest front none)
-  where
-    no_rest : (xs : List ℕ) → [] ≡ xs ++ rest → ⊥
-    no_rest [] none = some (sym none)
-    no_rest (x ∷ xs) none = absurd (cc)
+      absurd (some (none_after front rest (sym (ap (λ (p : Progress). p.lines) same ∙ parts))))
   broken (suc n) w mode text far front rest is parts some =
       let back = step_back functions mode (after_forms functions n w mode text) far is in
       let q : Progress = back.0 in
@@ -180,7 +181,7 @@ module _ (functions : Functions) where
     -- the forms were answered
     pub group_answered : (gathered : Gathered) (next count : ℕ) → TakesForms functions wanted state old new w text gathered → Writes held written gathered.lines.items → drop next text ≡ rest
         → gathered.bytes ≡ next + count → CountsAll (length gathered.texts.items) course.pace later.pace → later.forms ≡ course.forms + gathered.forms → later.bytes ≡ course.bytes + gathered.bytes
-        → AnswersGroup functions wanted state course later old new w text rest held written (Ok count)
+        → AnswersGroup functions wanted state course later old new w text rest held written (grouped.Answered count)
     group_answered gathered next count took writes left many counts forms bytes pending none =
         let is = took.gathers in
         let far : Progress = is.far in
@@ -210,7 +211,7 @@ module _ (functions : Functions) where
 
     -- the device failed as they were logged
     pub group_stopped : wanted.group ≡ true → FailsForms functions wanted state old new w text → written ≡ held
-        → AnswersGroup functions wanted state course later old new w text rest held written (Err (ways.Store DEVICE))
+        → AnswersGroup functions wanted state course later old new w text rest held written (grouped.Ended (ways.Store DEVICE))
     group_stopped grouped fault quiet more =
         let is = fault.gathers in
         let far : Progress = is.far in (
@@ -253,7 +254,7 @@ module _ (functions : Functions) where
 
     -- the writer failed in their lines
     pub group_unwritten : wanted.group ≡ true → (gathered : Gathered) → 0 < gathered.forms → TakesForms functions wanted state old new w text gathered → WritesPart held written gathered.lines.items
-        → IsBeforeDue course.pace (length gathered.texts.items) → AnswersGroup functions wanted state course later old new w text rest held written (Err (ways.Store OUTPUT))
+        → IsBeforeDue course.pace (length gathered.texts.items) → AnswersGroup functions wanted state course later old new w text rest held written (grouped.Ended (ways.Store OUTPUT))
     group_unwritten grouped gathered some took writes before more = by_part (part_of held written far.lines (some_lines gathered.forms some far_is) (subst (WritesPart held written) is.lines writes)) where
       is : IsGathered functions wanted w text took.left gathered
       is = took.gathers
@@ -272,10 +273,6 @@ module _ (functions : Functions) where
           let last = one_more_is q far (one_form functions q.world wanted.mode q.rest (read_in functions q.world wanted.mode q.rest)) back.2 in
           some_of_one q.world wanted.mode q.rest (read_in functions q.world wanted.mode q.rest) last.0 last.1
           (none_after q.lines last.0.lines (ap (λ (p : Progress). p.lines) last.2 ∙ none))
-      where
-        none_after : (xs ys : List ℕ) → xs ++ ys ≡ [] → ys ≡ []
-        none_after [] ys none = none
-        none_after (x ∷ xs) ys none = absurd (cc)
 
       by_part : (front : List ℕ) × (unwritten : List ℕ) × (far.lines ≡ front ++ unwritten) × (unwritten ≢ []) × Writes held written front
           → HasEndedAt functions state wanted course old new w wanted.mode (text ++ more) held written (ways.Store OUTPUT)

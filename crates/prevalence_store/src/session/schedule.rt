@@ -42,7 +42,9 @@ impl Schedule {
     {
         if self.left > 1 {
             self.left -= logged;
-        } else if logged > 0 {
+            return;
+        }
+        if logged > 0 {
             self.left = self.every;
         }
     }
