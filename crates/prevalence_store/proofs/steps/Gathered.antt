@@ -118,7 +118,7 @@ module _ (functions : Functions) where
             rest = rest;
             some = some;
             front_is = here;
-            next_lines = ap (λ (p : Progress). p.lines) (sym more.2) ∙ ap (λ t. q.lines ++ t) there;
+            next_lines = ap (λ (p : Progress). p.lines) (sym more.2) ∙ ap (λ t. q.lines ++ t) there ∙ sym (append_assoc q.lines mid rest);
             taken = count;
             accepted = calm;
           }
@@ -266,13 +266,13 @@ module _ (functions : Functions) where
       far_is = is.stays more
 
       some_lines : (n : ℕ) → 0 < n → after_forms functions n w wanted.mode (text ++ more) ≡ Some far → far.lines ≢ []
-      some_lines zero none is = absurd (omega (arith, none))
-      some_lines (suc n) some is none =
-          let back = step_back functions wanted.mode (after_forms functions n w wanted.mode (text ++ more)) far is in
+      some_lines zero none there empty = absurd (omega (arith, none))
+      some_lines (suc n) some there empty =
+          let back = step_back functions wanted.mode (after_forms functions n w wanted.mode (text ++ more)) far there in
           let q : Progress = back.0 in
           let last = one_more_is q far (one_form functions q.world wanted.mode q.rest (read_in functions q.world wanted.mode q.rest)) back.2 in
           some_of_one q.world wanted.mode q.rest (read_in functions q.world wanted.mode q.rest) last.0 last.1
-          (none_after q.lines last.0.lines (ap (λ (p : Progress). p.lines) last.2 ∙ none))
+          (none_after q.lines last.0.lines (ap (λ (p : Progress). p.lines) last.2 ∙ empty))
 
       by_part : (front : List ℕ) × (unwritten : List ℕ) × (far.lines ≡ front ++ unwritten) × (unwritten ≢ []) × Writes held written front
           → HasEndedAt functions state wanted course old new w wanted.mode (text ++ more) held written (ways.Store OUTPUT)
@@ -298,7 +298,7 @@ module _ (functions : Functions) where
                   output = refl;
                   unwritten = unwritten ++ last;
                   some_left = some_first unwritten last some_left;
-                  front = ap (λ t. t ++ last) (parts ∙ ap (λ t. t ++ unwritten) at.front_is) ∙ append_assoc (at.answered.lines ++ at.part) unwritten last ∙ append_assoc at.answered.lines at.part (unwritten ++ last);
+                  front = ap (λ t. t ++ last) (parts ∙ ap (λ t. t ++ unwritten) at.front_is) ∙ append_assoc (at.answered.lines ++ at.part) unwritten last;
                   in_form = λ fewer. (at.next, at.next_is, (at.rest, at.some, at.next_lines));
                   after = all_after state old new w far took.logs is.again;
                 }))))));

@@ -15,6 +15,7 @@ use Rattle.prevalence_store.specs.declared.outcome.Ending.TheVariants.{End}
 use Rattle.prevalence_store.specs.meaning.Acceptance.{between, read_in, setting_in}
 use Rattle.user_macros.specs.Functions.{Functions}
 use Rattle.prevalence_store.specs.meaning.Answers.{Progress, after_forms, evaluated, one_form}
+use Rattle.prevalence_store.specs.steps.Gather.{BeginsWhole}
 use Rattle.prevalence_store.specs.steps.Input.{HasForm, IsLastForm, IsPending}
 use Rattle.prevalence_store.specs.calls.Serve.{Advances}
 use Rattle.prevalence_store.specs.calls.Store.{StoreView}
@@ -132,6 +133,24 @@ module _ (functions : Functions) (w : WorldState) (mode : Mode) (pending : Pendi
         let many : length text ≡ length bytes + n = ap length fed_is ∙ length-append bytes (take n piece) ∙ ap (λ m. length bytes + m) (length-take-le n piece within) in
         let all = has.next_is in
         omega arith
+
+    -- a form that the piece begins with, whatever follows it
+    pub whole_begins : (to : ℕ) → has.next ≡ to → BeginsWhole functions w mode (bytes ++ piece) x own to × (drop to (bytes ++ piece) ≡ drop count piece)
+    whole_begins to to_is =
+        let places = stop_within in
+        let cut : (bytes ++ take n piece) ++ drop n piece ≡ bytes ++ piece = piece_whole bytes piece n in
+        let next : to ≡ length bytes + count = sym to_is ∙ next_is in (
+          record {
+            start = has.start;
+            stop = has.stop;
+            reads = λ more.
+                ap (read_in functions w mode) (ap (λ t. t ++ more) (sym cut) ∙ append_assoc (bytes ++ take n piece) (drop n piece) more ∙ ap (λ t. t ++ drop n piece ++ more) (sym fed_is))
+                ∙ has.reads (drop n piece ++ more) ∙ ap (λ m. form x has.start has.stop m) to_is;
+            is_own = has.is_own ∙ sym (own_again (drop n piece)) ∙ ap (λ t. between has.start has.stop (t ++ drop n piece)) fed_is ∙ ap (between has.start has.stop) cut;
+            within = omega (arith, next, length-append bytes piece, taken, within);
+          },
+          ap (λ m. drop m (bytes ++ piece)) next ∙ drop-append-add bytes piece count,
+        )
 
     pub form_takes : (old : Pending) → IsPending functions w mode old bytes → MovesOn (fed old.reader) (fed pending.reader) (length piece) (Ok count)
     form_takes old before = (omega arith, rw none (omega arith), by_count count next_is) where
