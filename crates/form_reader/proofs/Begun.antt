@@ -11,25 +11,23 @@ use Rattle.lisp_reading.specs.Plans.{Read, run}
 use Rattle.lisp_reading.specs.Setting.{Setting}
 use Rattle.lisp_reading.specs.Reading.{Outcome, form, empty, refused, attempt, is_whitespace, outcome, reads_in, reads_at, reads, space_at}
 use Rattle.lisp_reading.proofs.Forms.{reads_is, the_end_there}
-use Rattle.form_reader.specs.declared.frame.Frame.{Frame}
+use Rattle.form_reader.specs.declared.stack.Frame.{Frame}
 use Rattle.form_reader.specs.declared.reader.FormReader.{FormReader}
 use Rattle.form_reader.specs.declared.reader.ReaderState.{ReaderState}
 use Rattle.form_reader.specs.declared.reader.ReaderState.TheVariants.{Open}
 use Rattle.form_reader.specs.declared.reader.Advance.{Advance}
 use Rattle.form_reader.specs.declared.reader.Advance.TheVariants.{More as AdvanceMore, Form as AdvanceForm, Refused as AdvanceRefused}
-use Rattle.form_reader.specs.declared.position.Position.{Position}
-use Rattle.form_reader.specs.declared.position.Position.TheVariants.{Object as AtObject}
-use Rattle.form_reader.specs.declared.change.Change.{Change}
-use Rattle.form_reader.specs.declared.change.Change.TheVariants.{Goes, Form as ChangeForm, Refused as ChangeRefused}
-use Rattle.form_reader.specs.declared.in_place.InPlace.{InPlace}
-use Rattle.form_reader.specs.declared.in_place.InPlace.TheVariants.{Passed as IsPassed}
+use Rattle.form_reader.specs.declared.state.State.{State}
+use Rattle.form_reader.specs.declared.state.State.TheVariants.{Object as AtObject}
+use Rattle.form_reader.specs.declared.step.Change.{Change}
+use Rattle.form_reader.specs.declared.step.Change.TheVariants.{Goes, Form as ChangeForm, Refused as ChangeRefused}
+use Rattle.form_reader.specs.declared.step.in_place.InPlace.{InPlace}
+use Rattle.form_reader.specs.declared.step.in_place.InPlace.TheVariants.{Passed as IsPassed}
 use Rattle.std.specs.declared.alloc.AllocError.{AllocError}
-use Rattle.form_reader.specs.InPlace.{is_space}
-use Rattle.form_reader.specs.Changing.{outcome_of, BeginsAnew}
-use Rattle.form_reader.specs.Starting.{EndsBefore, Starts}
+use Rattle.form_reader.specs.Step.{is_space, outcome_of, BeginsAnew, EndsBefore, Starts}
 use Rattle.form_reader.specs.Reader.{fed, begun, further, BeginsAt, HasBegun, StepsBegun, IsNew, IsOpen, IsBetween, IsAfter, IsAfterIn, Steps, Becomes}
-use Rattle.form_reader.proofs.Between.{anew_between, between_reads, between_empty}
-use Rattle.form_reader.proofs.Ended.{ended_there}
+use Rattle.form_reader.proofs.Readers.{anew_between, between_reads, between_empty}
+use Rattle.form_reader.proofs.EndOfText.{ended_there}
 
 -- ---- offsets
 
@@ -165,7 +163,7 @@ between_begun setting reader bytes after between =
     }
 
 pub new_begun : (setting : Setting) (reader : FormReader) → IsNew reader → IsAfter setting reader [] → HasBegun setting reader []
-new_begun setting reader new after = between_begun setting reader [] after (record { at = new.at; frames = new.frames; state = new.state })
+new_begun setting reader new after = between_begun setting reader [] after (record { at = new.at; stack = new.stack; state = new.state })
 
 -- a byte that is not discarded where nothing is open
 pub other_byte : (setting : Setting) (c : ℕ) → is_space setting [] AtObject 0 c ≡ false → 0 < setting.limits.text → is_whitespace setting.table c ≡ false
@@ -176,21 +174,21 @@ other_byte setting c is some = sym (plain (is_whitespace setting.table c)) ∙ a
     plain false = refl
 
 -- where a reader is between forms, a byte that is not passed over is not discarded
-pub other_there : (setting : Setting) (reader : FormReader) (position : Position) (byte : ℕ) (result : Result InPlace AllocError) → reader.state ≡ Open position
-    → (reader.frames ≡ [] → is_space setting reader.frames position reader.at byte ≡ true → result ≡ Ok IsPassed) → (result ≡ Ok IsPassed → ⊥)
+pub other_there : (setting : Setting) (reader : FormReader) (state : State) (byte : ℕ) (result : Result InPlace AllocError) → reader.state ≡ Open state
+    → (reader.stack ≡ [] → is_space setting reader.stack state reader.at byte ≡ true → result ≡ Ok IsPassed) → (result ≡ Ok IsPassed → ⊥)
     → IsBetween reader → 0 < setting.limits.text → is_whitespace setting.table byte ≡ false
-other_there setting reader position byte result is passes never between some = by (is_whitespace setting.table byte) refl
+other_there setting reader state byte result is passes never between some = by (is_whitespace setting.table byte) refl
   where
-    here : position ≡ AtObject
-    here = let same : Open position ≡ Open AtObject = sym is ∙ between.state in cc
+    here : state ≡ AtObject
+    here = let same : Open state ≡ Open AtObject = sym is ∙ between.state in cc
 
     by : (b : Bool) → is_whitespace setting.table byte ≡ b → is_whitespace setting.table byte ≡ false
     by false e = e
     by true e =
-        absurd (never (passes between.frames ((λ i. is_space setting (between.frames i) (here i) (between.at i) byte)
+        absurd (never (passes between.stack ((λ i. is_space setting (between.stack i) (here i) (between.at i) byte)
         ∙ ap (λ (b : Bool). b && (is_whitespace setting.table byte && true)) (lt-ltb 0 setting.limits.text some) ∙ ap (λ (b : Bool). true && (b && true)) e)))
 
-module _ (setting : Setting) (old : FormReader) (position : Position) (bytes : List ℕ) (byte : ℕ) (after : IsAfterIn setting old (Open position) bytes) (has : HasBegun setting old bytes) where
+module _ (setting : Setting) (old : FormReader) (state : State) (bytes : List ℕ) (byte : ℕ) (after : IsAfterIn setting old (Open state) bytes) (has : HasBegun setting old bytes) where
   -- the byte, where it is the first of what is open
   abbrev IsOther : Type 0
   IsOther = IsBetween old → 0 < setting.limits.text → is_whitespace setting.table byte ≡ false
@@ -204,9 +202,9 @@ module _ (setting : Setting) (old : FormReader) (position : Position) (bytes : L
       ap (is_whitespace setting.table) (sym same) ∙ other (has.between (omega (arith, after.0, here))) some)
 
   -- it came to nothing before the byte
-  ended_begins : EndsBefore setting old.frames position old.at byte → BeginsAt setting (bytes ++ byte ∷ []) (old.start + old.at)
+  ended_begins : EndsBefore setting old.stack state old.at byte → BeginsAt setting (bytes ++ byte ∷ []) (old.start + old.at)
   ended_begins ends =
-      let at_end = ended_there setting old.frames old.at byte (nothing ends.token) position (ends.found []) in
+      let at_end = ended_there setting old.stack old.at byte (nothing ends.token) state (ends.found []) in
       let none : reads setting bytes ≡ empty =
       ap (reads setting) (sym (append-nil bytes)) ∙ after.1 [] ∙ ap (outcome_of setting old.start) at_end
       ∙ reads_further setting (old.start + old.at) [] ∙ ap (further (old.start + old.at)) (reads_none setting) in
@@ -223,28 +221,28 @@ module _ (setting : Setting) (old : FormReader) (position : Position) (bytes : L
     between = λ e. absurd (omega (arith, e, same, more, after.0));
   }
 
-  pub stepped_begun : (mid new : FormReader) (frames : List Frame) (change : Change) (step : Advance) → IsOther
-      → Starts setting old.frames position old.start old.at byte change → BeginsAnew frames change → Becomes change mid new step → mid.frames ≡ frames → mid.start ≡ old.start
+  pub stepped_begun : (mid new : FormReader) (stack : List Frame) (change : Change) (step : Advance) → IsOther
+      → Starts setting old.stack state old.start old.at byte change → BeginsAnew stack change → Becomes change mid new step → mid.stack ≡ stack → mid.start ≡ old.start
       → Steps setting new (bytes ++ byte ∷ []) step → StepsBegun setting new (bytes ++ byte ∷ []) step
-  stepped_begun mid new frames (Goes start at there) step other starts anew takes same began steps =
+  stepped_begun mid new stack (Goes start at there) step other starts anew takes same began steps =
       subst (λ (s : Advance). StepsBegun setting new (bytes ++ byte ∷ []) s) (sym takes.0) (by starts)
     where
       told : Steps setting new (bytes ++ byte ∷ []) AdvanceMore
       told = subst (λ (s : Advance). Steps setting new (bytes ++ byte ∷ []) s) takes.0 steps
 
       between : begun new ≡ fed new → IsBetween new
-      between = anew_between mid new frames (Goes start at there) step anew takes same takes.0
+      between = anew_between mid new stack (Goes start at there) step anew takes same takes.0
 
       has_begun : BeginsAt setting (bytes ++ byte ∷ []) start → HasBegun setting new (bytes ++ byte ∷ [])
       has_begun begins = record { goes_on = (there, takes.4); begins = subst (BeginsAt setting (bytes ++ byte ∷ [])) (sym takes.1) begins; between = between }
 
-      by : (start ≡ old.start) ⊎ ((at ≡ 0) ⊎ ((start ≡ old.start + old.at) × EndsBefore setting old.frames position old.at byte)) → HasBegun setting new (bytes ++ byte ∷ [])
+      by : (start ≡ old.start) ⊎ ((at ≡ 0) ⊎ ((start ≡ old.start + old.at) × EndsBefore setting old.stack state old.at byte)) → HasBegun setting new (bytes ++ byte ∷ [])
       by (inl stays) = has_begun (subst (BeginsAt setting (bytes ++ byte ∷ [])) (sym stays) (stays_begun other))
       by (inr (inl none)) = between_begun setting new (bytes ++ byte ∷ []) told.0 (between (omega (arith, takes.2, none)))
       by (inr (inr here)) = has_begun (subst (BeginsAt setting (bytes ++ byte ∷ [])) (sym here.0) (ended_begins here.1))
-  stepped_begun mid new frames (ChangeForm x start «end» next) (AdvanceForm datum s e n) other starts anew takes same began steps = λ later. new_begun later new steps.4 (steps.5 later)
-  stepped_begun mid new frames (ChangeForm x start «end» next) AdvanceMore other starts anew takes same began steps = absurd takes
-  stepped_begun mid new frames (ChangeForm x start «end» next) (AdvanceRefused code offset) other starts anew takes same began steps = absurd takes
-  stepped_begun mid new frames (ChangeRefused code offset) step other starts anew takes same began steps =
+  stepped_begun mid new stack (ChangeForm x start «end» next) (AdvanceForm datum s e n) other starts anew takes same began steps = λ later. new_begun later new steps.4 (steps.5 later)
+  stepped_begun mid new stack (ChangeForm x start «end» next) AdvanceMore other starts anew takes same began steps = absurd takes
+  stepped_begun mid new stack (ChangeForm x start «end» next) (AdvanceRefused code offset) other starts anew takes same began steps = absurd takes
+  stepped_begun mid new stack (ChangeRefused code offset) step other starts anew takes same began steps =
       subst (λ (s : Advance). StepsBegun setting new (bytes ++ byte ∷ []) s) (sym takes.0)
       (subst (BeginsAt setting (bytes ++ byte ∷ [])) (sym (takes.2 ∙ began)) (stays_begun other))

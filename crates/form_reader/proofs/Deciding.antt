@@ -15,30 +15,30 @@ use Rattle.token_scan.specs.Scans.{Scan, from_stage}
 use Rattle.readtable_core.specs.declared.characters.Syntax.TheVariants.{Invalid}
 use Rattle.token_scan.proofs.Steps.{outside_invalid, inside_invalid}
 use Rattle.lisp_reading.specs.declared.found.Found.{Found}
-use Rattle.form_reader.specs.declared.frame.Frame.{Frame}
+use Rattle.form_reader.specs.declared.stack.Frame.{Frame}
 use Rattle.lisp_reading.specs.declared.limits.Limits.{Limits}
-use Rattle.form_reader.specs.declared.position.Position.{Position}
-use Rattle.form_reader.specs.declared.position.Position.TheVariants.{Object as AtObject, Token as AtToken, CallToken as AtCallToken, Text as AtText, Escaped as AtEscaped, Line as AtLine, Block as AtBlock, Number as AtNumber}
+use Rattle.form_reader.specs.declared.state.State.{State}
+use Rattle.form_reader.specs.declared.state.State.TheVariants.{Object as AtObject, Token as AtToken, CallToken as AtCallToken, Text as AtText, Escaped as AtEscaped, Line as AtLine, Block as AtBlock, Number as AtNumber}
 use Rattle.lisp_reading.specs.declared.way.Keep.{Keep}
 use Rattle.lisp_reading.specs.Plans.{Plan, gives, refuses, takes, then_plan, character, next_byte, loop, Read, fault, within, run}
 use Rattle.lisp_reading.specs.Calls.{keep_of}
 use Rattle.lisp_reading.specs.Setting.{Setting}
-use Rattle.form_reader.specs.Feeding.{is_going, token_read, refused_number}
-use Rattle.form_reader.specs.Frames.{close_of, close_of_frames, next_item_in, call_in, given, between, token_goes_on}
+use Rattle.form_reader.specs.Token.{is_going, token_read, refused_number}
+use Rattle.form_reader.specs.Stack.{close_of, close_of_stack, next_item_in, call_in, outer_plan, between, token_goes_on}
 use Rattle.lisp_reading.specs.Gathering.{text_turn, kept, line_turn, block_turn}
 use Rattle.lisp_reading.specs.Reading.{Piece, Outcome, form, empty, refused, piece_of, closed, or_closed, next_item_turn, next_item, stands_alone, alone, inner, attempt, reads, number_after, sub_there, dispatched}
-use Rattle.form_reader.specs.Resuming.{IsPositionAt, inner_at, position_gives}
+use Rattle.form_reader.specs.State.{IsStateAt, inner_at, state_gives}
 use Rattle.form_reader.specs.Reader.{MayGoOn, DecideNothing}
-use Rattle.form_reader.specs.Changing.{outcome_of, rest_of}
-use Rattle.form_reader.proofs.FedTokens.{cut, refused_cut}
+use Rattle.form_reader.specs.Step.{outcome_of, rest_of}
+use Rattle.form_reader.proofs.Tokens.{cut, refused_cut}
 use Rattle.lisp_reading.proofs.Fed.{number_ends}
 use Rattle.lisp_reading.proofs.Following.{form_follows}
 use Rattle.lisp_reading.proofs.Forms.{form_framed}
-use Rattle.form_reader.proofs.Opened.{given_fault, gathering_ends, gathering_fails}
+use Rattle.form_reader.proofs.Stacks.{given_fault, gathering_ends, gathering_fails}
 use Rattle.lisp_reading.proofs.Refusals.{refusal_stays}
 use Rattle.lisp_reading.proofs.Steps.{and_then, run_then}
 use Rattle.form_reader.proofs.PlanEnds.{blames_byte}
-use Rattle.form_reader.proofs.TextEnds.{position_last, last_blames, last_refused}
+use Rattle.form_reader.proofs.TextEnds.{state_last, last_blames, last_refused}
 use Rattle.lisp_reading.proofs.Turns.{attempt_ends, loop_is, text_guarded, line_guarded, block_guarded, next_item_guarded}
 
 -- ---- a byte that is no character
@@ -91,12 +91,12 @@ no_character {A = A} on c le =
 next_fails : {A : Type 0} (table : Table) (limits : Limits) (on : ℕ → Plan A) (at c : ℕ) → 128 ≤ c → Fails at (run table limits (next_byte on) at (c ∷ []))
 next_fails table limits on at c le = taken_fails table limits (refuses 1 0) (λ d. true) (character on) at c INVALID_CHARACTER refl refl (no_character on c le)
 
-module _ (setting : Setting) (frames : List Frame) (at c : ℕ) where
+module _ (setting : Setting) (stack : List Frame) (at c : ℕ) where
   abbrev reading : {A : Type 0} → Plan A → Read A
   reading plan = run setting.table setting.limits plan at (c ∷ [])
 
-  gathering : {A : Type 0} (plan : Plan A) (on : A → Plan Found) → Fails at (reading plan) → Fails at (reading (given setting frames (then_plan plan on)))
-  gathering plan on h = (h.0, gathering_fails setting frames plan on (record { number = h.0; at = at }) at (c ∷ []) h.1, h.2)
+  gathering : {A : Type 0} (plan : Plan A) (on : A → Plan Found) → Fails at (reading plan) → Fails at (reading (outer_plan setting stack (then_plan plan on)))
+  gathering plan on h = (h.0, gathering_fails setting stack plan on (record { number = h.0; at = at }) at (c ∷ []) h.1, h.2)
 
   -- ---- in a text, a line, a block and a number
 
@@ -120,13 +120,13 @@ module _ (setting : Setting) (frames : List Frame) (at c : ℕ) where
     number_stops : (number : Option ℕ) → reading (number_after setting number) ≡ Ok (number, at, c ∷ [])
     number_stops number = number_ends setting.table setting.limits number at c [] le (no_digit c beyond)
 
-    number_fails : (character : ℕ) (number : Option ℕ) → Fails at (reading (given setting frames (dispatched setting (length frames) (inner_at setting (length frames)) character number)))
+    number_fails : (character : ℕ) (number : Option ℕ) → Fails at (reading (outer_plan setting stack (dispatched setting (length stack) (inner_at setting (length stack)) character number)))
     number_fails character number =
-        let sub = sub_there setting (length frames) (inner_at setting (length frames)) character number in
+        let sub = sub_there setting (length stack) (inner_at setting (length stack)) character number in
         let h : Fails at (reading sub) = next_fails setting.table setting.limits _ at c beyond in (
           h.0,
-          gathering_ends setting frames (number_after setting number) (sub_there setting (length frames) (inner_at setting (length frames)) character) number at at (c ∷ []) (c ∷ []) (number_stops number)
-              ∙ given_fault setting frames sub at (c ∷ []) (record { number = h.0; at = at }) h.1,
+          gathering_ends setting stack (number_after setting number) (sub_there setting (length stack) (inner_at setting (length stack)) character) number at at (c ∷ []) (c ∷ []) (number_stops number)
+              ∙ given_fault setting stack sub at (c ∷ []) (record { number = h.0; at = at }) h.1,
           h.2,
         )
 
@@ -155,8 +155,8 @@ module _ (setting : Setting) (frames : List Frame) (at c : ℕ) where
           (closed_fails close turn other (then_fails may (λ found. piece_of setting.table (again tt) found) (attempt_fails room)))
 
 -- where the innermost call looks for this character
-between_fails : (setting : Setting) (frames : List Frame) (at c : ℕ) → at ≤ setting.limits.text → IsAlien setting (close_of_frames frames) c
-    → Fails at (run setting.table setting.limits (between setting frames) at (c ∷ []))
+between_fails : (setting : Setting) (stack : List Frame) (at c : ℕ) → at ≤ setting.limits.text → IsAlien setting (close_of_stack stack) c
+    → Fails at (run setting.table setting.limits (between setting stack) at (c ∷ []))
 between_fails setting [] at c le alien = attempt_fails setting [] at c le alien.beyond (alien_entry setting None c alien) setting.limits.nesting
 between_fails setting (f ∷ fs) at c le alien =
     gathering setting fs at c (next_item_in setting f fs) (λ p. call_in setting f fs p)
@@ -176,34 +176,34 @@ scan_fails table c left at EscapedOutside going beyond = (ap (λ b. if b then on
 scan_fails table c left at EscapedInside going beyond = (ap (λ b. if b then one_more left at (λ left. quoted c (inside left (at + 1) [])) else scan_fault InvalidCharacter at) (le-ltb c 128 beyond))
 scan_fails table c left at (ScanRefused refusal) going beyond = cc
 
-token_fails : (setting : Setting) (frames : List Frame) (on : List Mark → Plan Found) (scan : Scan) (at c : ℕ) → IsTrue (is_going scan.stage) → at ≤ setting.limits.text → 128 ≤ c
-    → Fails at (token_goes_on setting frames on (token_read setting.table setting.limits scan at (c ∷ [])))
-token_fails setting frames on scan at c going le beyond =
+token_fails : (setting : Setting) (stack : List Frame) (on : List Mark → Plan Found) (scan : Scan) (at c : ℕ) → IsTrue (is_going scan.stage) → at ≤ setting.limits.text → 128 ≤ c
+    → Fails at (token_goes_on setting stack on (token_read setting.table setting.limits scan at (c ∷ [])))
+token_fails setting stack on scan at c going le beyond =
     let h = scan_fails setting.table c scan.left at scan.stage going beyond in (
       refused_number setting.limits.text InvalidCharacter at,
-      ap (token_goes_on setting frames on) (ap (λ (r : Scanned). cut setting.limits.text (with_front scan.marks r)) h ∙ refused_cut setting.limits.text InvalidCharacter at le),
+      ap (token_goes_on setting stack on) (ap (λ (r : Scanned). cut setting.limits.text (with_front scan.marks r)) h ∙ refused_cut setting.limits.text InvalidCharacter at le),
       elim (nat_lt at setting.limits.text) as (λ b. blames_byte (if b then INVALID_CHARACTER else FORM_TOO_LONG) ≡ true) [ true ↦ refl | false ↦ refl ],
     )
 
--- ---- at each position
+-- ---- at each state
 
-position_fails : (setting : Setting) (frames : List Frame) (position : Position) (at c : ℕ) → IsPositionAt at position → at ≤ setting.limits.text → IsAlien setting (close_of_frames frames) c
-    → Fails at (position_gives setting frames position at (c ∷ []))
-position_fails setting frames AtObject at c stands le alien = between_fails setting frames at c le alien
-position_fails setting frames (AtToken scan) at c stands le alien = token_fails setting frames _ scan at c stands le alien.beyond
-position_fails setting frames (AtCallToken call scan) at c stands le alien = token_fails setting frames _ scan at c stands le alien.beyond
-position_fails setting frames (AtText call terminator text) at c stands le alien = gathering setting frames at c _ _ (text_fails setting frames at c le alien.beyond terminator text)
-position_fails setting frames (AtEscaped call terminator text) at c stands le alien = gathering setting frames at c _ _ (next_fails setting.table setting.limits _ at c alien.beyond)
-position_fails setting frames (AtLine call text) at c stands le alien = gathering setting frames at c _ _ (line_fails setting frames at c le alien.beyond (keep_of call.function) text)
-position_fails setting frames (AtBlock call levels) at c stands le alien = gathering setting frames at c _ _ (block_fails setting frames at c le alien.beyond levels)
-position_fails setting frames (AtNumber character number) at c stands le alien = number_fails setting frames at c le alien.beyond character number
+state_fails : (setting : Setting) (stack : List Frame) (state : State) (at c : ℕ) → IsStateAt at state → at ≤ setting.limits.text → IsAlien setting (close_of_stack stack) c
+    → Fails at (state_gives setting stack state at (c ∷ []))
+state_fails setting stack AtObject at c stands le alien = between_fails setting stack at c le alien
+state_fails setting stack (AtToken scan) at c stands le alien = token_fails setting stack _ scan at c stands le alien.beyond
+state_fails setting stack (AtCallToken call scan) at c stands le alien = token_fails setting stack _ scan at c stands le alien.beyond
+state_fails setting stack (AtText call terminator text) at c stands le alien = gathering setting stack at c _ _ (text_fails setting stack at c le alien.beyond terminator text)
+state_fails setting stack (AtEscaped call terminator text) at c stands le alien = gathering setting stack at c _ _ (next_fails setting.table setting.limits _ at c alien.beyond)
+state_fails setting stack (AtLine call text) at c stands le alien = gathering setting stack at c _ _ (line_fails setting stack at c le alien.beyond (keep_of call.function) text)
+state_fails setting stack (AtBlock call levels) at c stands le alien = gathering setting stack at c _ _ (block_fails setting stack at c le alien.beyond levels)
+state_fails setting stack (AtNumber character number) at c stands le alien = number_fails setting stack at c le alien.beyond character number
 
 -- ---- where a reader waits for more
 
 -- what one byte more refuses at the end decided nothing before
-undecided : (setting : Setting) (bytes : List ℕ) (c code : ℕ) (o : Outcome) → reads setting bytes ≡ o → reads setting (bytes ++ c ∷ []) ≡ refused code (length bytes) → MayGoOn bytes o
-undecided setting bytes c code empty e next = tt
-undecided setting bytes c code (form x start «end» last) e next =
+may_go_on_by : (setting : Setting) (bytes : List ℕ) (c code : ℕ) (o : Outcome) → reads setting bytes ≡ o → reads setting (bytes ++ c ∷ []) ≡ refused code (length bytes) → MayGoOn bytes o
+may_go_on_by setting bytes c code empty e next = tt
+may_go_on_by setting bytes c code (form x start «end» last) e next =
     let framed = form_framed setting bytes x start «end» last e in
     by (nat_lt «end» (length bytes)) refl
   where
@@ -214,7 +214,7 @@ undecided setting bytes c code (form x start «end» last) e next =
     by false is =
         let framed = form_framed setting bytes x start «end» last e in
         omega (arith, framed.after, framed.inside, ltb-false «end» (length bytes) is)
-undecided setting bytes c code (refused number offset) e next =
+may_go_on_by setting bytes c code (refused number offset) e next =
     let h = refusal_stays setting bytes number offset e in
     by (nat_lt offset (length bytes)) refl
   where
@@ -225,28 +225,32 @@ undecided setting bytes c code (refused number offset) e next =
     by false is = omega (arith, (refusal_stays setting bytes number offset e).0, ltb-false offset (length bytes) is)
 
 -- The byte that is no character is refused at its own offset.
-next_refused : (setting : Setting) (frames : List Frame) (position : Position) (start at : ℕ) (bytes : List ℕ) → IsPositionAt at position → at ≤ setting.limits.text → start + at ≡ length bytes
-    → ((cs : List ℕ) → reads setting (bytes ++ cs) ≡ rest_of setting frames position start at cs)
+next_refused : (setting : Setting) (stack : List Frame) (state : State) (start at : ℕ) (bytes : List ℕ) → IsStateAt at state → at ≤ setting.limits.text → start + at ≡ length bytes
+    → ((cs : List ℕ) → reads setting (bytes ++ cs) ≡ rest_of setting stack state start at cs)
     → (c : ℕ) × ((code : ℕ) × (reads setting (bytes ++ c ∷ []) ≡ refused code (length bytes)) × (blames_byte code ≡ true))
-next_refused setting frames position start at bytes stands le count rest =
-    let c = 128 + length setting.table.entries + unwrap_or (close_of_frames frames) 0 + 1 in
-    let h = position_fails setting frames position at c stands le (record { beyond = omega arith; none = omega arith; other = omega arith }) in
+next_refused setting stack state start at bytes stands le count rest =
+    let c = 128 + length setting.table.entries + unwrap_or (close_of_stack stack) 0 + 1 in
+    let h = state_fails setting stack state at c stands le (record { beyond = omega arith; none = omega arith; other = omega arith }) in
     (c, (h.0, rest (c ∷ []) ∙ ap (outcome_of setting start) h.1 ∙ ap (λ (n : ℕ). refused h.0 n) count, h.2))
 
-pub decide_nothing : (setting : Setting) (frames : List Frame) (position : Position) (start at : ℕ) (bytes : List ℕ) → IsPositionAt at position → at ≤ setting.limits.text → start + at ≡ length bytes
-    → ((cs : List ℕ) → reads setting (bytes ++ cs) ≡ rest_of setting frames position start at cs) → DecideNothing setting bytes
-decide_nothing setting frames position start at bytes stands le count rest =
-    let next = next_refused setting frames position start at bytes stands le count rest in
-    let last : reads setting bytes ≡ rest_of setting frames position start at [] = sym (ap (reads setting) (append-nil bytes)) ∙ rest [] in
+pub decide_nothing : (setting : Setting) (stack : List Frame) (state : State) (start at : ℕ) (bytes : List ℕ) → IsStateAt at state → at ≤ setting.limits.text → start + at ≡ length bytes
+    → ((cs : List ℕ) → reads setting (bytes ++ cs) ≡ rest_of setting stack state start at cs) → DecideNothing setting bytes
+decide_nothing setting stack state start at bytes stands le count rest =
+    let next = next_refused setting stack state start at bytes stands le count rest in
+    let last : reads setting bytes ≡ rest_of setting stack state start at [] = sym (ap (reads setting) (append-nil bytes)) ∙ rest [] in
     let unlike : reads setting bytes ≡ refused next.1.0 (length bytes) → ⊥ = λ e.
     let blameless : blames_byte next.1.0 ≡ false =
-    last_refused (rest_of setting frames position start at []) next.1.0 (length bytes) (sym last ∙ e)
-    (last_blames setting start (position_gives setting frames position at []) (position_last setting frames at le position stands)) in
+    last_refused (rest_of setting stack state start at []) next.1.0 (length bytes) (sym last ∙ e)
+    (last_blames setting start (state_gives setting stack state at []) (state_last setting stack at le state stands)) in
     false≢true (sym blameless ∙ next.1.2) in
     (next.0, (next.1.0, next.1.1, unlike))
 
-pub may_go_on : (setting : Setting) (frames : List Frame) (position : Position) (start at : ℕ) (bytes : List ℕ) → IsPositionAt at position → at ≤ setting.limits.text → start + at ≡ length bytes
-    → ((cs : List ℕ) → reads setting (bytes ++ cs) ≡ rest_of setting frames position start at cs) → MayGoOn bytes (reads setting bytes)
-may_go_on setting frames position start at bytes stands le count rest =
-    let next = next_refused setting frames position start at bytes stands le count rest in
-    undecided setting bytes next.0 next.1.0 (reads setting bytes) refl next.1.1
+pub may_go_on : (setting : Setting) (stack : List Frame) (state : State) (start at : ℕ) (bytes : List ℕ) → IsStateAt at state → at ≤ setting.limits.text → start + at ≡ length bytes
+    → ((cs : List ℕ) → reads setting (bytes ++ cs) ≡ rest_of setting stack state start at cs) → MayGoOn bytes (reads setting bytes)
+may_go_on setting stack state start at bytes stands le count rest =
+    let next = next_refused setting stack state start at bytes stands le count rest in
+    may_go_on_by setting bytes next.0 next.1.0 (reads setting bytes) refl next.1.1
+
+pub undecided : (setting : Setting) (bytes : List ℕ) (o : Outcome) → DecideNothing setting bytes → ((cs : List ℕ) → reads setting (bytes ++ cs) ≡ o) → ⊥
+undecided setting bytes o h all =
+    h.1.2 (sym (ap (reads setting) (append-nil bytes)) ∙ all [] ∙ sym (all (h.0 ∷ [])) ∙ h.1.1)

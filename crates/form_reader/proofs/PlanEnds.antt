@@ -9,7 +9,7 @@ use Rattle.token_scan.specs.declared.refusal.ScanRefusal.TheVariants.{EndOfFile}
 use Rattle.token_scan.specs.Tokens.{outside}
 use Rattle.lisp_reading.specs.declared.limits.Limits.{Limits}
 use Rattle.lisp_reading.specs.Plans.{Plan, gives, refuses, takes, scans, then_plan, next_byte, character, loop_in, loop, Read, scanned, limited, run}
-use Rattle.form_reader.proofs.FedTokens.{refused_cut}
+use Rattle.form_reader.proofs.Tokens.{refused_cut}
 
 -- the numbers of a byte that is no character, and of one too many
 abbrev pub blames_byte : ℕ → Bool

@@ -34,11 +34,11 @@ use Rattle.std_macros.specs.Results.{std_refusal_number}
 use Rattle.std_macros.specs.Values.{Value, value_of, Material, one as one_object, many, dotted, letters, marked}
 use Rattle.lisp_reading.specs.declared.found.Found.{Found}
 use Rattle.lisp_reading.specs.declared.found.Found.TheVariants.{Nothing as nothing, One as one, LoneDot as lone_dot, TheEnd as the_end}
-use Rattle.form_reader.specs.declared.frame.Frame.{Frame}
-use Rattle.form_reader.specs.declared.frame.Part.{Part}
-use Rattle.form_reader.specs.declared.frame.Part.TheVariants.{Next as InNext, List as InList, Until as InUntil, Dotted as InDotted, Tailed as InTailed}
-use Rattle.form_reader.specs.declared.position.Position.{Position}
-use Rattle.form_reader.specs.declared.position.Position.TheVariants.{Object as AtObject, Token as AtToken, CallToken as AtCallToken, Text as AtText, Escaped as AtEscaped, Line as AtLine, Block as AtBlock, Number as AtNumber}
+use Rattle.form_reader.specs.declared.stack.Frame.{Frame}
+use Rattle.form_reader.specs.declared.stack.Part.{Part}
+use Rattle.form_reader.specs.declared.stack.Part.TheVariants.{Next as InNext, List as InList, Until as InUntil, Dotted as InDotted, Tailed as InTailed}
+use Rattle.form_reader.specs.declared.state.State.{State}
+use Rattle.form_reader.specs.declared.state.State.TheVariants.{Object as AtObject, Token as AtToken, CallToken as AtCallToken, Text as AtText, Escaped as AtEscaped, Line as AtLine, Block as AtBlock, Number as AtNumber}
 use Rattle.lisp_reading.specs.declared.told.Told.{Told}
 use Rattle.lisp_reading.specs.declared.told.Told.TheVariants.{Object as told_object, Dot as dot_alone}
 use Rattle.lisp_reading.specs.declared.way.Function.{Function}
@@ -49,12 +49,12 @@ use Rattle.lisp_reading.specs.Setting.{Setting, macro_call}
 use Rattle.lisp_reading.specs.Gathering.{text_turn, line_turn, block_turn, number_turn}
 use Rattle.lisp_reading.specs.Naming.{symbol_in, symbol_at, named, told_of, told}
 use Rattle.lisp_reading.specs.Answering.{may_be_answered}
-use Rattle.form_reader.specs.Feeding.{is_going}
-use Rattle.form_reader.specs.Frames.{next_item_in, part_gives, call_in, given, between, token_goes_on}
+use Rattle.form_reader.specs.Token.{is_going}
+use Rattle.form_reader.specs.Stack.{next_item_in, part_gives, call_in, outer_plan, between, token_goes_on}
 use Rattle.lisp_reading.specs.Reading.{Piece, item, dot, closed, is_whitespace, without_space, piece_of, or_closed, next_item_turn, next_item, Items, items_step, items_turn, items_after, undotted, after_tail, after_dot, list_end, bytes_back, finished, answered, completed_by, completed, text_to, line_after, block_after, number_after, sub_there, dispatched, told_found, token_found, attempt, Outcome, form, empty, refused}
-use Rattle.form_reader.specs.Resuming.{IsPositionAt, inner_at, position_gives}
-use Rattle.form_reader.specs.Changing.{outcome_of}
-use Rattle.form_reader.proofs.FedTokens.{cut, refused_cut}
+use Rattle.form_reader.specs.State.{IsStateAt, inner_at, state_gives}
+use Rattle.form_reader.specs.Step.{outcome_of}
+use Rattle.form_reader.proofs.Tokens.{cut, refused_cut}
 use Rattle.lisp_reading.proofs.Forms.{reads_is, the_end_there}
 use Rattle.form_reader.proofs.PlanEnds.{blames_byte, AtEnd, Whatever, Never, LastRead, gives_at_end, refuses_at_end, takes_at_end, then_at_end, weaker, never_then, loop_at_end, next_byte_at_end, run_at_end}
 
@@ -238,8 +238,8 @@ module _ (setting : Setting) where
   found_at_end f fs lone_dot = gives_at_end Whatever dot tt
   found_at_end f fs the_end = refuses_at_end Whatever END_OF_FILE 0 refl
 
-  given_at_end : (frames : List Frame) (plan : Plan Found) → AtEnd Whatever plan → AtEnd Whatever (given setting frames plan)
-  unfolding given
+  given_at_end : (stack : List Frame) (plan : Plan Found) → AtEnd Whatever plan → AtEnd Whatever (outer_plan setting stack plan)
+  unfolding outer_plan
   given_at_end [] plan h = h
   given_at_end (f ∷ fs) plan h =
       given_at_end fs (then_plan (then_plan plan (λ found. piece_of setting.table (next_item_in setting f fs) found)) (λ p. call_in setting f fs p))
@@ -247,55 +247,55 @@ module _ (setting : Setting) where
       (then_at_end Whatever Whatever plan (λ found. piece_of setting.table (next_item_in setting f fs) found) h (λ found none. found_at_end f fs found))
       (λ p none. part_at_end setting (length fs) _ f.call f.part p))
 
-  between_at_end : (frames : List Frame) → AtEnd Whatever (between setting frames)
+  between_at_end : (stack : List Frame) → AtEnd Whatever (between setting stack)
   unfolding AtEnd
   between_at_end [] = tt
   between_at_end (f ∷ fs) =
       given_at_end fs (then_plan (next_item_in setting f fs) (λ p. call_in setting f fs p))
       (never_then Whatever (next_item_in setting f fs) (λ p. call_in setting f fs p) (next_item_at_end setting _ _))
 
-  -- ---- at each position
+  -- ---- at each state
 
-  module _ (frames : List Frame) (at : ℕ) (le : at ≤ setting.limits.text) where
-    last : (plan : Plan Found) → AtEnd Whatever plan → LastRead Whatever (run setting.table setting.limits (given setting frames plan) at [])
-    last plan h = run_at_end Whatever setting.table setting.limits at le (given setting frames plan) (given_at_end frames plan h)
+  module _ (stack : List Frame) (at : ℕ) (le : at ≤ setting.limits.text) where
+    last : (plan : Plan Found) → AtEnd Whatever plan → LastRead Whatever (run setting.table setting.limits (outer_plan setting stack plan) at [])
+    last plan h = run_at_end Whatever setting.table setting.limits at le (outer_plan setting stack plan) (given_at_end stack plan h)
 
-    never : {A : Type 0} (plan : Plan A) (on : A → Plan Found) → AtEnd Never plan → LastRead Whatever (run setting.table setting.limits (given setting frames (then_plan plan on)) at [])
+    never : {A : Type 0} (plan : Plan A) (on : A → Plan Found) → AtEnd Never plan → LastRead Whatever (run setting.table setting.limits (outer_plan setting stack (then_plan plan on)) at [])
     never plan on h = last (then_plan plan on) (never_then Whatever plan on h)
 
     token_last : (on : List Mark → Plan Found) (stage : ScanStage) (marks : List Mark) (left : ℕ) → ((marks : List Mark) → AtEnd Whatever (on marks)) → IsTrue (is_going stage)
-        → LastRead Whatever (token_goes_on setting frames on (cut setting.limits.text (with_front marks (from_stage stage left at []))))
+        → LastRead Whatever (token_goes_on setting stack on (cut setting.limits.text (with_front marks (from_stage stage left at []))))
     unfolding outside
     token_last on Outside marks left all going =
-        let by : Bool → Read Found = λ b. token_goes_on setting frames on (elim b [ true ↦ Ok (marks ++ [], at, []) | false ↦ Err (record { number = FORM_TOO_LONG; at = setting.limits.text }) ]) in
+        let by : Bool → Read Found = λ b. token_goes_on setting stack on (elim b [ true ↦ Ok (marks ++ [], at, []) | false ↦ Err (record { number = FORM_TOO_LONG; at = setting.limits.text }) ]) in
         subst (LastRead Whatever) (sym (ap by (le-leb at setting.limits.text le))) (last (on (marks ++ [])) (all (marks ++ [])))
     token_last on Inside marks left all going =
-        subst (LastRead Whatever) (sym (ap (token_goes_on setting frames on) (refused_cut setting.limits.text EndOfFile at le))) refl
+        subst (LastRead Whatever) (sym (ap (token_goes_on setting stack on) (refused_cut setting.limits.text EndOfFile at le))) refl
     token_last on EscapedOutside marks left all going =
-        subst (LastRead Whatever) (sym (ap (token_goes_on setting frames on) (refused_cut setting.limits.text EndOfFile at le))) refl
+        subst (LastRead Whatever) (sym (ap (token_goes_on setting stack on) (refused_cut setting.limits.text EndOfFile at le))) refl
     token_last on EscapedInside marks left all going =
-        subst (LastRead Whatever) (sym (ap (token_goes_on setting frames on) (refused_cut setting.limits.text EndOfFile at le))) refl
+        subst (LastRead Whatever) (sym (ap (token_goes_on setting stack on) (refused_cut setting.limits.text EndOfFile at le))) refl
     token_last on (ScanRefused refusal) marks left all going = cc
 
-    pub position_last : (position : Position) → IsPositionAt at position → LastRead Whatever (position_gives setting frames position at [])
-    position_last AtObject h = run_at_end Whatever setting.table setting.limits at le (between setting frames) (between_at_end frames)
-    position_last (AtToken scan) h = token_last (token_found setting) scan.stage scan.marks scan.left (token_at_end setting) h
-    position_last (AtCallToken call scan) h =
-        token_last (λ marks. completed setting (length frames) call true false (marked marks)) scan.stage scan.marks scan.left
-        (λ marks. completed_at_end setting (length frames) call true false (marked marks)) h
-    position_last (AtText call terminator text) h =
+    pub state_last : (state : State) → IsStateAt at state → LastRead Whatever (state_gives setting stack state at [])
+    state_last AtObject h = run_at_end Whatever setting.table setting.limits at le (between setting stack) (between_at_end stack)
+    state_last (AtToken scan) h = token_last (token_found setting) scan.stage scan.marks scan.left (token_at_end setting) h
+    state_last (AtCallToken call scan) h =
+        token_last (λ marks. completed setting (length stack) call true false (marked marks)) scan.stage scan.marks scan.left
+        (λ marks. completed_at_end setting (length stack) call true false (marked marks)) h
+    state_last (AtText call terminator text) h =
         never (text_to setting terminator text) _ (loop_at_end Never setting.limits (text_turn setting.table terminator) text (λ more. next_byte_at_end Never _))
-    position_last (AtEscaped call terminator text) h = never (next_byte (λ d. text_to setting terminator (text ++ d ∷ []))) _ (next_byte_at_end Never _)
-    position_last (AtLine call text) h =
-        last (then_plan (line_after setting (keep_of call.function) text) (λ cs. completed setting (length frames) call false false (letters cs)))
-        (then_at_end Whatever Whatever (line_after setting (keep_of call.function) text) (λ cs. completed setting (length frames) call false false (letters cs))
+    state_last (AtEscaped call terminator text) h = never (next_byte (λ d. text_to setting terminator (text ++ d ∷ []))) _ (next_byte_at_end Never _)
+    state_last (AtLine call text) h =
+        last (then_plan (line_after setting (keep_of call.function) text) (λ cs. completed setting (length stack) call false false (letters cs)))
+        (then_at_end Whatever Whatever (line_after setting (keep_of call.function) text) (λ cs. completed setting (length stack) call false false (letters cs))
         (loop_at_end Whatever setting.limits (line_turn (keep_of call.function)) text (λ more. takes_at_end Whatever (gives text) (λ c. true) _ (gives_at_end Whatever text tt)))
-        (λ cs none. completed_at_end setting (length frames) call false false (letters cs)))
-    position_last (AtBlock call levels) h =
+        (λ cs none. completed_at_end setting (length stack) call false false (letters cs)))
+    state_last (AtBlock call levels) h =
         never (block_after setting levels) _ (loop_at_end Never setting.limits block_turn levels (λ more. next_byte_at_end Never _))
-    position_last (AtNumber c argument) h =
-        last (dispatched setting (length frames) (inner_at setting (length frames)) c argument)
-        (then_at_end Whatever Whatever (number_after setting argument) (sub_there setting (length frames) (inner_at setting (length frames)) c)
+    state_last (AtNumber c argument) h =
+        last (dispatched setting (length stack) (inner_at setting (length stack)) c argument)
+        (then_at_end Whatever Whatever (number_after setting argument) (sub_there setting (length stack) (inner_at setting (length stack)) c)
         (loop_at_end Whatever setting.limits number_turn argument (λ more. takes_at_end Whatever (gives argument) _ _ (gives_at_end Whatever argument tt)))
         (λ n none. next_byte_at_end Whatever _))
 

@@ -1,22 +1,22 @@
 -- A reader that takes a text one byte at a time: what it is after, and what it answers.
-use Rattle.std.specs.Prelude.{ℕ, ◌≡◌, ◌+◌, ◌≤◌, ◌<◌, true, false, List, [], ◌∷◌, ◌++◌, length, take, drop}
+use Rattle.std.specs.Prelude.{ℕ, ◌≡◌, ◌+◌, ◌≤◌, ◌<◌, true, false, List, [], ◌∷◌, ◌++◌, length, take, drop, ◌-◌, Bool}
 use Rattle.lisp_object.specs.Object.{IsSound}
 use Rattle.lisp_object.specs.Datum.{object_of, is_proper}
 use Rattle.lisp_reading.specs.declared.limits.Limits.{Limits}
-use Rattle.form_reader.specs.declared.position.Position.{Position}
-use Rattle.form_reader.specs.declared.position.Position.TheVariants.{Object as AtObject}
+use Rattle.form_reader.specs.declared.state.State.{State}
+use Rattle.form_reader.specs.declared.state.State.TheVariants.{Object as AtObject}
 use Rattle.form_reader.specs.declared.reader.FormReader.{FormReader}
 use Rattle.form_reader.specs.declared.reader.ReaderState.{ReaderState}
 use Rattle.form_reader.specs.declared.reader.ReaderState.TheVariants.{Open, Refused, OutOfMemory}
 use Rattle.form_reader.specs.declared.reader.Advance.{Advance}
 use Rattle.form_reader.specs.declared.reader.Advance.TheVariants.{More as AdvanceMore, Form as AdvanceForm, Refused as AdvanceRefused}
-use Rattle.form_reader.specs.declared.ending.ReadOutcome.{ReadOutcome}
-use Rattle.form_reader.specs.declared.ending.ReadOutcome.TheVariants.{Form as ReadForm, Empty as ReadEmpty, Refused as ReadRefused}
-use Rattle.form_reader.specs.declared.change.Change.{Change}
-use Rattle.form_reader.specs.declared.change.Change.TheVariants.{Goes, Form as ChangeForm, Refused as ChangeRefused}
+use Rattle.form_reader.specs.declared.reader.ReadOutcome.{ReadOutcome}
+use Rattle.form_reader.specs.declared.reader.ReadOutcome.TheVariants.{Form as ReadForm, Empty as ReadEmpty, Refused as ReadRefused}
+use Rattle.form_reader.specs.declared.step.Change.{Change}
+use Rattle.form_reader.specs.declared.step.Change.TheVariants.{Goes, Form as ChangeForm, Refused as ChangeRefused}
 use Rattle.lisp_reading.specs.Setting.{Setting}
 use Rattle.lisp_reading.specs.Reading.{Outcome, form, empty, refused, is_whitespace, reads}
-use Rattle.form_reader.specs.Changing.{rest_of}
+use Rattle.form_reader.specs.Step.{rest_of}
 
 -- the limits under which it reads
 abbrev pub limits_of : FormReader → Limits
@@ -36,7 +36,7 @@ HasRefused reader number offset = reader.state ≡ Refused number offset
 
 -- it is in a form, or between forms
 abbrev pub IsOpen : FormReader → Type 0
-IsOpen reader = (position : Position) × (reader.state ≡ Open position)
+IsOpen reader = (state : State) × (reader.state ≡ Open state)
 
 -- it ran out of memory
 abbrev pub HasNoMemory : FormReader → Type 0
@@ -58,13 +58,13 @@ DecideNothing setting bytes =
 pub record IsNew (reader : FormReader) : Type 0 where
   pub start : reader.start ≡ 0
   pub at : reader.at ≡ 0
-  pub frames : reader.frames ≡ []
+  pub stack : reader.stack ≡ []
   pub state : reader.state ≡ Open AtObject
 
 -- It is between forms: nothing is open, and no attempt at an object has taken a byte.
 pub record IsBetween (reader : FormReader) : Type 0 where
   pub at : reader.at ≡ 0
-  pub frames : reader.frames ≡ []
+  pub stack : reader.stack ≡ []
   pub state : reader.state ≡ Open AtObject
 
 -- after a form it is between forms
@@ -75,9 +75,9 @@ LeavesBetween new _ = Unit {0}
 -- The reader is after these bytes, in this setting: what is read of them, with any text after them, is what it stands for with
 -- this text. A reader that ran out of memory is after no bytes.
 abbrev pub IsAfterIn : Setting → FormReader → ReaderState → List ℕ → Type 0
-IsAfterIn setting reader (Open position) bytes =
+IsAfterIn setting reader (Open state) bytes =
     (fed reader ≡ length bytes)
-    × ((cs : List ℕ) → reads setting (bytes ++ cs) ≡ rest_of setting reader.frames position reader.start reader.at cs)
+    × ((cs : List ℕ) → reads setting (bytes ++ cs) ≡ rest_of setting reader.stack state reader.start reader.at cs)
 IsAfterIn setting reader (Refused number offset) bytes = (cs : List ℕ) → reads setting (bytes ++ cs) ≡ refused number offset
 IsAfterIn setting reader OutOfMemory bytes = ⊥
 
@@ -148,11 +148,29 @@ IsSoundStep _ = Unit {0}
 
 -- what a change makes of a reader, and what is answered
 abbrev pub Becomes : Change → FormReader → FormReader → Advance → Type 0
-Becomes (Goes start at position) old new step =
-    (step ≡ AdvanceMore) × (new.start ≡ start) × (new.at ≡ at) × (new.frames ≡ old.frames) × (new.state ≡ Open position)
+Becomes (Goes start at state) old new step =
+    (step ≡ AdvanceMore) × (new.start ≡ start) × (new.at ≡ at) × (new.stack ≡ old.stack) × (new.state ≡ Open state)
 Becomes (ChangeForm x start «end» next) old new (AdvanceForm datum s e n) =
     (object_of datum ≡ x) × (is_proper datum ≡ true) × (s ≡ start) × (e ≡ «end») × (n ≡ next)
-    × (new.start ≡ 0) × (new.at ≡ 0) × (new.frames ≡ old.frames) × (new.state ≡ Open AtObject)
+    × (new.start ≡ 0) × (new.at ≡ 0) × (new.stack ≡ old.stack) × (new.state ≡ Open AtObject)
 Becomes (ChangeForm x start «end» next) old new _ = ⊥
 Becomes (ChangeRefused number offset) old new step =
     (step ≡ AdvanceRefused number offset) × (new.state ≡ Refused number offset) × (new.start ≡ old.start) × (new.at ≡ old.at)
+
+-- more bytes decide
+abbrev pub is_more : Advance → Bool
+is_more AdvanceMore = true
+is_more _ = false
+
+-- So many of the bytes are taken, one step after the other, after the bytes before: the last step answers this, and where it decides,
+-- those before it had decided nothing.
+pub record Feeds (setting : Setting) (reader : FormReader) (before bytes : List ℕ) (count : ℕ) (step : Advance) : Type 0 where
+  pub steps : Steps setting reader (before ++ take count bytes) step
+  pub undecided : is_more step ≡ false → 1 < count → DecideNothing setting (before ++ take (count - 1) bytes)
+
+-- how many bytes it was fed after so many steps, the last of which answers this, and where what is open then began: of a form, its
+-- object
+abbrev pub Advances : FormReader → FormReader → ℕ → Advance → Type 0
+Advances old new count AdvanceMore = (fed new ≡ fed old + count) × (begun old ≤ begun new) × (begun new ≤ fed new)
+Advances old new count (AdvanceForm datum start «end» next) = (fed new ≡ 0) × (begun old ≤ start) × (begun new ≡ 0)
+Advances old new count (AdvanceRefused number offset) = begun old ≤ begun new

@@ -1,14 +1,14 @@
 //! A reader that takes a text one byte at a time.
 ghost use Rattle.std.specs.Prelude.{◌≡◌, IsTrue};
-ghost use Rattle.form_reader.specs.Standing.{is_standing};
+ghost use Rattle.form_reader.specs.State.{is_standing};
 ghost use Rattle.form_reader.specs.declared.reader.ReaderState.TheVariants.{Refused, OutOfMemory};
 
-use crate::change::{Change, take_byte};
-use crate::ending::{ReadOutcome, last_outcome};
-use crate::frame::Frames;
-use crate::in_place::{InPlace, in_place};
-use crate::position::Position;
-use crate::surroundings::Surroundings;
+use crate::context::Context;
+use crate::end_of_text::last_outcome;
+use crate::stack::Stack;
+use crate::state::State;
+use crate::step::in_place::{InPlace, in_place};
+use crate::step::{Change, take_byte};
 use lisp_object::Datum;
 use lisp_reading::Limits;
 use package_table::Packages;
@@ -17,6 +17,11 @@ use std::alloc::{AllocError, Global};
 use std::mem;
 use user_macros::MacroFunctions;
 
+mod feed;
+mod whole;
+
+pub use whole::read_one;
+
 /// A reader that takes the text of a form one byte at a time. It keeps no text, but what the calls that are open have gathered.
 #[derive(Drop)]
 pub struct FormReader {
@@ -24,16 +29,16 @@ pub struct FormReader {
     alloc: Global,
     start: usize,
     at: usize,
-    frames: Frames,
+    stack: Stack,
     state: ReaderState,
-    ghost standing: { IsTrue (is_standing limits frames at state) },
+    ghost standing: { IsTrue (is_standing limits stack at state) },
 }
 
 /// Where a reader is.
 #[derive(Drop)]
 pub enum ReaderState {
     /// In a form: where it is in the innermost call.
-    Open(Position),
+    Open(State),
     /// It refused the text, with this number, at this offset.
     Refused(u16, usize),
     /// It ran out of memory.
@@ -63,12 +68,12 @@ impl FormReader {
     ghost use Rattle.std.specs.Prelude.{◌≡◌, ◌<◌, ◌≤◌, ◌+◌, ◌^◌, ℕ, true, false, List, [], ◌∷◌, ◌++◌, Ok, IfOk, IsErr, OnErr};
     ghost use Rattle.package_table.specs.Table.{IsPackage};
     ghost use Rattle.lisp_reading.specs.Setting.{Setting, setting_of};
-    ghost use Rattle.form_reader.specs.Surrounding.{setting};
+    ghost use Rattle.form_reader.specs.Context.{setting};
     ghost use Rattle.lisp_object.specs.Object.{Object};
     ghost use Rattle.lisp_reading.specs.Reading.{form, is_whitespace, reads};
     ghost use Rattle.form_reader.specs.declared.reader.Advance.TheVariants.{More as AdvanceMore, Refused as AdvanceRefused};
-    ghost use Rattle.form_reader.specs.declared.ending.ReadOutcome.TheVariants.{Empty as ReadEmpty, Refused as ReadRefused};
-    ghost use Rattle.form_reader.specs.Changing.{IsReadyChange};
+    ghost use Rattle.form_reader.specs.declared.reader.ReadOutcome.TheVariants.{Empty as ReadEmpty, Refused as ReadRefused};
+    ghost use Rattle.form_reader.specs.Step.{IsReadyChange};
     ghost use Rattle.form_reader.specs.Reader.{limits_of, fed, begun, HasRefused, HasNoMemory, IsNew, IsBetween, LeavesBetween, IsAfter, IsOpen, Steps, Counts, BeginsLater, HasBegun, StepsBegun, IsSoundStep, Becomes, IsOutcome};
 
     /// A reader that was fed nothing, between forms. It keeps `alloc` for what it gathers.
@@ -85,8 +90,8 @@ impl FormReader {
             alloc,
             start: 0,
             at: 0,
-            frames: Frames::new(alloc),
-            state: ReaderState::Open(Position::Object),
+            stack: Stack::new(alloc),
+            state: ReaderState::Open(State::Object),
         }
     }
 
@@ -155,7 +160,7 @@ impl FormReader {
             (R.functions macros.now))
             self.new (bytes ++ byte ∷ [])) }
     {
-        let with = Surroundings {
+        let with = Context {
             alloc: self.alloc,
             limits: self.limits,
             readtable,
@@ -166,7 +171,7 @@ impl FormReader {
         };
         let at = self.at;
         match &mut self.state {
-            ReaderState::Open(position) => match in_place(&with, &self.frames, position, at, byte) {
+            ReaderState::Open(state) => match in_place(&with, &self.stack, state, at, byte) {
                 Ok(InPlace::GoesOn) => {
                     self.at += 1;
                     Ok(Advance::More)
@@ -199,7 +204,7 @@ impl FormReader {
     #[inline(never)]
     fn leave<R: MacroFunctions>(
         &mut self,
-        with: &Surroundings<'_, R>,
+        with: &Context<'_, R>,
         byte: u8,
     ) -> Result<Advance, AllocError>
         requires answers { R.answers with.now.macros.now }
@@ -225,8 +230,8 @@ impl FormReader {
     {
         // Until the byte has come to something: where that fails, the reader answers the same again.
         match mem::replace(&mut self.state, ReaderState::OutOfMemory) {
-            ReaderState::Open(position) => {
-                let next = take_byte(with, &mut self.frames, position, self.start, self.at, byte)?;
+            ReaderState::Open(state) => {
+                let next = take_byte(with, &mut self.stack, state, self.start, self.at, byte)?;
                 Ok(self.take(next))
             }
             ReaderState::Refused(..) => unreachable!(),
@@ -237,22 +242,22 @@ impl FormReader {
     /// Becomes what a byte is to the text.
     #[inline(always)]
     fn take(&mut self, change: Change) -> Advance
-        requires ready { IsReadyChange (limits_of self.old) self.old.frames (fed self.old + 1) change }
+        requires ready { IsReadyChange (limits_of self.old) self.old.stack (fed self.old + 1) change }
         ensures limits { limits_of self.new ≡ limits_of self.old }
         ensures takes { Becomes change self.old self.new result }
         ensures sound { IsSoundStep result }
     {
         match change {
-            Change::Goes(start, at, position) => {
+            Change::Goes(start, at, state) => {
                 self.start = start;
                 self.at = at;
-                self.state = ReaderState::Open(position);
+                self.state = ReaderState::Open(state);
                 Advance::More
             }
             Change::Form(x, start, end, next) => {
                 self.start = 0;
                 self.at = 0;
-                self.state = ReaderState::Open(Position::Object);
+                self.state = ReaderState::Open(State::Object);
                 Advance::Form {
                     datum: x.into_sound_datum(),
                     start,
@@ -299,12 +304,12 @@ impl FormReader {
             alloc,
             start,
             at,
-            mut frames,
+            mut stack,
             state,
         } = self;
         match state {
-            ReaderState::Open(position) => {
-                let with = Surroundings {
+            ReaderState::Open(state) => {
+                let with = Context {
                     alloc,
                     limits,
                     readtable,
@@ -313,7 +318,7 @@ impl FormReader {
                     current,
                     macros,
                 };
-                last_outcome(&with, &mut frames, position, start, at)
+                last_outcome(&with, &mut stack, state, start, at)
             }
             ReaderState::Refused(code, at) => Ok(ReadOutcome::Refused { code, at }),
             ReaderState::OutOfMemory => Err(AllocError),
@@ -335,4 +340,24 @@ fn run_out(state: &mut ReaderState)
     ensures { state.new ≡ OutOfMemory }
 {
     *state = ReaderState::OutOfMemory;
+}
+
+/// What a text begins with.
+#[derive(Drop)]
+pub enum ReadOutcome {
+    /// An object, its start, its end, and where the next form begins: at the end, or after the one whitespace character that
+    /// is discarded with it.
+    Form {
+        datum: Datum,
+        start: usize,
+        end: usize,
+        next: usize,
+    },
+    /// Only discarded text.
+    Empty,
+    /// The number of a refusal, and its offset.
+    Refused {
+        code: u16,
+        at: usize,
+    },
 }

@@ -6,6 +6,7 @@ ghost use Rattle.lisp_object.specs.Datum.{object_of, is_proper};
 ghost use Rattle.readtable_core.specs.declared.table.Case.TheVariants.{Upcase};
 ghost use Rattle.readtable_core.specs.Tables.{entry_at};
 ghost use Rattle.package_table.specs.Table.{IsPackage};
+ghost use Rattle.package_table.specs.Symbols.{are_there};
 ghost use Rattle.user_macros.specs.Functions.{Functions};
 ghost use Rattle.lisp_reading.specs.Setting.{setting_of};
 ghost use Rattle.lisp_reading.specs.Reading.{is_whitespace, form, reads};
@@ -19,11 +20,12 @@ use readtable_core::standard_names::{STD_LIST, STD_QUOTE, STD_STRING};
 use readtable_core::{Case, Readtable, Syntax};
 use std::alloc::{AllocError, Global};
 
-/// A form that begins a text: its object, and its end.
+/// A form that begins a text: its object, its end, and whether each of its symbols is known to be one of the packages.
 #[derive(Drop)]
 pub struct PlainForm {
     pub datum: Datum,
     pub end: usize,
+    pub known: bool,
 }
 
 /// The form that the text `bytes` begins with, where numbers are in `base`, which is 2 to 36, if it is a list that is written
@@ -42,9 +44,12 @@ pub fn read_plain(
     requires lowest_base { 2 ≤ base }
     requires highest_base { base ≤ 36 }
     requires current { IsPackage packages.now.0 current.now }
-    ensures form { (functions : Functions) (more : List ℕ) → IfOk result (λ found. IfSome found (λ f. reads
-        (setting_of limits readtable.now base packages.now.0 current.now functions) (bytes.now ++ more)
-        ≡ form (object_of f.datum) 0 f.end f.end)) }
+    ensures form { (functions : Functions) (more : List ℕ) →
+        let setting = setting_of limits readtable.now base packages.now.0 current.now functions in
+        IfOk result (λ found. IfSome found
+        (λ f. reads setting (bytes.now ++ more) ≡ form (object_of f.datum) 0 f.end f.end)) }
+    ensures known { IfOk result (λ found. IfSome found
+        (λ f. f.known ≡ true → are_there packages.now.0 (object_of f.datum) ≡ true)) }
     ensures proper { IfOk result (λ found. IfSome found (λ f. is_proper f.datum ≡ true)) }
     ensures sound { IfOk result (λ found. IfSome found (λ f. IsSound (object_of f.datum))) }
     ensures some { IfOk result (λ found. IfSome found (λ f. 0 < f.end)) }
@@ -67,15 +72,18 @@ pub fn read_plain(
                 base,
                 packages,
                 current,
+                current_package: packages.package(current),
                 standard: base == 10 && is_upcase(readtable.case()),
                 quotes: calls(readtable, b'\'', STD_QUOTE),
                 texts: calls(readtable, b'"', STD_STRING),
             };
-            match list(&with, limits.nesting, rest)? {
+            let mut known = true;
+            match list(&with, limits.nesting, &mut known, rest)? {
                 None => Ok(None),
                 Some(taken) => Ok(Some(PlainForm {
                     datum: taken.object.into_datum(),
                     end: bytes.len() - taken.rest.len(),
+                    known,
                 })),
             }
         }

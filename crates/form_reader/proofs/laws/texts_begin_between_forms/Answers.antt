@@ -1,4 +1,4 @@
-use Rattle.form_reader.proofs.Between.{between_empty, between_reads}
+use Rattle.form_reader.proofs.Readers.{between_empty, between_reads}
 use Rattle.form_reader.proofs.laws.texts_begin_between_forms.Goals as goal
 
 pub returns : goal.returns

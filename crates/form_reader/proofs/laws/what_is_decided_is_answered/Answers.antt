@@ -1,4 +1,4 @@
-use Rattle.form_reader.proofs.Waiting.{undecided}
+use Rattle.form_reader.proofs.Deciding.{undecided}
 use Rattle.form_reader.proofs.laws.what_is_decided_is_answered.Goals as goal
 
 pub returns : goal.returns

@@ -1,4 +1,4 @@
-use Rattle.form_reader.proofs.ReaderSteps.{begun_first}
+use Rattle.form_reader.proofs.Readers.{begun_first}
 use Rattle.form_reader.proofs.reader.FormReader.begun.Goals as goal
 
 pub returns-clause-form : goal.returns-clause-form

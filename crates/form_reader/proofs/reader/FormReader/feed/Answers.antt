@@ -6,8 +6,8 @@ use Rattle.lisp_reading.specs.Setting.{Setting, setting_of}
 use Rattle.lisp_reading.specs.Reading.{is_whitespace}
 use Rattle.form_reader.specs.declared.reader.Advance.TheVariants.{More as AdvanceMore}
 use Rattle.form_reader.specs.Reader.{IsAfter, HasBegun, Steps, StepsBegun}
-use Rattle.form_reader.proofs.FeedSteps.{more_is, counts_more, begins_more, advances_last, none_taken, none_begun, steps_on, begun_on, begun_last, feeds_last, feeds_whole, not_more, ok_more}
-use Rattle.form_reader.proofs.WholeTexts.{each_holds}
+use Rattle.form_reader.proofs.Feeds.{more_is, counts_more, begins_more, advances_last, none_taken, none_begun, steps_on, begun_on, begun_last, feeds_last, feeds_whole, not_more, ok_more}
+use Rattle.form_reader.proofs.Feeds.{each_holds}
 use Rattle.form_reader.proofs.reader.FormReader.feed.Goals as goal
 
 pub loop-byte-init : goal.loop-byte-init

@@ -1,4 +1,4 @@
-use Rattle.form_reader.proofs.ReaderSteps.{refused_finishes}
+use Rattle.form_reader.proofs.Readers.{refused_finishes}
 use Rattle.form_reader.proofs.reader.FormReader.finish.Goals as goal
 
 pub returns-in-Refused-clause-outcome : goal.returns-in-Refused-clause-outcome

@@ -1,5 +1,5 @@
 use Rattle.std.proofs.Common.{refl}
-use Rattle.form_reader.proofs.ReaderSteps.{new_rest}
+use Rattle.form_reader.proofs.Readers.{new_rest}
 use Rattle.form_reader.proofs.Begun.{new_begun}
 use Rattle.form_reader.proofs.reader.FormReader.new.Goals as goal
 
@@ -7,4 +7,4 @@ pub returns-clause-after : goal.returns-clause-after
 returns-clause-after c = λ setting. (refl, new_rest setting c.new.result c.new.ensures)
 
 pub returns-clause-has_begun : goal.returns-clause-has_begun
-returns-clause-has_begun c = λ setting. new_begun setting _ (record { start = refl; at = refl; frames = c.new.ensures; state = refl }) (returns-clause-after c setting)
+returns-clause-has_begun c = λ setting. new_begun setting _ (record { start = refl; at = refl; stack = c.new.ensures; state = refl }) (returns-clause-after c setting)

@@ -1,12 +1,12 @@
 use Rattle.std.proofs.Common.{◌+◌, [], refl, sym, ap, subst, ◌∙◌, arith}
 use Rattle.std.specs.Prelude.{IsTrue}
-use Rattle.form_reader.specs.Standing.{is_standing}
+use Rattle.form_reader.specs.State.{is_standing}
 use Rattle.form_reader.specs.declared.reader.ReaderState.{ReaderState}
 use Rattle.form_reader.specs.declared.reader.ReaderState.TheVariants.{Open}
 use Rattle.lisp_reading.specs.Setting.{setting_of}
 use Rattle.form_reader.specs.Reader.{IsAfterIn}
-use Rattle.form_reader.proofs.ReaderSteps.{went_on, went_past, gave_up, taken_there, passed_there, left_there, refused_there, ready_there, ready_past}
-use Rattle.form_reader.proofs.Standings.{standing_of}
+use Rattle.form_reader.proofs.Readers.{went_on, went_past, gave_up, taken_there, passed_there, left_there, refused_there, ready_there, ready_past}
+use Rattle.form_reader.proofs.States.{standing_of}
 use Rattle.form_reader.proofs.Begun.{between_begun, other_there, stays_begun, went_begun}
 use Rattle.form_reader.proofs.reader.FormReader.step.Goals as goal
 
@@ -14,47 +14,47 @@ pub returns-in-Ok-GoesOn-clause-steps : goal.returns-in-Ok-GoesOn-clause-steps
 returns-in-Ok-GoesOn-clause-steps g c = λ bytes after.
     let setting = setting_of c.args.self.now.limits c.args.readtable.now c.args.base c.args.packages.now.0 c.args.current.now
     (g.R.MacroFunctions.functions c.args.macros.now) in
-    went_on setting c.args.self.now c.args.self.now c.args.self.now c.in-Open.position bytes c.args.byte c.args.self.now.frames c.in_place.new.position
+    went_on setting c.args.self.now c.args.self.now c.args.self.now c.in-Open.state bytes c.args.byte c.args.self.now.stack c.in_place.new.state
     (subst (λ (s : ReaderState). IsAfterIn setting c.args.self.now s bytes) c.in-Open.is after)
-    (λ cs. taken_there setting c.args.self.now.frames c.args.self.now.start c.args.self.now.at c.args.byte c.in-Open.position c.in_place.new.position c.in-Ok-GoesOn.field-0 cs c.in-Ok-GoesOn.field-0-is (c.in-Ok-GoesOn.ensures.feeds cs))
-    (ready_there setting c.args.self.now.frames c.args.self.now.start c.args.self.now.at c.args.byte c.in-Open.position c.in_place.new.position c.in-Ok-GoesOn.field-0 c.args.self.now.limits c.in-Ok-GoesOn.field-0-is c.in-Ok-GoesOn.ensures.ready
-    (standing_of c.args.self.now.limits c.args.self.now.frames c.args.self.now.at c.args.self.now.state c.in-Open.position c.in-Open.is c.args.self.now.standing))
+    (λ cs. taken_there setting c.args.self.now.stack c.args.self.now.start c.args.self.now.at c.args.byte c.in-Open.state c.in_place.new.state c.in-Ok-GoesOn.field-0 cs c.in-Ok-GoesOn.field-0-is (c.in-Ok-GoesOn.ensures.feeds cs))
+    (ready_there setting c.args.self.now.stack c.args.self.now.start c.args.self.now.at c.args.byte c.in-Open.state c.in_place.new.state c.in-Ok-GoesOn.field-0 c.args.self.now.limits c.in-Ok-GoesOn.field-0-is c.in-Ok-GoesOn.ensures.ready
+    (standing_of c.args.self.now.limits c.args.self.now.stack c.args.self.now.at c.args.self.now.state c.in-Open.state c.in-Open.is c.args.self.now.standing))
 
 pub returns-in-Ok-Passed-clause-steps : goal.returns-in-Ok-Passed-clause-steps
 returns-in-Ok-Passed-clause-steps g c = λ bytes after.
     let setting = setting_of c.args.self.now.limits c.args.readtable.now c.args.base c.args.packages.now.0 c.args.current.now
     (g.R.MacroFunctions.functions c.args.macros.now) in
-    went_past setting c.args.self.now c.args.self.now c.args.self.now c.in-Open.position bytes c.args.byte c.args.self.now.frames c.in_place.new.position
+    went_past setting c.args.self.now c.args.self.now c.args.self.now c.in-Open.state bytes c.args.byte c.args.self.now.stack c.in_place.new.state
     (subst (λ (s : ReaderState). IsAfterIn setting c.args.self.now s bytes) c.in-Open.is after)
-    (λ cs. passed_there setting c.args.self.now.frames c.args.self.now.start c.args.self.now.at c.args.byte c.in-Open.position c.in_place.new.position c.in-Ok-Passed.field-0 cs c.in-Ok-Passed.field-0-is (c.in-Ok-Passed.ensures.feeds cs))
-    (ready_past setting c.args.self.now.frames c.args.self.now.start c.args.self.now.at c.args.byte c.in-Open.position c.in_place.new.position c.in-Ok-Passed.field-0 c.args.self.now.limits c.in-Ok-Passed.field-0-is c.in-Ok-Passed.ensures.ready
-    (standing_of c.args.self.now.limits c.args.self.now.frames c.args.self.now.at c.args.self.now.state c.in-Open.position c.in-Open.is c.args.self.now.standing))
+    (λ cs. passed_there setting c.args.self.now.stack c.args.self.now.start c.args.self.now.at c.args.byte c.in-Open.state c.in_place.new.state c.in-Ok-Passed.field-0 cs c.in-Ok-Passed.field-0-is (c.in-Ok-Passed.ensures.feeds cs))
+    (ready_past setting c.args.self.now.stack c.args.self.now.start c.args.self.now.at c.args.byte c.in-Open.state c.in_place.new.state c.in-Ok-Passed.field-0 c.args.self.now.limits c.in-Ok-Passed.field-0-is c.in-Ok-Passed.ensures.ready
+    (standing_of c.args.self.now.limits c.args.self.now.stack c.args.self.now.at c.args.self.now.state c.in-Open.state c.in-Open.is c.args.self.now.standing))
 
 pub returns-in-Ok-Refused-clause-steps : goal.returns-in-Ok-Refused-clause-steps
 returns-in-Ok-Refused-clause-steps g c = λ bytes after.
     let setting = setting_of c.args.self.now.limits c.args.readtable.now c.args.base c.args.packages.now.0 c.args.current.now
     (g.R.MacroFunctions.functions c.args.macros.now) in (
-      gave_up setting c.args.self.now c.args.self.now c.args.self.now c.in-Open.position bytes c.args.byte c.args.self.now.frames c.in-Ok-Refused.code (c.args.self.now.start + c.args.self.now.at)
+      gave_up setting c.args.self.now c.args.self.now c.args.self.now c.in-Open.state bytes c.args.byte c.args.self.now.stack c.in-Ok-Refused.code (c.args.self.now.start + c.args.self.now.at)
           (subst (λ (s : ReaderState). IsAfterIn setting c.args.self.now s bytes) c.in-Open.is after)
-          (λ cs. refused_there setting c.args.self.now.frames c.args.self.now.start c.args.self.now.at c.args.byte c.in-Open.position c.in_place.new.position c.in-Ok-Refused.field-0 c.in-Ok-Refused.code cs c.in-Ok-Refused.field-0-is (c.in-Ok-Refused.ensures.feeds cs)),
+          (λ cs. refused_there setting c.args.self.now.stack c.args.self.now.start c.args.self.now.at c.args.byte c.in-Open.state c.in_place.new.state c.in-Ok-Refused.field-0 c.in-Ok-Refused.code cs c.in-Ok-Refused.field-0-is (c.in-Ok-Refused.ensures.feeds cs)),
       c.refuse.ensures,
     )
 
 pub leave-requires-clause-open : goal.leave-requires-clause-open
-leave-requires-clause-open g c = (c.in_place.new.position, refl)
+leave-requires-clause-open g c = (c.in_place.new.state, refl)
 
 pub invariant_of-self-in-Ok-Left : goal.invariant_of-self-in-Ok-Left
 invariant_of-self-in-Ok-Left g c =
     let setting = setting_of c.args.self.now.limits c.args.readtable.now c.args.base c.args.packages.now.0 c.args.current.now
     (g.R.MacroFunctions.functions c.args.macros.now) in
-    let stays = left_there setting c.args.self.now.frames c.args.self.now.start c.args.self.now.at c.args.byte c.in-Open.position c.in_place.new.position c.in-Ok-Left.field-0 [] c.in-Ok-Left.field-0-is (c.in-Ok-Left.ensures.feeds []) in
-    record { standing = subst (λ (s : ReaderState). IsTrue (is_standing c.args.self.now.limits c.args.self.now.frames c.args.self.now.at s)) (c.in-Open.is ∙ ap Open (sym stays)) c.args.self.now.standing }
+    let stays = left_there setting c.args.self.now.stack c.args.self.now.start c.args.self.now.at c.args.byte c.in-Open.state c.in_place.new.state c.in-Ok-Left.field-0 [] c.in-Ok-Left.field-0-is (c.in-Ok-Left.ensures.feeds []) in
+    record { standing = subst (λ (s : ReaderState). IsTrue (is_standing c.args.self.now.limits c.args.self.now.stack c.args.self.now.at s)) (c.in-Open.is ∙ ap Open (sym stays)) c.args.self.now.standing }
 
 pub returns-in-Ok-Left-clause-steps : goal.returns-in-Ok-Left-clause-steps
 returns-in-Ok-Left-clause-steps g c = λ bytes after.
     let setting = setting_of c.args.self.now.limits c.args.readtable.now c.args.base c.args.packages.now.0 c.args.current.now
     (g.R.MacroFunctions.functions c.args.macros.now) in
-    let stays = left_there setting c.args.self.now.frames c.args.self.now.start c.args.self.now.at c.args.byte c.in-Open.position c.in_place.new.position c.in-Ok-Left.field-0 [] c.in-Ok-Left.field-0-is (c.in-Ok-Left.ensures.feeds []) in
+    let stays = left_there setting c.args.self.now.stack c.args.self.now.start c.args.self.now.at c.args.byte c.in-Open.state c.in_place.new.state c.in-Ok-Left.field-0 [] c.in-Ok-Left.field-0-is (c.in-Ok-Left.ensures.feeds []) in
     c.leave.ensures.steps bytes (subst (λ (s : ReaderState). IsAfterIn setting c.args.self.now s bytes) (c.in-Open.is ∙ ap Open (sym stays)) after)
 
 -- ---- where what is open began
@@ -63,41 +63,41 @@ pub returns-in-Ok-GoesOn-clause-has_begun : goal.returns-in-Ok-GoesOn-clause-has
 returns-in-Ok-GoesOn-clause-has_begun g c = λ bytes after has.
     let setting = setting_of c.args.self.now.limits c.args.readtable.now c.args.base c.args.packages.now.0 c.args.current.now
     (g.R.MacroFunctions.functions c.args.macros.now) in
-    went_begun setting c.args.self.now c.in-Open.position bytes c.args.byte (subst (λ (s : ReaderState). IsAfterIn setting c.args.self.now s bytes) c.in-Open.is after) has _
-    (other_there setting c.args.self.now c.in-Open.position c.args.byte c.in_place.result c.in-Open.is (λ none space. (c.in_place.ensures.passed none space).0) (λ e. cc)) refl (omega arith) (c.in_place.new.position, refl)
+    went_begun setting c.args.self.now c.in-Open.state bytes c.args.byte (subst (λ (s : ReaderState). IsAfterIn setting c.args.self.now s bytes) c.in-Open.is after) has _
+    (other_there setting c.args.self.now c.in-Open.state c.args.byte c.in_place.result c.in-Open.is (λ none space. (c.in_place.ensures.passed none space).0) (λ e. cc)) refl (omega arith) (c.in_place.new.state, refl)
 
 pub returns-in-Ok-Passed-clause-has_begun : goal.returns-in-Ok-Passed-clause-has_begun
 returns-in-Ok-Passed-clause-has_begun g c = λ bytes after has.
     let anew = c.in_place.ensures.anew cc in
-    between_begun _ _ _ (returns-in-Ok-Passed-clause-steps g c bytes after).0 (record { at = refl; frames = anew.0; state = ap Open anew.1 })
+    between_begun _ _ _ (returns-in-Ok-Passed-clause-steps g c bytes after).0 (record { at = refl; stack = anew.0; state = ap Open anew.1 })
 
 pub returns-in-Ok-Refused-clause-has_begun : goal.returns-in-Ok-Refused-clause-has_begun
 returns-in-Ok-Refused-clause-has_begun g c = λ bytes after has.
     let setting = setting_of c.args.self.now.limits c.args.readtable.now c.args.base c.args.packages.now.0 c.args.current.now
     (g.R.MacroFunctions.functions c.args.macros.now) in
-    stays_begun setting c.args.self.now c.in-Open.position bytes c.args.byte (subst (λ (s : ReaderState). IsAfterIn setting c.args.self.now s bytes) c.in-Open.is after) has
-    (other_there setting c.args.self.now c.in-Open.position c.args.byte c.in_place.result c.in-Open.is (λ none space. (c.in_place.ensures.passed none space).0) (λ e. cc))
+    stays_begun setting c.args.self.now c.in-Open.state bytes c.args.byte (subst (λ (s : ReaderState). IsAfterIn setting c.args.self.now s bytes) c.in-Open.is after) has
+    (other_there setting c.args.self.now c.in-Open.state c.args.byte c.in_place.result c.in-Open.is (λ none space. (c.in_place.ensures.passed none space).0) (λ e. cc))
 
 pub leave-requires-clause-other : goal.leave-requires-clause-other
 leave-requires-clause-other g c = λ between.
     let setting = setting_of c.args.self.now.limits c.args.readtable.now c.args.base c.args.packages.now.0 c.args.current.now
     (g.R.MacroFunctions.functions c.args.macros.now) in
-    let stays = left_there setting c.args.self.now.frames c.args.self.now.start c.args.self.now.at c.args.byte c.in-Open.position c.in_place.new.position c.in-Ok-Left.field-0 [] c.in-Ok-Left.field-0-is (c.in-Ok-Left.ensures.feeds []) in
-    (other_there setting c.args.self.now c.in-Open.position c.args.byte c.in_place.result c.in-Open.is (λ none space. (c.in_place.ensures.passed none space).0) (λ e. cc))
-    (record { at = between.at; frames = between.frames; state = c.in-Open.is ∙ ap Open (sym stays) ∙ between.state })
+    let stays = left_there setting c.args.self.now.stack c.args.self.now.start c.args.self.now.at c.args.byte c.in-Open.state c.in_place.new.state c.in-Ok-Left.field-0 [] c.in-Ok-Left.field-0-is (c.in-Ok-Left.ensures.feeds []) in
+    (other_there setting c.args.self.now c.in-Open.state c.args.byte c.in_place.result c.in-Open.is (λ none space. (c.in_place.ensures.passed none space).0) (λ e. cc))
+    (record { at = between.at; stack = between.stack; state = c.in-Open.is ∙ ap Open (sym stays) ∙ between.state })
 
 pub returns-in-Ok-Left-clause-has_begun : goal.returns-in-Ok-Left-clause-has_begun
 returns-in-Ok-Left-clause-has_begun g c = λ bytes after has.
     let setting = setting_of c.args.self.now.limits c.args.readtable.now c.args.base c.args.packages.now.0 c.args.current.now
     (g.R.MacroFunctions.functions c.args.macros.now) in
-    let stays = left_there setting c.args.self.now.frames c.args.self.now.start c.args.self.now.at c.args.byte c.in-Open.position c.in_place.new.position c.in-Ok-Left.field-0 [] c.in-Ok-Left.field-0-is (c.in-Ok-Left.ensures.feeds []) in
+    let stays = left_there setting c.args.self.now.stack c.args.self.now.start c.args.self.now.at c.args.byte c.in-Open.state c.in_place.new.state c.in-Ok-Left.field-0 [] c.in-Ok-Left.field-0-is (c.in-Ok-Left.ensures.feeds []) in
     c.leave.ensures.has_begun bytes (subst (λ (s : ReaderState). IsAfterIn setting c.args.self.now s bytes) (c.in-Open.is ∙ ap Open (sym stays)) after)
     (record {
-      goes_on = (c.in_place.new.position, refl);
+      goes_on = (c.in_place.new.state, refl);
       begins = has.begins;
       between = λ e.
           let b = has.between e in
-          record { at = b.at; frames = b.frames; state = ap Open stays ∙ sym c.in-Open.is ∙ b.state };
+          record { at = b.at; stack = b.stack; state = ap Open stays ∙ sym c.in-Open.is ∙ b.state };
     })
 
 pub returns-in-Refused-clause-has_begun : goal.returns-in-Refused-clause-has_begun

@@ -1,0 +1,286 @@
+-- What a step and the end of the text are to a reader, from what a change is to the outcome; where a reader is between forms.
+use Rattle.std.proofs.Common.{◌≡◌, ℕ, ◌+◌, ◌≤◌, true, List, [], ◌∷◌, ◌++◌, length, Result, Ok, Err, IfOk, take, drop, sym, ap, subst, ◌∙◌, append_assoc, append-nil, length-append, arith, refl}
+use Rattle.std.proofs.lemmas.List.{take-append-drop}
+use Rattle.lisp_object.specs.declared.datum.Datum.{Datum}
+use Rattle.lisp_object.specs.Object.{Object, IsSound}
+use Rattle.lisp_object.specs.Datum.{object_of, is_proper}
+use Rattle.form_reader.specs.declared.stack.Frame.{Frame}
+use Rattle.lisp_reading.specs.declared.limits.Limits.{Limits}
+use Rattle.form_reader.specs.declared.reader.FormReader.{FormReader}
+use Rattle.form_reader.specs.declared.reader.ReaderState.{ReaderState}
+use Rattle.form_reader.specs.declared.reader.ReaderState.TheVariants.{Open, Refused, OutOfMemory}
+use Rattle.form_reader.specs.declared.reader.Advance.{Advance}
+use Rattle.form_reader.specs.declared.reader.Advance.TheVariants.{More as AdvanceMore, Form as AdvanceForm, Refused as AdvanceRefused}
+use Rattle.form_reader.specs.declared.state.State.{State}
+use Rattle.form_reader.specs.declared.state.State.TheVariants.{Object as AtObject}
+use Rattle.form_reader.specs.declared.step.Change.{Change}
+use Rattle.form_reader.specs.declared.step.Change.TheVariants.{Goes, Form as ChangeForm, Refused as ChangeRefused}
+use Rattle.lisp_reading.specs.declared.found.Found.{Found}
+use Rattle.lisp_reading.specs.declared.found.Found.TheVariants.{Nothing as nothing, One as one, LoneDot as lone_dot, TheEnd as the_end}
+use Rattle.lisp_reading.specs.Plans.{Read, fault, gives}
+use Rattle.std.specs.declared.alloc.AllocError.{AllocError}
+use Rattle.form_reader.specs.declared.step.object.Passed.{Passed}
+use Rattle.form_reader.specs.declared.step.object.Passed.TheVariants.{Done as PassedDone}
+use Rattle.form_reader.specs.Step.{Passes, FeedsInPlace, IsReadyInPlace, outcome_of, rest_of, ChangesTo, IsStanding, IsReadyChange, BeginsFrom, Settles, BeginsAnew}
+use Rattle.form_reader.specs.State.{state_gives, Brings}
+use Rattle.lisp_reading.specs.Setting.{Setting}
+use Rattle.lisp_reading.specs.Reading.{form, refused, reads, Outcome, empty, reads_at}
+use Rattle.form_reader.specs.declared.step.in_place.InPlace.{InPlace}
+use Rattle.form_reader.specs.declared.step.in_place.InPlace.TheVariants.{GoesOn as InPlaceGoesOn, Passed as InPlacePassed, Left as InPlaceLeft, Refused as InPlaceRefused}
+use Rattle.form_reader.specs.Reader.{fed, begun, MayGoOn, DecideNothing, IsNew, IsAfter, IsAfterIn, Steps, BeginsLater, IsSoundStep, Becomes, IsBetween, LeavesBetween}
+use Rattle.form_reader.proofs.Deciding.{may_go_on, decide_nothing}
+use Rattle.lisp_reading.proofs.Forms.{reads_is, stood}
+use Rattle.form_reader.specs.declared.state.Event.{Event}
+use Rattle.form_reader.specs.declared.state.Event.TheVariants.{Open as IsAt, Gives as IsGiven, Refused as IsRefused}
+use Rattle.form_reader.specs.Stack.{plan_gives}
+use Rattle.form_reader.proofs.EndOfText.{none_waits}
+
+-- a reader that was fed nothing is after no bytes
+pub new_rest : (setting : Setting) (stack : List Frame) → stack ≡ [] → (cs : List ℕ) → reads setting cs ≡ rest_of setting stack AtObject 0 0 cs
+unfolding reads
+new_rest setting stack none cs = reads_is setting 0 cs ∙ ap (λ (fs : List Frame). rest_of setting fs AtObject 0 0 cs) (sym none)
+
+pub new_after : (setting : Setting) (reader : FormReader) → IsNew reader → IsAfter setting reader []
+new_after setting reader n =
+    subst (λ (s : ReaderState). IsAfterIn setting reader s []) (sym n.state)
+    (omega (arith, n.start, n.at), λ cs. new_rest setting reader.stack n.stack cs ∙ (λ i. rest_of setting reader.stack AtObject (sym n.start i) (sym n.at i) cs))
+
+module _ (setting : Setting) (old mid new : FormReader) (state : State) (bytes : List ℕ) (byte : ℕ) (after : List Frame) where
+  abbrev fed_now : List ℕ
+  fed_now = bytes ++ byte ∷ []
+
+  one_more : IsAfterIn setting old (Open state) bytes → (cs : List ℕ) → reads setting (fed_now ++ cs) ≡ rest_of setting old.stack state old.start old.at (byte ∷ cs)
+  one_more a cs = ap (reads setting) (append_assoc bytes (byte ∷ []) cs) ∙ a.1 (byte ∷ cs)
+
+  -- it is taken, and what is read of the text after it is this
+  went_to : (next : State) (start at : ℕ) → start + at ≡ old.start + old.at + 1 → IsAfterIn setting old (Open state) bytes
+      → ((cs : List ℕ) → rest_of setting old.stack state old.start old.at (byte ∷ cs) ≡ rest_of setting old.stack next start at cs)
+      → IsStanding setting.limits old.stack next at
+      → ((start + at ≡ length fed_now) × ((cs : List ℕ) → reads setting (fed_now ++ cs) ≡ rest_of setting old.stack next start at cs))
+      × (start + at ≡ length fed_now) × MayGoOn fed_now (reads setting fed_now) × DecideNothing setting fed_now
+  went_to next start at more a same ready =
+      let many : length fed_now ≡ length bytes + 1 = length-append bytes (byte ∷ []) in
+      let count : start + at ≡ length fed_now = omega (arith, many, more, a.0) in
+      let rest : (cs : List ℕ) → reads setting (fed_now ++ cs) ≡ rest_of setting old.stack next start at cs = λ cs. one_more a cs ∙ same cs in (
+        (count, rest),
+        count,
+        may_go_on setting old.stack next start at fed_now ready.levels ready.within count rest,
+        decide_nothing setting old.stack next start at fed_now ready.levels ready.within count rest,
+      )
+
+  -- it is taken where the reader is
+  pub went_on : (next : State) → IsAfterIn setting old (Open state) bytes
+      → ((cs : List ℕ) → rest_of setting old.stack state old.start old.at (byte ∷ cs) ≡ rest_of setting old.stack next old.start (old.at + 1) cs)
+      → IsStanding setting.limits old.stack next (old.at + 1)
+      → ((old.start + (old.at + 1) ≡ length fed_now) × ((cs : List ℕ) → reads setting (fed_now ++ cs) ≡ rest_of setting old.stack next old.start (old.at + 1) cs))
+      × (old.start + (old.at + 1) ≡ length fed_now) × MayGoOn fed_now (reads setting fed_now) × DecideNothing setting fed_now
+  went_on next a same ready = went_to next old.start (old.at + 1) (omega arith) a same ready
+
+  -- it is passed over, where nothing is open
+  pub went_past : (next : State) → IsAfterIn setting old (Open state) bytes
+      → ((cs : List ℕ) → rest_of setting old.stack state old.start old.at (byte ∷ cs) ≡ rest_of setting old.stack next (old.start + (old.at + 1)) 0 cs)
+      → IsStanding setting.limits old.stack next 0
+      → ((old.start + (old.at + 1) + 0 ≡ length fed_now) × ((cs : List ℕ) → reads setting (fed_now ++ cs) ≡ rest_of setting old.stack next (old.start + (old.at + 1)) 0 cs))
+      × (old.start + (old.at + 1) + 0 ≡ length fed_now) × MayGoOn fed_now (reads setting fed_now) × DecideNothing setting fed_now
+  went_past next a same ready = went_to next (old.start + (old.at + 1)) 0 (omega arith) a same ready
+
+  -- it is refused where the reader is
+  pub gave_up : (code offset : ℕ) → IsAfterIn setting old (Open state) bytes
+      → ((cs : List ℕ) → rest_of setting old.stack state old.start old.at (byte ∷ cs) ≡ refused code offset)
+      → (cs : List ℕ) → reads setting (fed_now ++ cs) ≡ refused code offset
+  gave_up code offset a same cs = one_more a cs ∙ same cs
+
+  pub stepped : (change : Change) (step : Advance) → IsAfterIn setting old (Open state) bytes
+      → ((cs : List ℕ) → ChangesTo setting after cs change (rest_of setting old.stack state old.start old.at (byte ∷ cs)))
+      → IsReadyChange setting.limits after (old.start + old.at + 1) change → Becomes change mid new step → mid.stack ≡ after → Steps setting new fed_now step
+  stepped (Goes start at st) step a turns ready takes same =
+      let many : length fed_now ≡ length bytes + 1 = length-append bytes (byte ∷ []) in
+      let rest : (cs : List ℕ) → reads setting (fed_now ++ cs) ≡ rest_of setting new.stack st new.start new.at cs =
+      λ cs. one_more a cs ∙ turns cs ∙ (λ i. rest_of setting ((sym same ∙ sym takes.3) i) st (sym takes.1 i) (sym takes.2 i) cs) in
+      subst (λ (s : Advance). Steps setting new fed_now s) (sym takes.0) (
+        subst (λ (s : ReaderState). IsAfterIn setting new s fed_now) (sym takes.4) (omega (arith, many, takes.1, takes.2, ready.1, a.0), rest),
+        omega (arith, many, takes.1, takes.2, ready.1, a.0),
+        may_go_on setting after st start at fed_now ready.0.levels ready.0.within (omega (arith, many, ready.1, a.0)) (λ cs. one_more a cs ∙ turns cs),
+        decide_nothing setting after st start at fed_now ready.0.levels ready.0.within (omega (arith, many, ready.1, a.0)) (λ cs. one_more a cs ∙ turns cs),
+      )
+  stepped (ChangeForm x start «end» next) (AdvanceForm datum s e n) a turns ready takes same =
+      let many : length fed_now ≡ length bytes + 1 = length-append bytes (byte ∷ []) in
+      let new_form : IsNew new = record { start = takes.5; at = takes.6; stack = takes.7 ∙ same ∙ (turns []).1; state = takes.8 } in (
+        λ cs. one_more a cs ∙ (turns cs).0 ∙ (λ i. form (sym takes.0 i) (sym takes.2 i) (sym takes.3 i) (sym takes.4 i)),
+        takes.1,
+        omega (arith, many, ready.0, takes.4, a.0),
+        omega (arith, many, ready.1, takes.4, a.0),
+        new_form,
+        λ later. new_after later new new_form,
+      )
+  stepped (ChangeForm x start «end» next) AdvanceMore a turns ready takes same = absurd takes
+  stepped (ChangeForm x start «end» next) (AdvanceRefused code offset) a turns ready takes same = absurd takes
+  stepped (ChangeRefused code offset) step a turns ready takes same =
+      subst (λ (s : Advance). Steps setting new fed_now s) (sym takes.0) (λ cs. one_more a cs ∙ turns cs, takes.1)
+
+-- a byte that is taken in its place, one that is left, and one that is refused there
+module _ (setting : Setting) (stack : List Frame) (start at c : ℕ) (old new : State) (fed : InPlace) where
+  pub taken_there : (cs : List ℕ) → fed ≡ InPlaceGoesOn → FeedsInPlace setting stack at c cs old new fed
+      → rest_of setting stack old start at (c ∷ cs) ≡ rest_of setting stack new start (at + 1) cs
+  taken_there cs is feeds = ap (outcome_of setting start) (subst (λ (f : InPlace). FeedsInPlace setting stack at c cs old new f) is feeds)
+
+  pub passed_there : (cs : List ℕ) → fed ≡ InPlacePassed → FeedsInPlace setting stack at c cs old new fed
+      → rest_of setting stack old start at (c ∷ cs) ≡ rest_of setting stack new (start + (at + 1)) 0 cs
+  passed_there cs is feeds = (subst (λ (f : InPlace). FeedsInPlace setting stack at c cs old new f) is feeds) start
+
+  pub left_there : (cs : List ℕ) → fed ≡ InPlaceLeft → FeedsInPlace setting stack at c cs old new fed → new ≡ old
+  left_there cs is feeds = subst (λ (f : InPlace). FeedsInPlace setting stack at c cs old new f) is feeds
+
+  pub refused_there : (code : ℕ) (cs : List ℕ) → fed ≡ InPlaceRefused code → FeedsInPlace setting stack at c cs old new fed
+      → rest_of setting stack old start at (c ∷ cs) ≡ refused code (start + at)
+  refused_there code cs is feeds = ap (outcome_of setting start) (subst (λ (f : InPlace). FeedsInPlace setting stack at c cs old new f) is feeds)
+
+  pub ready_there : (limits : Limits) → fed ≡ InPlaceGoesOn → IsReadyInPlace limits at new fed → IsStanding limits stack old at → IsStanding limits stack new (at + 1)
+  ready_there limits is ready standing =
+      let r = subst (λ (f : InPlace). IsReadyInPlace limits at new f) is ready in
+      record { within = omega (arith, r.0); nesting = standing.nesting; levels = r.1 }
+
+  pub ready_past : (limits : Limits) → fed ≡ InPlacePassed → IsReadyInPlace limits at new fed → IsStanding limits stack old at → IsStanding limits stack new 0
+  ready_past limits is ready standing =
+      record { within = omega arith; nesting = standing.nesting; levels = subst (λ (f : InPlace). IsReadyInPlace limits at new f) is ready }
+
+-- at most one byte more was fed
+pub fed_taking : (mid new : FormReader) (after : List Frame) (limits : Limits) (count : ℕ) (change : Change) (step : Advance) → Becomes change mid new step → IsReadyChange limits after count change
+    → mid.start + mid.at + 1 ≡ count → fed new ≤ count
+fed_taking mid new after limits count (Goes start at st) step takes ready many = omega (arith, takes.1, takes.2, ready.1)
+fed_taking mid new after limits count (ChangeForm x start «end» next) (AdvanceForm datum s e n) takes ready many = omega (arith, takes.5, takes.6, many)
+fed_taking mid new after limits count (ChangeForm x start «end» next) AdvanceMore takes ready many = absurd takes
+fed_taking mid new after limits count (ChangeForm x start «end» next) (AdvanceRefused code offset) takes ready many = absurd takes
+fed_taking mid new after limits count (ChangeRefused code offset) step takes ready many = omega (arith, takes.2, takes.3, many)
+
+-- what is open after a change began no earlier
+pub begins_taking : (mid new : FormReader) (change : Change) (step : Advance) → Becomes change mid new step → BeginsFrom mid.start change → BeginsLater mid new step
+begins_taking mid new (Goes start at st) step takes from =
+    subst (λ (s : Advance). BeginsLater mid new s) (sym takes.0) (omega (arith, takes.1, from), omega (arith, takes.1))
+begins_taking mid new (ChangeForm x start «end» next) (AdvanceForm datum s e n) takes from = (omega (arith, takes.2, from), takes.5)
+begins_taking mid new (ChangeForm x start «end» next) AdvanceMore takes from = absurd takes
+begins_taking mid new (ChangeForm x start «end» next) (AdvanceRefused code offset) takes from = absurd takes
+begins_taking mid new (ChangeRefused code offset) step takes from = subst (λ (s : Advance). BeginsLater mid new s) (sym takes.0) takes.2
+
+-- a form begins where the attempt that is open began, or later
+begins_from : (setting : Setting) (start : ℕ) (r : Read Found) (x : Object) (from «end» next : ℕ) → outcome_of setting start r ≡ form x from «end» next → start ≤ from
+begins_from setting start (Ok (one token y, at, cs)) x from «end» next e = let same : start ≡ from = cc in omega (arith, same)
+begins_from setting start (Ok (nothing token, at, cs)) x from «end» next e =
+    let s = stood setting (length cs + 1) (start + at) cs x from «end» next e in
+    omega (arith, s.start_is)
+begins_from setting start (Ok (lone_dot, at, cs)) x from «end» next e = cc
+begins_from setting start (Ok (the_end, at, cs)) x from «end» next e = cc
+begins_from setting start (Err f) x from «end» next e = cc
+
+pub begun_first : (setting : Setting) (reader : FormReader) (bytes more : List ℕ) (x : Object) (start «end» next : ℕ) → IsAfter setting reader bytes
+    → reads setting (bytes ++ more) ≡ form x start «end» next → begun reader ≤ start
+begun_first setting reader bytes more x start «end» next after e = by reader.state after
+  where
+    by : (state : ReaderState) → IsAfterIn setting reader state bytes → begun reader ≤ start
+    by (Open state) a =
+        begins_from setting reader.start (state_gives setting reader.stack state reader.at more) x start «end» next (sym (a.1 more) ∙ e)
+    by (Refused code offset) a = let same : refused code offset ≡ form x start «end» next = sym (a more) ∙ e in cc
+    by OutOfMemory a = absurd a
+
+-- ---- the end
+
+pub refused_finishes : (setting : Setting) (reader : FormReader) (bytes : List ℕ) (code offset : ℕ) → reader.state ≡ Refused code offset → IsAfter setting reader bytes
+    → reads setting bytes ≡ refused code offset
+refused_finishes setting reader bytes code offset e a =
+    let here : IsAfterIn setting reader (Refused code offset) bytes = subst (λ (s : ReaderState). IsAfterIn setting reader s bytes) e a in
+    sym (ap (reads setting) (append-nil bytes)) ∙ here []
+
+-- ---- a whole text, where a step decides it
+
+module _ (under : Limits → Setting) (held handed : Limits) (old reader : FormReader) (bytes : List ℕ) (k byte : ℕ) (step : Advance) where
+  abbrev front : List ℕ
+  front = take k bytes
+
+  -- what a step says under the limits that the reader holds, it says under those that it was handed
+  under_limits : held ≡ handed → IsAfter (under handed) old front → (IsAfter (under held) old front → Steps (under held) reader (front ++ byte ∷ []) step)
+      → Steps (under handed) reader (front ++ byte ∷ []) step
+  under_limits same after steps =
+      subst (λ (l : Limits). Steps (under l) reader (front ++ byte ∷ []) step) same (steps (subst (λ (l : Limits). IsAfter (under l) old front) (sym same) after))
+
+  whole_text : take (k + 1) bytes ≡ front ++ byte ∷ [] → bytes ≡ (front ++ byte ∷ []) ++ drop (k + 1) bytes
+  whole_text same = sym (take-append-drop (k + 1) bytes) ∙ ap (λ (t : List ℕ). t ++ drop (k + 1) bytes) same
+
+  pub decided_form : (datum : Datum) (start «end» next : ℕ) → step ≡ AdvanceForm datum start «end» next → IsSoundStep step → held ≡ handed → IsAfter (under handed) old front
+      → (IsAfter (under held) old front → Steps (under held) reader (front ++ byte ∷ []) step) → take (k + 1) bytes ≡ front ++ byte ∷ []
+      → (reads (under handed) bytes ≡ form (object_of datum) start «end» next) × (is_proper datum ≡ true) × IsSound (object_of datum)
+  decided_form datum start «end» next e sound limits after steps same =
+      let told : Steps (under handed) reader (front ++ byte ∷ []) (AdvanceForm datum start «end» next) =
+      subst (λ (s : Advance). Steps (under handed) reader (front ++ byte ∷ []) s) e (under_limits limits after steps) in
+      (ap (reads (under handed)) (whole_text same) ∙ told.0 (drop (k + 1) bytes), told.1, subst IsSoundStep e sound)
+
+  pub decided_refusal : (code offset : ℕ) → step ≡ AdvanceRefused code offset → held ≡ handed → IsAfter (under handed) old front
+      → (IsAfter (under held) old front → Steps (under held) reader (front ++ byte ∷ []) step) → take (k + 1) bytes ≡ front ++ byte ∷ []
+      → reads (under handed) bytes ≡ refused code offset
+  decided_refusal code offset e limits after steps same =
+      let told : Steps (under handed) reader (front ++ byte ∷ []) (AdvanceRefused code offset) =
+      subst (λ (s : Advance). Steps (under handed) reader (front ++ byte ∷ []) s) e (under_limits limits after steps) in
+      ap (reads (under handed)) (whole_text same) ∙ told.0 (drop (k + 1) bytes)
+
+-- ---- a change
+
+-- what the attempt came to before the byte is what it gives
+pub done_outcome : (setting : Setting) (stack after : List Frame) (start at c : ℕ) (cs : List ℕ) (passed : Passed) (found : Found) (read : Read Found) (result : Result Change AllocError)
+    → passed ≡ PassedDone found → Passes setting stack at c cs passed read
+    → IfOk result (λ change. ChangesTo setting after cs change (outcome_of setting start (Ok (found, at, c ∷ cs))))
+    → IfOk result (λ change. ChangesTo setting after cs change (outcome_of setting start read))
+done_outcome setting stack after start at c cs passed found read result e passes turns =
+    let told : Passes setting stack at c cs (PassedDone found) read = subst (λ (p : Passed). Passes setting stack at c cs p read) e passes in
+    subst (λ (r : Read Found). IfOk result (λ change. ChangesTo setting after cs change (outcome_of setting start r))) (sym told.0) turns
+
+-- after a form nothing is open
+pub leaves_between : (setting : Setting) (mid new : FormReader) (after : List Frame) (change : Change) (step : Advance) (o : Outcome) → ChangesTo setting after [] change o → Becomes change mid new step
+    → mid.stack ≡ after → LeavesBetween new step
+leaves_between setting mid new after (Goes start at state) step o turns takes same = subst (λ (s : Advance). LeavesBetween new s) (sym takes.0) tt
+leaves_between setting mid new after (ChangeForm x start «end» next) (AdvanceForm datum s e n) o turns takes same =
+    record { at = takes.6; stack = takes.7 ∙ same ∙ turns.1; state = takes.8 }
+leaves_between setting mid new after (ChangeForm x start «end» next) AdvanceMore o turns takes same = absurd takes
+leaves_between setting mid new after (ChangeForm x start «end» next) (AdvanceRefused code offset) o turns takes same = absurd takes
+leaves_between setting mid new after (ChangeRefused code offset) step o turns takes same = subst (λ (s : Advance). LeavesBetween new s) (sym takes.0) tt
+
+-- what an event brings is what this reads
+pub brought : (setting : Setting) (stack : List Frame) (at : ℕ) (event : Event) → (read : Read Found) × Brings setting stack at [] event read
+brought setting stack at (IsAt state) = (state_gives setting stack state at [], refl)
+brought setting stack at (IsGiven found) = (plan_gives setting stack (gives found) at [], refl)
+brought setting stack at (IsRefused code offset) = (fault code offset, refl)
+
+-- where the outermost attempt comes to something, no call is open
+pub done_anew : (setting : Setting) (stack : List Frame) (at : ℕ) (settled : Event) (found : Found) (read : Read Found) (change : Change) → settled ≡ IsGiven found
+    → Settles setting stack at [] settled read → BeginsAnew [] change → BeginsAnew stack change
+done_anew setting stack at settled found read change e settles anew =
+    let told : Settles setting stack at [] (IsGiven found) read = subst (λ (s : Event). Settles setting stack at [] s read) e settles in
+    subst (λ (fs : List Frame). BeginsAnew fs change) (sym told.1) anew
+
+-- where the attempt that is open after a change has no byte, the reader is between forms
+pub anew_between : (mid new : FormReader) (after : List Frame) (change : Change) (step : Advance) → BeginsAnew after change → Becomes change mid new step → mid.stack ≡ after
+    → step ≡ AdvanceMore → begun new ≡ fed new → IsBetween new
+anew_between mid new after (Goes start at state) step anew takes same e here =
+    let none = anew (omega (arith, takes.2, here)) in
+    record { at = omega (arith, here); stack = takes.3 ∙ same ∙ none.0; state = takes.4 ∙ ap Open none.1 }
+anew_between mid new after (ChangeForm x start «end» next) (AdvanceForm datum s e n) anew takes same is here = cc
+anew_between mid new after (ChangeForm x start «end» next) AdvanceMore anew takes same is here = absurd takes
+anew_between mid new after (ChangeForm x start «end» next) (AdvanceRefused code offset) anew takes same is here = absurd takes
+anew_between mid new after (ChangeRefused code offset) step anew takes same is here =
+    let other : AdvanceRefused code offset ≡ AdvanceMore = sym takes.0 ∙ is in cc
+
+-- ---- what is read where a reader is between forms
+
+between_rest : (setting : Setting) (reader : FormReader) (bytes more : List ℕ) → IsAfter setting reader bytes → IsBetween reader
+    → reads setting (bytes ++ more) ≡ rest_of setting [] AtObject (length bytes) 0 more
+between_rest setting reader bytes more after between =
+    let here : IsAfterIn setting reader (Open AtObject) bytes = subst (λ (s : ReaderState). IsAfterIn setting reader s bytes) between.state after in
+    let start : reader.start ≡ length bytes = omega (arith, here.0, between.at) in
+    here.1 more ∙ (λ i. rest_of setting (between.stack i) AtObject (start i) (between.at i) more)
+
+pub between_reads : (setting : Setting) (reader : FormReader) (bytes more : List ℕ) → IsAfter setting reader bytes → IsBetween reader
+    → reads setting (bytes ++ more) ≡ reads_at setting (length bytes) more
+between_reads setting reader bytes more after between = between_rest setting reader bytes more after between ∙ sym (reads_is setting (length bytes) more)
+
+pub between_empty : (setting : Setting) (reader : FormReader) (bytes : List ℕ) → IsAfter setting reader bytes → IsBetween reader → reads setting bytes ≡ empty
+between_empty setting reader bytes after between =
+    ap (reads setting) (sym (append-nil bytes)) ∙ between_rest setting reader bytes [] after between
+    ∙ ap (outcome_of setting (length bytes)) (none_waits setting [] 0 (omega arith) refl).0

@@ -1,8 +1,0 @@
-use Rattle.form_reader.specs.Surrounding.{setting}
-use Rattle.form_reader.proofs.ObjectTokens.{position_moves}
-use Rattle.form_reader.proofs.advance.advance.Goals as goal
-
-pub returns-in-Token-clause-moves : goal.returns-in-Token-clause-moves
-returns-in-Token-clause-moves g c = λ cs.
-    let setting = setting g.R.MacroFunctions.functions c.args.with.now in
-    position_moves setting c.args.frames.now c.args.at c.args.c cs c.args.position _ c.in_token.result c.in-Token.is (c.in_token.ensures.moves c.args.frames.now cs)

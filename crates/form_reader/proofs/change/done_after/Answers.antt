@@ -1,5 +1,0 @@
-use Rattle.form_reader.proofs.TurnsTaken.{nothing_turns}
-use Rattle.form_reader.proofs.change.done_after.Goals as goal
-
-pub returns-in-Nothing-clause-turns : goal.returns-in-Nothing-clause-turns
-returns-in-Nothing-clause-turns c = λ setting cs. nothing_turns setting c.args.start c.args.at cs c.args.found _ c.in-Nothing.is

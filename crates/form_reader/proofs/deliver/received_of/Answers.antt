@@ -1,7 +1,0 @@
-use Rattle.std.proofs.Common.{arith}
-use Rattle.form_reader.proofs.Beginnings.{refusal_comes}
-use Rattle.form_reader.proofs.deliver.received_of.Goals as goal
-
-pub returns-in-Refused-clause-takes : goal.returns-in-Refused-clause-takes
-returns-in-Refused-clause-takes c = λ setting frames cs.
-    refusal_comes setting frames c.args.completed c.in-Refused.code c.in-Refused.back c.args.at c.saturating_sub.result cs c.in-Refused.is (omega (arith, c.saturating_sub.ensures))

@@ -1,8 +1,0 @@
-use Rattle.form_reader.specs.Surrounding.{setting}
-use Rattle.form_reader.proofs.Endings.{done_ends}
-use Rattle.form_reader.proofs.ending.last_outcome.Goals as goal
-
-pub returns-in-Done-clause-outcome : goal.returns-in-Done-clause-outcome
-returns-in-Done-clause-outcome g c =
-    let setting = setting g.R.MacroFunctions.functions c.args.with.now in
-    done_ends setting _ c.args.at c.args.start _ c.in-Done.found _ c.done_last.result c.in-Done.is c.in_ok-settle_last.ensures.settles (c.done_last.ensures.outcome setting)

@@ -1,0 +1,19 @@
+use Rattle.std.proofs.Common.{◌+◌, ◌∷◌, refl}
+use Rattle.form_reader.specs.Context.{setting}
+use Rattle.form_reader.proofs.Gathering.{goes_on, fails, ends}
+use Rattle.form_reader.proofs.gather.in_block.Goals as goal
+
+pub returns-in-More-clause-brings : goal.returns-in-More-clause-brings
+returns-in-More-clause-brings g c = λ stack cs open_calls.
+    let setting = setting g.R.MacroFunctions.functions c.args.with.now in
+    goes_on setting stack _ _ c.args.at c.args.c cs _ (c.in-More.ensures.feeds cs)
+
+pub returns-in-Ended-clause-brings : goal.returns-in-Ended-clause-brings
+returns-in-Ended-clause-brings g c = λ stack cs open_calls.
+    let setting = setting g.R.MacroFunctions.functions c.args.with.now in
+    ends setting stack _ _ _ tt c.args.at (c.args.at + 1) (c.args.c ∷ cs) cs c.end_call.result (c.in-Ended.ensures.feeds cs) refl (c.end_call.ensures.brings stack cs open_calls)
+
+pub returns-in-Refused-clause-brings : goal.returns-in-Refused-clause-brings
+returns-in-Refused-clause-brings g c = λ stack cs open_calls.
+    let setting = setting g.R.MacroFunctions.functions c.args.with.now in
+    fails setting stack _ _ c.args.at c.args.c cs c.in-Refused.code (c.in-Refused.ensures.feeds cs)

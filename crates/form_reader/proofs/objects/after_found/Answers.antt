@@ -1,8 +1,0 @@
-use Rattle.form_reader.specs.Surrounding.{setting}
-use Rattle.form_reader.proofs.Deliveries.{done_told}
-use Rattle.form_reader.proofs.objects.after_found.Goals as goal
-
-pub returns-in-Done-clause-passes : goal.returns-in-Done-clause-passes
-returns-in-Done-clause-passes g c = λ cs.
-    let setting = setting g.R.MacroFunctions.functions c.args.with.now in
-    done_told setting c.deliver.new.frames c.args.at _ _ c.in_ok-token.field-0 c.in-Done.found c.in-Done.is (c.in_ok-token.ensures.delivers _)

@@ -1,7 +1,0 @@
-use Rattle.std.proofs.Common.{arith}
-use Rattle.form_reader.proofs.Beginnings.{refusal_comes}
-use Rattle.form_reader.proofs.opening.event_of.Goals as goal
-
-pub returns-in-Refused-clause-comes : goal.returns-in-Refused-clause-comes
-returns-in-Refused-clause-comes c = λ setting frames cs.
-    refusal_comes setting frames c.args.completed c.in-Refused.code c.in-Refused.back c.args.at c.saturating_sub.result cs c.in-Refused.is (omega (arith, c.saturating_sub.ensures))
