@@ -66,6 +66,13 @@ abbrev pub to_take : (before many : ℕ) → ℕ
 to_take zero many = many + many
 to_take (suc n) many = suc (many + many)
 
+-- more of them were taken
+pub moves_further : (before after many count more : ℕ) → MovesOn before after many (Ok count) → count + more ≤ many → MovesOn before after many (Ok (count + more))
+moves_further before after many count more moves within = (within, omega (arith, moves.1), by_first moves.2) where
+  by_first : (0 < count) ⊎ ((0 < before) × (after ≡ 0)) → (0 < count + more) ⊎ ((0 < before) × (after ≡ 0))
+  by_first (inl some) = inl (omega (arith, some))
+  by_first (inr first) = inr first
+
 -- the own text of a form, as a slice of the same bytes
 pub begins_as : (functions : Functions) (w : WorldState) (mode : Mode) (text : List ℕ) (x : Object) (own slice : List ℕ) (next : ℕ) (begins : BeginsWith functions w mode text x own next) → slice ≡ own → BeginsWith functions w mode text x slice next
 begins_as functions w mode text x own slice next begins same = record { start = begins.start; stop = begins.stop; reads = begins.reads; is_own = same ∙ begins.is_own }
