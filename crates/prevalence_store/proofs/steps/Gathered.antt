@@ -105,6 +105,7 @@ module _ (functions : Functions) where
       let s : Progress = more.0 in
       let lines : q.lines ++ s.lines ≡ front ++ rest = ap (λ (p : Progress). p.lines) more.2 ∙ parts in
       let count : length q.taken ≤ length far.taken = omega (arith, length-append q.taken s.taken, ap (λ (p : Progress). length p.taken) more.2) in
+      let one_more : n + 1 ≡ suc n = omega arith in
       let calm : far.refused ≡ [] → q.refused ≡ [] = λ none. none_before q.refused s.refused (ap (λ (p : Progress). p.refused) more.2 ∙ none) in
       elim (cut_twice q.lines s.lines front rest lines) [
         | inl (mid, here, there) ↦ record {
@@ -113,7 +114,7 @@ module _ (functions : Functions) where
             answered = q;
             answered_is = back.1;
             next = far;
-            next_is = ap (λ k. after_forms functions k w mode text) (omega arith) ∙ is;
+            next_is = ap (λ k. after_forms functions k w mode text) one_more ∙ is;
             part = mid;
             rest = rest;
             some = some;
@@ -266,13 +267,13 @@ module _ (functions : Functions) where
       far_is = is.stays more
 
       some_lines : (n : ℕ) → 0 < n → after_forms functions n w wanted.mode (text ++ more) ≡ Some far → far.lines ≢ []
-      some_lines zero none there empty = absurd (omega (arith, none))
-      some_lines (suc n) some there empty =
+      some_lines zero none there no_line = absurd (omega (arith, none))
+      some_lines (suc n) some there no_line =
           let back = step_back functions wanted.mode (after_forms functions n w wanted.mode (text ++ more)) far there in
           let q : Progress = back.0 in
           let last = one_more_is q far (one_form functions q.world wanted.mode q.rest (read_in functions q.world wanted.mode q.rest)) back.2 in
           some_of_one q.world wanted.mode q.rest (read_in functions q.world wanted.mode q.rest) last.0 last.1
-          (none_after q.lines last.0.lines (ap (λ (p : Progress). p.lines) last.2 ∙ empty))
+          (none_after q.lines last.0.lines (ap (λ (p : Progress). p.lines) last.2 ∙ no_line))
 
       by_part : (front : List ℕ) × (unwritten : List ℕ) × (far.lines ≡ front ++ unwritten) × (unwritten ≢ []) × Writes held written front
           → HasEndedAt functions state wanted course old new w wanted.mode (text ++ more) held written (ways.Store OUTPUT)

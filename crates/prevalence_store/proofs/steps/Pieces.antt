@@ -151,7 +151,7 @@ module _ (functions : Functions) (w : WorldState) (mode : Mode) (pending : Pendi
             start = has.start;
             stop = has.stop;
             reads = λ more.
-                ap (read_in functions w mode) (ap (λ t. t ++ more) (sym cut) ∙ append_assoc (bytes ++ take n piece) (drop n piece) more ∙ ap (λ t. t ++ drop n piece ++ more) (sym fed_is))
+                ap (read_in functions w mode) (ap (λ t. t ++ more) (sym cut) ∙ append_assoc (bytes ++ take n piece) (drop n piece) more ∙ ap (λ t. t ++ (drop n piece ++ more)) (sym fed_is))
                 ∙ has.reads (drop n piece ++ more) ∙ ap (λ m. form x has.start has.stop m) to_is;
             is_own = has.is_own ∙ sym (own_again (drop n piece)) ∙ ap (λ t. between has.start has.stop (t ++ drop n piece)) fed_is ∙ ap (between has.start has.stop) cut;
             within = omega (arith, next, length-append bytes piece, taken, within);
