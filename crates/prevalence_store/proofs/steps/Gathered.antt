@@ -109,20 +109,20 @@ module _ (functions : Functions) where
       let calm : far.refused ≡ [] → q.refused ≡ [] = λ none. none_before q.refused s.refused (ap (λ (p : Progress). p.refused) more.2 ∙ none) in
       elim (cut_twice q.lines s.lines front rest lines) [
         | inl (mid, here, there) ↦ record {
-            lines = n;
-            fewer = omega arith;
-            answered = q;
-            answered_is = back.1;
-            next = far;
-            next_is = ap (λ k. after_forms functions k w mode text) one_more ∙ is;
-            part = mid;
-            rest = rest;
-            some = some;
-            front_is = here;
-            next_lines = ap (λ (p : Progress). p.lines) (sym more.2) ∙ ap (λ t. q.lines ++ t) there ∙ sym (append_assoc q.lines mid rest);
-            taken = count;
-            accepted = calm;
-          }
+          lines = n;
+          fewer = omega arith;
+          answered = q;
+          answered_is = back.1;
+          next = far;
+          next_is = ap (λ k. after_forms functions k w mode text) one_more ∙ is;
+          part = mid;
+          rest = rest;
+          some = some;
+          front_is = here;
+          next_lines = ap (λ (p : Progress). p.lines) (sym more.2) ∙ ap (λ t. q.lines ++ t) there ∙ sym (append_assoc q.lines mid rest);
+          taken = count;
+          accepted = calm;
+        }
         | inr (mid, some_mid, here) ↦
             let first = broken n w mode text q front mid back.1 here some_mid in
             record {
