@@ -10,4 +10,3 @@ pub mod Answer
 pub mod Schedule
 pub mod Course
 pub mod Serve
-pub mod Gather

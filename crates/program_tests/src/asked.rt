@@ -18,8 +18,6 @@ pub enum Ask<'a> {
     /// A session that is strict or not, and tells where it ended: its answers, and `end`, `store N`, or `reader N` or `strict N`
     /// with the forms before it and the places where it starts and is refused, as in `reader 4 forms 1 start 2 at 2`.
     Wanted(bool, Serving<'a>),
-    /// The same with groups.
-    Together(bool, Serving<'a>),
     /// A form in this mode: `accepted 7` for an integer, `accepted` for another value, or `refused N`.
     Form(Mode, &'a [u8]),
     /// Forms in this mode that are executed together, each with a line as above; or `unrun 90`.
@@ -108,10 +106,16 @@ fn serve<D: Disk>(
 fn serve_wanted<D: Disk>(
     alloc: Global,
     store: &mut Store<D, ByName>,
-    wanted: Wanted,
+    strict: bool,
     session: Serving<'_>,
 ) -> (Ended, Kept) {
     let (mut reader, mut writer) = streams(alloc, session);
+    let wanted = Wanted {
+        mode: session.mode,
+        snapshot_every: session.every,
+        strict,
+        group: false,
+    };
     let ended = store.serve_wanted(&mut reader, &mut writer, wanted);
     (ended, writer)
 }
@@ -133,17 +137,10 @@ fn wanted_lines<D: Disk>(
     alloc: Global,
     store: &mut Store<D, ByName>,
     strict: bool,
-    group: bool,
     session: Serving<'_>,
     text: &mut Vec<u8>,
 ) -> Result<(), Trouble> {
-    let wanted = Wanted {
-        mode: session.mode,
-        snapshot_every: session.every,
-        strict,
-        group,
-    };
-    let (ended, writer) = serve_wanted(alloc, store, wanted, session);
+    let (ended, writer) = serve_wanted(alloc, store, strict, session);
     text.extend_from_slice(kept(writer)?.as_slice())?;
     ended_line(text, ended)
 }
@@ -228,8 +225,7 @@ pub fn ask_one<D: Disk>(
 ) -> Result<(), Trouble> {
     match call {
         Ask::Serve(session) => session_lines(alloc, store, session, text),
-        Ask::Wanted(strict, session) => wanted_lines(alloc, store, strict, false, session, text),
-        Ask::Together(strict, session) => wanted_lines(alloc, store, strict, true, session, text),
+        Ask::Wanted(strict, session) => wanted_lines(alloc, store, strict, session, text),
         Ask::Form(mode, form) => form_line(store, mode, form, text),
         Ask::All(mode, forms) => all_lines(store, mode, forms, text),
         Ask::Snapshot => snapshot_line(store, text),

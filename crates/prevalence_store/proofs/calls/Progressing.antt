@@ -160,7 +160,7 @@ module _ (functions : Functions) {D R : Type 0} (state : D → State) (sound : (
 module _ (functions : Functions) where
   -- ---- progress
 
-  pub step_back : (mode : Mode) (o : Option Progress) (r : Progress) → option_and_then (one_form_more functions mode) o ≡ Some r → (q : Progress) × (o ≡ Some q) × (one_form_more functions mode q ≡ Some r)
+  step_back : (mode : Mode) (o : Option Progress) (r : Progress) → option_and_then (one_form_more functions mode) o ≡ Some r → (q : Progress) × (o ≡ Some q) × (one_form_more functions mode q ≡ Some r)
   step_back mode None r is = absurd (cc)
   step_back mode (Some q) r is = (q, refl, is)
 

@@ -1,5 +1,5 @@
 -- How a session ends at what was read: at no memory, at a refusal of the reader, and in a form.
-use Rattle.std.proofs.Common.{◌≡◌, ℕ, ◌+◌, ◌≤◌, Bool, true, List, [], ◌++◌, length, Option, Some, Result, Ok, Err, inl, inr, refl, sym, ap, subst, ◌∙◌, append_assoc, append-nil, length-append, arith}
+use Rattle.std.proofs.Common.{◌≡◌, ℕ, ◌+◌, ◌≤◌, Bool, true, List, [], ◌++◌, length, Option, Some, Ok, Err, inl, inr, refl, sym, ap, subst, ◌∙◌, append_assoc, append-nil, length-append, arith}
 use Rattle.disk_trait.specs.Disk.{State, IsHonest, IsSound}
 use Rattle.lisp_object.specs.Object.{Object}
 use Rattle.lisp_object.specs.declared.refusal.TheConstants.{NO_MEMORY}
@@ -194,14 +194,6 @@ module _ (functions : Functions) {D R : Type 0} (state : D → State) where
   read_at_end wanted course later old new w text a b start next (ways.Unaccepted number place) is within = (is.0, strict_stops wanted course later old new w text a b start next number place is within)
   read_at_end wanted course later old new w text a b start next (ways.Store number) is within =
       (any_group functions state old new w wanted.mode text a b wanted.group (Store number) is.0.serves, is.1, λ is_strict. is.0.accepted)
-
-  -- the same where nothing was done before
-  pub read_from : (course mid later : Course) (old between new : StoreView D R) (w : WorldState) (wanted : Wanted) (text : List ℕ) (a b c : Option (List ℕ)) (start next : ℕ) (result : Result Unit Ended) → between ≡ old → b ≡ a → mid ≡ course
-      → AnswersRead functions state mid later between new w wanted text b c start next result → AnswersRead functions state course later old new w wanted text a c start next result
-  read_from course mid later old between new w wanted text a b c start next result same quiet stays answered =
-      subst (λ (k : Course). AnswersRead functions state k later old new w wanted text a c start next result) stays
-      (subst (λ (s : StoreView D R). AnswersRead functions state mid later s new w wanted text a c start next result) same
-      (subst (λ t. AnswersRead functions state mid later between new w wanted text t c start next result) quiet answered))
 
   -- a form that was passed, by its offsets in the text
   pub at_starts : (course later : Course) (old new : StoreView D R) (w : WorldState) (wanted : Wanted) (text : List ℕ) (a b : Option (List ℕ)) (start next from to : ℕ) (refusals : List ℕ) → from ≡ start → to ≡ next

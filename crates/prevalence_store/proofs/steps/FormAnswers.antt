@@ -36,11 +36,11 @@ use Rattle.user_macros.specs.Functions.{Functions}
 use Rattle.prevalence_store.proofs.steps.Endings.{writes_nothing, part_of, after_one_form, after_none, nothing}
 
 -- if something comes first or last, there is something
-pub some_first : (xs ys : List ℕ) → xs ≢ [] → xs ++ ys ≢ []
+some_first : (xs ys : List ℕ) → xs ≢ [] → xs ++ ys ≢ []
 some_first [] ys some is = absurd (some refl)
 some_first (x ∷ xs) ys some is = absurd (cc)
 
-pub some_last : (xs : List ℕ) (y : ℕ) → xs ++ y ∷ [] ≢ []
+some_last : (xs : List ℕ) (y : ℕ) → xs ++ y ∷ [] ≢ []
 some_last [] y is = absurd (cc)
 some_last (x ∷ xs) y is = absurd (cc)
 

@@ -15,7 +15,6 @@ use Rattle.prevalence_store.specs.declared.outcome.Ending.TheVariants.{End}
 use Rattle.prevalence_store.specs.meaning.Acceptance.{between, read_in, setting_in}
 use Rattle.user_macros.specs.Functions.{Functions}
 use Rattle.prevalence_store.specs.meaning.Answers.{Progress, after_forms, evaluated, one_form}
-use Rattle.prevalence_store.specs.steps.Gather.{BeginsWhole}
 use Rattle.prevalence_store.specs.steps.Input.{HasForm, IsLastForm, IsPending}
 use Rattle.prevalence_store.specs.calls.Serve.{Advances}
 use Rattle.prevalence_store.specs.calls.Store.{StoreView}
@@ -33,12 +32,12 @@ abbrev pub longer : Progress → List ℕ → Progress
 longer far more = record far { rest = far.rest ++ more }
 
 -- the places of a form are the same in a text that goes on
-pub between_more : (start stop : ℕ) (text more : List ℕ) → start ≤ stop → stop ≤ length text → between start stop (text ++ more) ≡ between start stop text
+between_more : (start stop : ℕ) (text more : List ℕ) → start ≤ stop → stop ≤ length text → between start stop (text ++ more) ≡ between start stop text
 between_more start stop text more order within =
     let room : stop - start ≤ length (drop start text) = rw (length-drop start text) (omega arith) in
     ap (take (stop - start)) (drop-append-le start text more (omega arith)) ∙ take-append-le (stop - start) (drop start text) more room
 
-pub longer_evaluated : (w : WorldState) (mode : Mode) (own rest more : List ℕ) (given : Evaluation Object) → evaluated w mode own (rest ++ more) given ≡ longer (evaluated w mode own rest given) more
+longer_evaluated : (w : WorldState) (mode : Mode) (own rest more : List ℕ) (given : Evaluation Object) → evaluated w mode own (rest ++ more) given ≡ longer (evaluated w mode own rest given) more
 longer_evaluated w mode own rest more (Ok done) = refl
 longer_evaluated w mode own rest more (Err number) = refl
 
@@ -65,13 +64,6 @@ piece_left bytes piece n next count is some within =
 abbrev pub to_take : (before many : ℕ) → ℕ
 to_take zero many = many + many
 to_take (suc n) many = suc (many + many)
-
--- more of them were taken
-pub moves_further : (before after many count more : ℕ) → MovesOn before after many (Ok count) → count + more ≤ many → MovesOn before after many (Ok (count + more))
-moves_further before after many count more moves within = (within, omega (arith, moves.1), by_first moves.2) where
-  by_first : (0 < count) ⊎ ((0 < before) × (after ≡ 0)) → (0 < count + more) ⊎ ((0 < before) × (after ≡ 0))
-  by_first (inl some) = inl (omega (arith, some))
-  by_first (inr first) = inr first
 
 -- the own text of a form, as a slice of the same bytes
 pub begins_as : (functions : Functions) (w : WorldState) (mode : Mode) (text : List ℕ) (x : Object) (own slice : List ℕ) (next : ℕ) (begins : BeginsWith functions w mode text x own next) → slice ≡ own → BeginsWith functions w mode text x slice next
@@ -140,24 +132,6 @@ module _ (functions : Functions) (w : WorldState) (mode : Mode) (pending : Pendi
         let many : length text ≡ length bytes + n = ap length fed_is ∙ length-append bytes (take n piece) ∙ ap (λ m. length bytes + m) (length-take-le n piece within) in
         let all = has.next_is in
         omega arith
-
-    -- a form that the piece begins with, whatever follows it
-    pub whole_begins : (to : ℕ) → has.next ≡ to → BeginsWhole functions w mode (bytes ++ piece) x own to × (drop to (bytes ++ piece) ≡ drop count piece)
-    whole_begins to to_is =
-        let places = stop_within in
-        let cut : (bytes ++ take n piece) ++ drop n piece ≡ bytes ++ piece = piece_whole bytes piece n in
-        let next : to ≡ length bytes + count = sym to_is ∙ next_is in (
-          record {
-            start = has.start;
-            stop = has.stop;
-            reads = λ more.
-                ap (read_in functions w mode) (ap (λ t. t ++ more) (sym cut) ∙ append_assoc (bytes ++ take n piece) (drop n piece) more ∙ ap (λ t. t ++ drop n piece ++ more) (sym fed_is))
-                ∙ has.reads (drop n piece ++ more) ∙ ap (λ m. form x has.start has.stop m) to_is;
-            is_own = has.is_own ∙ sym (own_again (drop n piece)) ∙ ap (λ t. between has.start has.stop (t ++ drop n piece)) fed_is ∙ ap (between has.start has.stop) cut;
-            within = omega (arith, next, length-append bytes piece, taken, within);
-          },
-          ap (λ m. drop m (bytes ++ piece)) next ∙ drop-append-add bytes piece count,
-        )
 
     pub form_takes : (old : Pending) → IsPending functions w mode old bytes → MovesOn (fed old.reader) (fed pending.reader) (length piece) (Ok count)
     form_takes old before = (omega arith, rw none (omega arith), by_count count next_is) where
