@@ -4,6 +4,8 @@ use Rattle.lisp_object.specs.Datum.{is_proper, object_of}
 use Rattle.form_reader.specs.Reader.{IsOutcome}
 use Rattle.lisp_reading.specs.Reading.{form, reads}
 use Rattle.lisp_reading.specs.Setting.{Setting}
+use Rattle.package_table.specs.Table.{Table}
+use Rattle.package_table.specs.Symbols.{are_there}
 use Rattle.plain_reader.specs.declared.plain.PlainForm.{PlainForm}
 use Rattle.prevalence_store.specs.meaning.Acceptance.{setting_in}
 use Rattle.prevalence_store.proofs.steps.Pendings.{called_setting}
@@ -12,13 +14,13 @@ use Rattle.prevalence_store.proofs.setting.begins.Goals as goal
 
 pub returns-clause-outcome : goal.returns-clause-outcome
 returns-clause-outcome g c =
-    subst (λ (s : Setting). IsOutcome c.outcome-read_one.result (reads s c.args.text.now))
+    subst (λ (s : Setting). IsOutcome c.in_ok-outcome.outcome (reads s c.args.text.now))
     (called_setting c.args.world.now.0 c.args.mode g.R.Meaning.Meaning.functions (g.R.MacroFunctions.functions c.args.macros.now)
     _ _ _ _ _ (g.met.R.MacroFunctions.as_meant c.args.macros.now) c.requires.whole (g.met.R.MacroFunctions.known c.args.macros.now c.requires.answers)
-    c.form-limits.ensures c.readtable_in-readtable.ensures c.base_in-base.ensures.base c.packages-packages.ensures c.package_in-package.ensures.name) c.read_one.ensures.outcome
+    c.form-limits.ensures c.readtable_in-readtable.ensures c.base_in-base.ensures.base c.packages-packages.ensures c.package_in-package.ensures.name) c.in_ok-outcome.ensures.outcome
 
-pub returns-in-Some : goal.returns-in-Some
-returns-in-Some g c =
+pub returns-in-Some-clause-outcome : goal.returns-in-Some-clause-outcome
+returns-in-Some-clause-outcome g c =
     let functions = g.R.Meaning.Meaning.functions in
     let w = c.args.world.now.0 in
     let f = c.in-Some.plain in
@@ -29,3 +31,8 @@ returns-in-Some g c =
       subst (λ (o : Option PlainForm). IfSome o (λ f. is_proper f.datum ≡ true)) c.in-Some.is c.in_ok-plain.ensures.proper,
       subst (λ (o : Option PlainForm). IfSome o (λ f. IsSound (object_of f.datum))) c.in-Some.is c.in_ok-plain.ensures.sound,
     )
+
+pub returns-in-Some-clause-known : goal.returns-in-Some-clause-known
+returns-in-Some-clause-known g c =
+    subst (λ (o : Option PlainForm). IfSome o (λ f. f.known ≡ true → are_there c.args.world.now.0.packages (object_of f.datum) ≡ true)) c.in-Some.is
+    (subst (λ (t : Table). IfSome c.in_ok-plain.field-0 (λ f. f.known ≡ true → are_there t (object_of f.datum) ≡ true)) c.packages-packages.ensures c.in_ok-plain.ensures.known)
