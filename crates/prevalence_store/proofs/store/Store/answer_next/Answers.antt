@@ -4,7 +4,7 @@ use Rattle.form_reader.specs.Reader.{fed}
 use Rattle.lisp_object.specs.Datum.{object_of}
 use Rattle.prevalence_store.specs.declared.session.input.Fed.{Fed}
 use Rattle.prevalence_store.specs.steps.Course.{course_of}
-use Rattle.prevalence_store.specs.steps.Input.{Feeds, IsSoundFed, IsWithin}
+use Rattle.prevalence_store.specs.steps.Input.{AreKnownFed, Feeds, IsSoundFed, IsWithin}
 use Rattle.prevalence_store.specs.steps.Serve.{Answers, ended_at}
 use Rattle.prevalence_store.proofs.steps.Answering.{answered_within, ended_within, form_answered, nothing_answered}
 use Rattle.prevalence_store.proofs.steps.EndedAt.{at_starts, fault_ended, memory_ended, read_ended}
@@ -67,6 +67,7 @@ answer_read-requires g c =
         proper = (subst IsSoundFed f.is c.in-Ok.ensures.part.sound).0;
         sound = (subst IsSoundFed f.is c.in-Ok.ensures.part.sound).1;
       };
+      known = λ w here. subst (AreKnownFed w) f.is (c.in-Ok.ensures.known w here);
       order = within.0;
       forms = c.requires.forms;
       room = omega (arith, within.1, c.requires.count, c.in-Ok.ensures.part.within);
