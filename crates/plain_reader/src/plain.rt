@@ -20,6 +20,9 @@ use readtable_core::standard_names::{STD_LIST, STD_QUOTE, STD_STRING};
 use readtable_core::{Case, Readtable, Syntax};
 use std::alloc::{AllocError, Global};
 
+/// Under a higher limit of nesting, no form is read here.
+const MAX_NESTING: u32 = 1000;
+
 /// A form that begins a text: its object, its end, and whether each of its symbols is known to be one of the packages.
 #[derive(Drop)]
 pub struct PlainForm {
@@ -31,7 +34,7 @@ pub struct PlainForm {
 /// The form that the text `bytes` begins with, where numbers are in `base`, which is 2 to 36, if it is a list that is written
 /// with parentheses, quotes, tokens and texts without escapes, and whitespace, under the standard functions of these
 /// characters. It is that of every text that begins with these bytes, whatever the functions of users are. None says nothing
-/// of the text.
+/// of the text; under a limit of nesting over 1,000 it is all that is said.
 pub fn read_plain(
     alloc: Global,
     limits: Limits,
@@ -57,6 +60,10 @@ pub fn read_plain(
     ensures blank { list_all (is_whitespace readtable.now) bytes.now ≡ true → result ≡ Ok None }
 {
     if bytes.len() > limits.text {
+        return Ok(None);
+    }
+    // each open list is a call on the stack
+    if limits.nesting > MAX_NESTING {
         return Ok(None);
     }
     match bytes {
