@@ -202,7 +202,7 @@ module _ (functions : Functions) {D R : Type 0} (state : D → State) where
       ends_both_at ways.End second = strict_both End second
       ends_both_at (ways.Unreadable number place) (served, at) = (
         strict_both (Reader number) served,
-        (at.0, at.1, place_both served.0.forms served.0.far.rest at.0 place at.2, (at.3.0, start_both served.0.far.rest at.3.0 place.start at.3.1, at.3.2)),
+        (at.0, at.1, place_both served.0.forms served.0.far.rest at.0 place at.2, start_both served.0.far.rest _ place.start at.3, at.4),
       )
       ends_both_at (ways.Unaccepted number place) (is, second) = (is, stops_both number place second is)
       ends_both_at (ways.Store number) second = strict_both (Store number) second
@@ -224,7 +224,7 @@ module _ (functions : Functions) {D R : Type 0} (state : D → State) where
           stays = refused_both is.serves.forms is.serves.far number is.stays;
         },
         none_of is.serves.answered.refused accepted,
-        (at.0, at.1, place_both is.serves.forms is.serves.far.rest at.0 place at.2, (at.3.0, start_both is.serves.far.rest at.3.0 place.start at.3.1, at.3.2)),
+        (at.0, at.1, place_both is.serves.forms is.serves.far.rest at.0 place at.2, start_both is.serves.far.rest _ place.start at.3, at.4),
       )
       serves_both (ways.Unaccepted number place) (is, second) = (is, stops_both number place second is)
       serves_both (ways.Store number) (is, accepted) = (

@@ -3,7 +3,8 @@ use Rattle.std.proofs.Common.{◌≡◌, ℕ, ◌+◌, ◌≤◌, Bool, true, Li
 use Rattle.disk_trait.specs.Disk.{State, IsHonest, IsSound}
 use Rattle.lisp_object.specs.Object.{Object}
 use Rattle.lisp_object.specs.declared.refusal.TheConstants.{NO_MEMORY}
-use Rattle.form_reader.specs.Reader.{BeginsAt}
+use Rattle.form_reader.specs.Reader.{BeginsAt, IsDecidedFrom}
+use Rattle.lisp_reading.specs.Deciding.{decided_from}
 use Rattle.lisp_reading.specs.Reading.{empty, refused}
 use Rattle.plist_state.specs.State.{WorldState}
 use Rattle.prevalence_store.specs.declared.mode.Mode.{Mode}
@@ -25,7 +26,7 @@ use Rattle.prevalence_store.specs.steps.Answer.{AnswersFault, AnswersForm, Answe
 use Rattle.prevalence_store.specs.steps.Course.{Course, pass}
 use Rattle.prevalence_store.specs.steps.Input.{HasRefusal}
 use Rattle.prevalence_store.specs.steps.Serve.{Answers, EndsAt, HasEndedAt, ended_at}
-use Rattle.prevalence_store.proofs.steps.Places.{place_at_once, refused_from, refused_from_more}
+use Rattle.prevalence_store.proofs.steps.Places.{place_at_once, refuses_from, refuses_more_from}
 use Rattle.prevalence_store.proofs.steps.Endings.{done, fault_answered, no_memory, nothing}
 use Rattle.prevalence_store.proofs.steps.Pacing.{done_paced, fault_paced, no_memory_paced}
 use Rattle.user_macros.specs.Functions.{Functions}
@@ -46,7 +47,7 @@ module _ (functions : Functions) {D R : Type 0} (state : D → State) where
   -- the reader refused the text, whatever follows it
   pub fault_ended : (sound : (d : D) → IsHonest (state d) → IsSound (state d)) (strict : Bool) (course later : Course) (old new : StoreView D R) (w : WorldState) (mode : Mode) (text : List ℕ) (a b : Option (List ℕ)) (pending : Pending)
       (number : ℕ) → old.world ≡ Some w → (refuses : HasRefusal functions w mode text number) → new ≡ old → (start : ℕ) (place : Place) → place.forms ≡ course.forms → place.start ≡ course.bytes + start
-      → place.at ≡ course.bytes + refuses.at → BeginsAt (setting_in functions w mode) text start → (ending : Ending) → AnswersFault number a b ending
+      → place.at ≡ course.bytes + refuses.at → BeginsAt (setting_in functions w mode) text start × IsDecidedFrom (setting_in functions w mode) text start → (ending : Ending) → AnswersFault number a b ending
       → Answers functions state strict course later old new w mode text a b pending (Some (ended_at place ending))
   unfolding fault_answered nothing
   fault_ended sound strict course later old new w mode text a b pending number known refuses same start place forms_is start_is at_is begins ending answers more = by_ending ending answers where
@@ -54,11 +55,11 @@ module _ (functions : Functions) {D R : Type 0} (state : D → State) where
     still others = ap (read_in functions w mode) (append_assoc text more others) ∙ refuses.reads (more ++ others)
 
     longer_within : start ≤ length (text ++ more)
-    longer_within = let many = length-append text more in let within = begins.within in omega arith
+    longer_within = let many = length-append text more in let within = begins.0.within in omega arith
 
     -- what was refused begins at the start
     from_start : IsRefusedFrom functions w mode (text ++ more) number refuses.at start
-    from_start = refused_from_more functions w mode text more start number refuses.at begins
+    from_start = refuses_more_from functions w mode text more start number refuses.at begins.0
         (ap (read_in functions w mode) (sym (append-nil text)) ∙ refuses.reads []) (refuses.reads more)
 
     by_ending : (e : Ending) → AnswersFault number a b e → HasEndedAt functions state strict course old new w mode (text ++ more) a b (ended_at place e)
@@ -74,7 +75,9 @@ module _ (functions : Functions) {D R : Type 0} (state : D → State) where
         refuses.at,
         refuses.reads more ∙ ap (λ n. refused n refuses.at) (sym is.0),
         place_at_once course (text ++ more) start refuses.at place forms_is start_is at_is longer_within,
-        (start, omega (arith, start_is), subst (λ n. IsRefusedFrom functions w mode (text ++ more) n refuses.at start) (sym is.0) from_start),
+        subst (λ k. place.start + length (text ++ more) ≡ course.bytes + length (text ++ more) + k) (sym (begins.1 more)) (omega (arith, start_is)),
+        subst (λ k. IsRefusedFrom functions w mode (text ++ more) code refuses.at k) (sym (begins.1 more))
+            (subst (λ n. IsRefusedFrom functions w mode (text ++ more) n refuses.at start) (sym is.0) from_start),
       ),
     )
     by_ending (Store code) (inl full) = (
@@ -129,7 +132,7 @@ module _ (functions : Functions) {D R : Type 0} (state : D → State) where
   -- the reader refuses the text at the end of the input
   pub fault_at_end : (sound : (d : D) → IsHonest (state d) → IsSound (state d)) (strict : Bool) (course : Course) (old new : StoreView D R) (w : WorldState) (mode : Mode) (text : List ℕ) (a b : Option (List ℕ)) (number at : ℕ)
       → old.world ≡ Some w → (reads : read_in functions w mode text ≡ refused number at) → new ≡ old → (start : ℕ) (place : Place) → place.forms ≡ course.forms → place.start ≡ course.bytes + start → place.at ≡ course.bytes + at
-      → BeginsAt (setting_in functions w mode) text start → (ending : Ending) → AnswersFault number a b ending → EndsAt functions state strict course old new w mode text a b (ended_at place ending)
+      → BeginsAt (setting_in functions w mode) text start × (decided_from (setting_in functions w mode) text ≡ start) → (ending : Ending) → AnswersFault number a b ending → EndsAt functions state strict course old new w mode text a b (ended_at place ending)
   unfolding fault_answered nothing
   fault_at_end sound strict course old new w mode text a b number at known reads same start place forms_is start_is at_is begins End answers = absurd answers
   fault_at_end sound strict course old new w mode text a b number at known reads same start place forms_is start_is at_is begins (Reader code) answers = (
@@ -141,8 +144,10 @@ module _ (functions : Functions) {D R : Type 0} (state : D → State) where
     (
       at,
       reads ∙ ap (λ n. refused n at) (sym answers.0),
-      place_at_once course text start at place forms_is start_is at_is begins.within,
-      (start, omega (arith, start_is), subst (λ n. IsRefusedFrom functions w mode text n at start) (sym answers.0) (refused_from functions w mode text start number at begins reads)),
+      place_at_once course text start at place forms_is start_is at_is begins.0.within,
+      subst (λ k. place.start + length text ≡ course.bytes + length text + k) (sym begins.1) (omega (arith, start_is)),
+      subst (λ k. IsRefusedFrom functions w mode text code at k) (sym begins.1)
+          (subst (λ n. IsRefusedFrom functions w mode text n at start) (sym answers.0) (refuses_from functions w mode text start number at begins.0 reads)),
     ),
   )
   fault_at_end sound strict course old new w mode text a b number at known reads same start place forms_is start_is at_is begins (Store code) (inl full) = (

@@ -18,7 +18,7 @@ use Rattle.form_reader.specs.declared.reader.ReaderState.TheVariants.{Open, Refu
 use Rattle.form_reader.specs.declared.reader.Advance.{Advance}
 use Rattle.form_reader.specs.declared.reader.Advance.TheVariants.{More as AdvanceMore, Form as AdvanceForm, Refused as AdvanceRefused}
 use Rattle.lisp_reading.specs.Plans.{Read}
-use Rattle.form_reader.specs.Reader.{begun, fed, limits_of, BeginsAt, BeginsLater, HasBegun, IsAfter, IsAfterIn, MayGoOn, Steps, StepsBegun}
+use Rattle.form_reader.specs.Reader.{begun, fed, limits_of, BeginsAt, BeginsLater, HasBegun, IsAfter, IsAfterIn, IsDecidedFrom, MayGoOn, Steps, StepsBegun}
 use Rattle.lisp_reading.specs.Reading.{form, empty, outcome, reads, reads_at, refused}
 use Rattle.lisp_reading.specs.Setting.{Setting, setting_of}
 use Rattle.lisp_reading.specs.Fitting.{IsFitting}
@@ -209,32 +209,21 @@ module _ (functions : Functions) (w : WorldState) (mode : Mode) (old : Pending) 
     refusal_told : Steps (setting_in functions w mode) new (bytes ++ byte ∷ []) (AdvanceRefused number at)
     refusal_told = subst (λ (s : Advance). Steps (setting_in functions w mode) new (bytes ++ byte ∷ []) s) is steps
 
-    pub has_refusal : BeginsLater old.reader new step → StepsBegun (setting_in functions w mode) new (bytes ++ byte ∷ []) step
-        → (refuses : HasRefusal functions w mode (bytes ++ byte ∷ []) number) × (refuses.at ≡ at) × BeginsAt (setting_in functions w mode) (bytes ++ byte ∷ []) old.dropped
-    has_refusal later has_begun =
-        let same : begun new ≡ begun old.reader = subst (λ (s : Advance). BeginsLater old.reader new s) is later in
-        let begins : BeginsAt (setting_in functions w mode) (bytes ++ byte ∷ []) (begun new) =
-        subst (λ (s : Advance). StepsBegun (setting_in functions w mode) new (bytes ++ byte ∷ []) s) is has_begun in (
+    pub has_refusal : (start : ℕ) → start ≡ begun new → StepsBegun (setting_in functions w mode) new (bytes ++ byte ∷ []) step
+        → (refuses : HasRefusal functions w mode (bytes ++ byte ∷ []) number) × (refuses.at ≡ at) × BeginsAt (setting_in functions w mode) (bytes ++ byte ∷ []) start
+        × IsDecidedFrom (setting_in functions w mode) (bytes ++ byte ∷ []) start
+    has_refusal start same has_begun =
+        let begins = subst (λ (s : Advance). StepsBegun (setting_in functions w mode) new (bytes ++ byte ∷ []) s) is has_begun in (
           record { at = at; reads = refusal_told.0 },
           refl,
-          subst (BeginsAt (setting_in functions w mode) (bytes ++ byte ∷ [])) (same ∙ sym pending.only) begins,
+          subst (BeginsAt (setting_in functions w mode) (bytes ++ byte ∷ [])) (sym same) begins.0,
+          subst (IsDecidedFrom (setting_in functions w mode) (bytes ++ byte ∷ [])) (sym same) begins.1,
         )
 
-    pub refused_within : (old.dropped ≤ fed old.reader + 1) × (at ≤ fed old.reader + 1)
+    pub refused_within : at ≤ fed old.reader + 1
     refused_within =
         let inside = (refusal_stays (setting_in functions w mode) ((bytes ++ byte ∷ []) ++ []) number at (refusal_told.0 [])).0 in
         let none = ap length (append-nil (bytes ++ byte ∷ [])) in
         let many = length-append bytes (byte ∷ []) in
         let count = pending.count in
-        let dropped = dropped_within in
-        (omega arith, omega arith)
-
--- ---- the form that a text begins with
-
-module _ (functions : Functions) (w : WorldState) (mode : Mode) (text : List ℕ) (x : Object) (own : List ℕ) (next : ℕ) (begins : BeginsWith functions w mode text x own next) where
-  pub begins_whole : read_in functions w mode own ≡ form x 0 (length own) (length own)
-  begins_whole = subst (λ t. read_in functions w mode t ≡ form x 0 (length t) (length t)) (sym begins.is_own)
-      (own_whole functions w mode text x begins.start begins.stop next begins.reads)
-
-  pub begins_fits : IsSound w → IsFitting w.packages x
-  begins_fits sound = fits_in functions w mode text x begins.start begins.stop next sound begins.reads
+        omega arith

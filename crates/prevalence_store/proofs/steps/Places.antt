@@ -34,9 +34,9 @@ first_of bytes from some = by_rest (drop from bytes) (omega (arith, some, length
   by_rest (c ∷ cs) some = (c, cs, refl)
 
 module _ (functions : Functions) (w : WorldState) (mode : Mode) where
-  pub refused_from : (bytes : List ℕ) (from number at : ℕ) → BeginsAt (setting_in functions w mode) bytes from → read_in functions w mode bytes ≡ refused number at
+  pub refuses_from : (bytes : List ℕ) (from number at : ℕ) → BeginsAt (setting_in functions w mode) bytes from → read_in functions w mode bytes ≡ refused number at
       → IsRefusedFrom functions w mode bytes number at from
-  refused_from bytes from number at begins reads =
+  refuses_from bytes from number at begins reads =
       let there = refused_begins (setting_in functions w mode) bytes from number at begins reads in
       let one = first_of bytes from (omega (arith, there.0)) in
       record {
@@ -50,8 +50,8 @@ module _ (functions : Functions) (w : WorldState) (mode : Mode) where
       }
 
   -- and of a text that goes on
-  pub refused_from_more : (bytes more : List ℕ) (from number at : ℕ) → BeginsAt (setting_in functions w mode) bytes from → read_in functions w mode bytes ≡ refused number at
+  pub refuses_more_from : (bytes more : List ℕ) (from number at : ℕ) → BeginsAt (setting_in functions w mode) bytes from → read_in functions w mode bytes ≡ refused number at
       → read_in functions w mode (bytes ++ more) ≡ refused number at → IsRefusedFrom functions w mode (bytes ++ more) number at from
-  refused_from_more bytes more from number at begins reads longer =
-      refused_from (bytes ++ more) from number at
+  refuses_more_from bytes more from number at begins reads longer =
+      refuses_from (bytes ++ more) from number at
       (begins_longer (setting_in functions w mode) bytes more from begins (refused_begins (setting_in functions w mode) bytes from number at begins reads).0) longer

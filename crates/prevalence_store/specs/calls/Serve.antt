@@ -13,7 +13,8 @@ use Rattle.prevalence_store.specs.declared.outcome.Place.{Place}
 use Rattle.prevalence_store.specs.declared.outcome.Wanted.{Wanted}
 use Rattle.prevalence_store.specs.declared.outcome.Ending.{Ending}
 use Rattle.prevalence_store.specs.declared.outcome.Ending.TheVariants.{End, Reader, Store}
-use Rattle.prevalence_store.specs.meaning.Acceptance.{after, read_in, table_in}
+use Rattle.prevalence_store.specs.meaning.Acceptance.{after, read_in, setting_in, table_in}
+use Rattle.lisp_reading.specs.Deciding.{decided_from}
 use Rattle.prevalence_store.specs.calls.Execute.{DeviceFails, SurvivesAs}
 use Rattle.prevalence_store.specs.calls.Store.{LeavesAlone, StoreView, Describes}
 use Rattle.prevalence_store.specs.meaning.Answers.{Progress, after_forms, last_line, refusal_line}
@@ -284,6 +285,10 @@ pub record IsRefusedFrom (functions : Functions) (world : WorldState) (mode : Mo
   pub parts : drop from left ≡ first ∷ others
   pub no_whitespace : is_whitespace (table_in world mode) first ≡ false
 
+-- where that begins in these bytes: every text before it came to nothing, attempt by attempt
+abbrev pub refused_from : Functions → WorldState → Mode → List ℕ → ℕ
+refused_from functions world mode left = decided_from (setting_in functions world mode) left
+
 module _ (functions : Functions) {D R : Type 0} (state : D → State) (old new : StoreView D R) (world : WorldState) (mode : Mode) (text : List ℕ) (held written : Option (List ℕ)) (pace : Pace) where
   -- The session ended as a form was refused: it was answered, and those before it were accepted.
   pub record StopsStrict (forms_before bytes_before number : ℕ) (place : Place) : Type 0 where
@@ -302,11 +307,12 @@ module _ (functions : Functions) {D R : Type 0} (state : D → State) (old new :
     pub is_place : IsPlace forms_before bytes_before accepted text before.rest start place
     pub begins : place.start ≡ place.at
 
-  -- The reader refused what was left, at this place, and what it refused begins where the place says.
+  -- The reader refused what was left, at this place, and what it refused begins just where the place says.
   abbrev pub RefusesAt : (forms_before bytes_before number : ℕ) → Serves functions state old new world mode text held written (Reader number) → Place → Type 0
   RefusesAt forms_before bytes_before number served place =
       (at : ℕ) × (read_in functions served.far.world mode served.far.rest ≡ refused number at) × IsPlace forms_before bytes_before served.forms text served.far.rest at place
-      × ((from : ℕ) × (place.start + length served.far.rest ≡ bytes_before + length text + from) × IsRefusedFrom functions served.far.world mode served.far.rest number at from)
+      × (place.start + length served.far.rest ≡ bytes_before + length text + refused_from functions served.far.world mode served.far.rest)
+      × IsRefusedFrom functions served.far.world mode served.far.rest number at (refused_from functions served.far.world mode served.far.rest)
 
 -- A session over what a reader gives, as it is wanted: as `ServesInput`, with the place of a refusal of the reader counted in the input;
 -- and if it is strict all forms whose lines were written whole were accepted, but the one at which it ended.

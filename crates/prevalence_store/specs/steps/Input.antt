@@ -4,7 +4,8 @@ use Rattle.lisp_object.specs.Object.{Object, IsSound}
 use Rattle.lisp_object.specs.Datum.{object_of, is_proper}
 use Rattle.package_table.specs.Symbols.{are_there}
 use Rattle.plist_state.specs.State.{WorldState}
-use Rattle.form_reader.specs.Reader.{begun, fed, limits_of, BeginsAt, HasBegun, IsAfter, MayGoOn}
+use Rattle.form_reader.specs.Reader.{begun, fed, limits_of, BeginsAt, HasBegun, IsAfter, IsDecidedFrom, MayGoOn}
+use Rattle.lisp_reading.specs.Deciding.{decided_from}
 use Rattle.lisp_reading.specs.Reading.{form, empty, refused}
 use Rattle.prevalence_store.specs.declared.session.input.Pending.{Pending}
 use Rattle.prevalence_store.specs.declared.session.input.Fed.{Fed}
@@ -53,6 +54,7 @@ Feeds functions world mode pending bytes (Form it left) =
     (has : HasForm functions world mode pending bytes (object_of it.datum) it.own.items left) × (has.start ≡ it.start) × (has.next ≡ it.next)
 Feeds functions world mode pending bytes (Refused number start at) =
     (is : HasRefusal functions world mode bytes number) × (is.at ≡ at) × BeginsAt (setting_in functions world mode) bytes start
+    × IsDecidedFrom (setting_in functions world mode) bytes start
 
 -- the bytes are a form to their end, and this is its own text
 pub record IsLastForm (functions : Functions) (world : WorldState) (mode : Mode) (bytes : List ℕ) (object : Object) (own : List ℕ) : Type 0 where
@@ -68,6 +70,7 @@ Finishes functions world mode bytes (Form it left) =
     (last : IsLastForm functions world mode bytes (object_of it.datum) it.own.items) × (last.start ≡ it.start) × (length bytes ≡ it.next)
 Finishes functions world mode bytes (Refused number start at) =
     (read_in functions world mode bytes ≡ refused number at) × BeginsAt (setting_in functions world mode) bytes start
+    × (decided_from (setting_in functions world mode) bytes ≡ start)
 
 -- a form has a proper datum, and a sound object
 abbrev pub IsSoundFed : Fed → Type 0

@@ -1,7 +1,7 @@
 // What a session has read and not answered yet.
 ghost use Rattle.std.specs.Prelude.{◌≡◌, ◌+◌, ◌<◌, ◌≤◌, ◌^◌, ℕ, List, [], ◌∷◌, ◌++◌, drop, take, length, true, IfOk, OnOk, vec_len};
 ghost use Rattle.plist_state.specs.State.{WorldState};
-ghost use Rattle.form_reader.specs.Reader.{fed, begun, limits_of, HasBegun, IsAfter, Steps, StepsBegun, BeginsLater, IsOutcome, IsSoundStep};
+ghost use Rattle.form_reader.specs.Reader.{fed, begun, limits_of, HasBegun, IsAfter, Steps, StepsBegun, BeginsLater, RefusesFrom, IsOutcome, IsSoundStep};
 ghost use Rattle.prevalence_store.specs.meaning.Acceptance.{between, form_limits, read_in, setting_in, table_in};
 ghost use Rattle.user_macros.specs.Functions.{Functions, are_registered};
 ghost use Rattle.prevalence_store.specs.steps.Input.{AreKnownFed, IsPending, IsSoundFed, IsWithin, Feeds, Finishes, FeedsPart};
@@ -50,7 +50,7 @@ pub(crate) enum Fed {
         form: ReadForm,
         left: bool,
     },
-    /// A refusal: its number, where what was open began among the bytes since the last form, and its place among them.
+    /// A refusal: its number, where what is refused begins among the bytes since the last form, and its place among them.
     Refused {
         number: u16,
         start: usize,
@@ -160,7 +160,7 @@ impl Pending {
             }
             Advance::Refused { code, at } => Ok(Fed::Refused {
                 number: code,
-                start: self.dropped,
+                start: self.reader.begun(),
                 at,
             }),
             Advance::Form {
@@ -324,10 +324,14 @@ fn finish_in<R: MacroFunctions>(
     requires whole { are_registered R.Meaning.functions (R.functions macros.now) ≡ true }
     requires limits { limits_of reader ≡ form_limits }
     requires count { fed reader ≤ 2 ^ 63 }
-    ensures { (bytes : List ℕ)
+    ensures outcome { (bytes : List ℕ)
         → IsAfter (setting_in R.Meaning.functions world.now.0 mode) reader bytes
         → IfOk result (λ outcome. IsOutcome outcome
         (read_in R.Meaning.functions world.now.0 mode bytes)) }
+    ensures has_begun { (bytes : List ℕ)
+        → HasBegun (setting_in R.Meaning.functions world.now.0 mode) reader bytes
+        → IfOk result (RefusesFrom (setting_in R.Meaning.functions world.now.0 mode)
+        bytes (begun reader)) }
 {
     let readtable = readtable_in(world, mode);
     let package = package_in(world, mode);

@@ -48,13 +48,14 @@ returns-in_ok-discard-in-More-clause-feeds g c = λ bytes p.
 pub returns-in-Refused-clause-feeds : goal.returns-in-Refused-clause-feeds
 returns-in-Refused-clause-feeds g c = λ bytes p.
     has_refusal g.R.Meaning.Meaning.functions c.args.world.now.0 c.args.mode c.args.self.now bytes p c.args.byte c.step_in.new.reader c.in_ok-step_in.field-0 c.in-Refused.code c.in-Refused.at c.in-Refused.is
-    (c.in_ok-step_in.ensures.steps bytes p.after) c.in_ok-step_in.ensures.begun (c.in_ok-step_in.ensures.has_begun bytes p.after p.has_begun)
+    (c.in_ok-step_in.ensures.steps bytes p.after) c.begun.result c.begun.ensures.value (c.in_ok-step_in.ensures.has_begun bytes p.after p.has_begun)
 
 pub returns-in-Refused-clause-within : goal.returns-in-Refused-clause-within
 returns-in-Refused-clause-within g c =
     let p = c.requires.pending in
-    refused_within g.R.Meaning.Meaning.functions c.args.world.now.0 c.args.mode c.args.self.now p.0 p.1 c.args.byte c.step_in.new.reader c.in_ok-step_in.field-0 c.in-Refused.code c.in-Refused.at c.in-Refused.is
-    (c.in_ok-step_in.ensures.steps p.0 p.1.after)
+    let at = refused_within g.R.Meaning.Meaning.functions c.args.world.now.0 c.args.mode c.args.self.now p.0 p.1 c.args.byte c.step_in.new.reader c.in_ok-step_in.field-0 c.in-Refused.code c.in-Refused.at c.in-Refused.is
+    (c.in_ok-step_in.ensures.steps p.0 p.1.after) in
+    (omega (arith, c.begun.ensures.within, c.step_in.ensures.count), at)
 
 pub returns-in_ok-own-in-Form-clause-within : goal.returns-in_ok-own-in-Form-clause-within
 returns-in_ok-own-in-Form-clause-within g c =
