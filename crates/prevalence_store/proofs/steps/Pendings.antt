@@ -227,3 +227,13 @@ module _ (functions : Functions) (w : WorldState) (mode : Mode) (old : Pending) 
         let many = length-append bytes (byte ∷ []) in
         let count = pending.count in
         omega arith
+
+-- ---- the form that a text begins with
+
+module _ (functions : Functions) (w : WorldState) (mode : Mode) (text : List ℕ) (x : Object) (own : List ℕ) (next : ℕ) (begins : BeginsWith functions w mode text x own next) where
+  pub begins_whole : read_in functions w mode own ≡ form x 0 (length own) (length own)
+  begins_whole = subst (λ t. read_in functions w mode t ≡ form x 0 (length t) (length t)) (sym begins.is_own)
+      (own_whole functions w mode text x begins.start begins.stop next begins.reads)
+
+  pub begins_fits : IsSound w → IsFitting w.packages x
+  begins_fits sound = fits_in functions w mode text x begins.start begins.stop next sound begins.reads
