@@ -36,7 +36,7 @@ returns-in-Refused-clause-ends g c = λ w known bytes p.
     let place = c.place-place.ensures in
     subst (λ ended. EndsAt functions g.D.Disk.state c.args.wanted.strict course c.args.self.now c.answer_fault.new.self w c.args.wanted.mode bytes held written ended) (sym c.at.ensures)
     (fault_at_end functions g.D.Disk.state g.met.D.Disk.sound c.args.wanted.strict course c.args.self.now c.answer_fault.new.self w c.args.wanted.mode bytes held written f.number f.at known told.0
-    c.answer_fault.ensures.same f.start c.place-place.result place.0 place.1 place.2 told.1 c.answer_fault.result c.answer_fault.ensures.answers)
+    c.answer_fault.ensures.same f.start c.place-place.result place.0 place.1 place.2 (told.1, told.2) c.answer_fault.result c.answer_fault.ensures.answers)
 
 pub answer_read-requires : goal.answer_read-requires
 answer_read-requires g c =

@@ -44,7 +44,7 @@ returns-in-Refused-clause-answers g c = λ w known bytes p.
     subst (λ ended. Answers functions g.D.Disk.state c.args.wanted.strict course course c.args.self.now c.answer_fault.new.self w c.args.wanted.mode (bytes ++ piece) held written c.feed.new.pending (Some ended)) (sym c.at.ensures)
     (ended_within functions g.D.Disk.state c.args.wanted.strict course course c.args.self.now c.answer_fault.new.self w c.args.wanted.mode held written c.feed.new.pending bytes piece n (ended_at c.place-place.result c.answer_fault.result)
     (fault_ended functions g.D.Disk.state g.met.D.Disk.sound c.args.wanted.strict course course c.args.self.now c.answer_fault.new.self w c.args.wanted.mode text held written c.feed.new.pending f.number known
-    refuses.0 c.answer_fault.ensures.same f.start c.place-place.result place.0 place.1 (place.2 ∙ ap (λ k. course.bytes + k) (sym refuses.1)) refuses.2 c.answer_fault.result c.answer_fault.ensures.answers))
+    refuses.0 c.answer_fault.ensures.same f.start c.place-place.result place.0 place.1 (place.2 ∙ ap (λ k. course.bytes + k) (sym refuses.1)) (refuses.2, refuses.3) c.answer_fault.result c.answer_fault.ensures.answers))
 
 pub place-place-requires-clause-start : goal.place-place-requires-clause-start
 place-place-requires-clause-start g c = let within = subst (λ (given : Fed). IsWithin (fed c.args.pending.now.reader + c.in-Ok.part.count) given) c.in-Refused.is c.in-Ok.ensures.part.places in omega (arith, within.0, c.requires.count, c.in-Ok.ensures.part.within)
