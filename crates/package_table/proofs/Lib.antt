@@ -29,4 +29,5 @@ pub mod Reaching
 pub mod Rows
 pub mod Seen
 pub mod Starting
+pub mod Symbols
 pub mod Undoing

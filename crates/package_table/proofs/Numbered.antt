@@ -6,27 +6,17 @@
 --     number_none      no symbol, no number
 --     at_symbol      the number of a symbol that is there
 --     keeps_same, keeps_both      numbers stay where nothing changes, and over two changes
-use Rattle.std.proofs.Common.{◌≡◌, ◌<◌, ℕ, true, false, cond, Bool, Option, None, Some, bytes_eq, refl, sym, ap, ◌∙◌}
-use Rattle.std.proofs.lemmas.Bool.{false≢true}
-use Rattle.std.specs.Option.{option_map, option_map_or}
-use Rattle.package_table.specs.Table.{Name, Present, IsPresent, entry_at}
+use Rattle.std.proofs.Common.{◌≡◌, ◌<◌, ℕ, true, false, cond, Bool, Option, None, Some, refl, sym, ap, ◌∙◌}
+use Rattle.package_table.specs.Table.{Name, IsPresent}
 use Rattle.package_table.specs.Lookup.{is_symbol}
 use Rattle.package_table.specs.Numbers.{Numbered, number_at, number_of}
 use Rattle.package_table.specs.Numbering.{IsNumbered, Keeps}
 use Rattle.package_table.specs.Growth.{Grows}
-use Rattle.package_table.proofs.Names.{same_some, none_some}
-use Rattle.package_table.proofs.Frames.{equal_names, equal_itself}
-
-symbol_there : (o : Option Present) (h : Name) → option_map (λ (e : Present). e.home) o ≡ Some h → option_map_or (λ (e : Present). bytes_eq e.home h) o false ≡ true
-symbol_there None h none = absurd (none_some h none)
-symbol_there (Some e) h home = ap (λ x. bytes_eq x h) (same_some e.home h home) ∙ equal_itself h
-
-there_symbol : (o : Option Present) (h : Name) → option_map_or (λ (e : Present). bytes_eq e.home h) o false ≡ true → option_map (λ (e : Present). e.home) o ≡ Some h
-there_symbol None h none = absurd (false≢true none)
-there_symbol (Some e) h same = ap Some (equal_names e.home h same)
+use Rattle.package_table.proofs.Names.{none_some}
+use Rattle.package_table.proofs.Symbols.{present_symbol, symbol_present}
 
 pub at_symbol : (s : Numbered) (h n : Name) → IsPresent s.0 h n h → number_of s h n ≡ number_at s.1 h n
-at_symbol s h n there = ap (λ b. cond b (number_at s.1 h n) None) (symbol_there (entry_at s.0 h n) h there)
+at_symbol s h n there = ap (λ b. cond b (number_at s.1 h n) None) (present_symbol s.0 h n there)
 
 pub number_some : (s : Numbered) (count : ℕ) → IsNumbered s count → (h n : Name) → IsPresent s.0 h n h → (i : ℕ) × (number_of s h n ≡ Some i) × (i < count)
 number_some s count numbered h n there =
@@ -34,7 +24,7 @@ number_some s count numbered h n there =
     (b.0, at_symbol s h n there ∙ b.1, b.2)
 
 pub number_there : (s : Numbered) (h n : Name) (i : ℕ) → number_of s h n ≡ Some i → IsPresent s.0 h n h
-number_there s h n i is = there_symbol (entry_at s.0 h n) h (chosen (is_symbol s.0 h n) (number_at s.1 h n) is)
+number_there s h n i is = symbol_present s.0 h n (chosen (is_symbol s.0 h n) (number_at s.1 h n) is)
   where
     chosen : (b : Bool) (o : Option ℕ) → cond b o None ≡ Some i → b ≡ true
     chosen true o some = refl

@@ -39,7 +39,8 @@
 //! grow and shrink at their end, as journals do (proofs/Undoing.antt): `IsLast`, `at_last`, `no_more`, `take_seam`,
 //! `get_seam`, `on_ok`. On the order of names (proofs/Names.antt): `name_total`, `name_exact`. On numbers
 //! (proofs/Numbered.antt): `number_some`, `number_there`, `number_apart`, `number_kept`, `number_none`, `at_symbol`,
-//! `keeps_same`, `keeps_both`. On what COMMON-LISP has first (proofs/FirstNames.antt): `lisp_present`, `nil_present`.
+//! `keeps_same`, `keeps_both`. On the test for a symbol (proofs/Symbols.antt): `present_symbol`, `symbol_present`. On what
+//! COMMON-LISP has first (proofs/FirstNames.antt): `lisp_present`, `nil_present`.
 #![tactic(auto)]
 
 mod conflicts;
