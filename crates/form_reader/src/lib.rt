@@ -1,16 +1,17 @@
 //! The reader: which object a text begins with (standard 2.2).
 //!
 //! What that is, `lisp_reading` defines, and has the laws of it. `FormReader` takes a text one byte at a time, and `read_one` a
-//! whole text. `step`, `finish` and `read_one` answer what the definition gives, out of memory aside: a form, with its object
-//! and its offsets; that the text is empty; or a refusal, with its number and its offset. What `step` answers is so whatever
-//! bytes follow.
+//! whole text, of which it asks `plain_reader` first. `step`, `finish` and `read_one` answer what the definition gives, out of
+//! memory aside: a form, with its object and its offsets; that the text is empty; or a refusal, with its number and its offset.
+//! What `step` answers is so whatever bytes follow.
 //!
 //! - specs/Stack.antt, specs/State.antt: what open calls stand for, and where a reader is in the innermost; specs/Token.antt,
 //!   specs/Gather.antt, specs/Call.antt, specs/Dispatch.antt, specs/Value.antt: what one byte, and what is found, are to them
 //! - specs/Step.antt, specs/EndOfText.antt: what one byte, and the end of the text, are to the outcome; specs/Reader.antt: what a
 //!   reader is after, and what it answers
 //!
-//! - `reader`: `FormReader`, `Advance`, `ReadOutcome`; `reader/feed`: bytes at once; `reader/whole`: `read_one`
+//! - `reader`: `FormReader`, `Advance`, `ReadOutcome`; `reader/feed`: bytes at once; `reader/whole`: `read_one`,
+//!   and `read_bytewise` for texts that are not plain
 //! - `context`: what reading is handed; `state`: where a reader is in the innermost call; `stack`: open calls
 //! - `step`: one byte, wherever a reader is in a form; `step/in_place`: one that goes on what is gathered, where it is gathered;
 //!   `step/object`: one where an object may begin
@@ -43,4 +44,4 @@ pub use lisp_reading::{
     only_what_is_found_matters, reading_goes_on, refusals_are_decided, refusals_are_of_reading,
     spaced_forms_are_framed,
 };
-pub use reader::{Advance, FormReader, ReadOutcome, read_one};
+pub use reader::{Advance, FormReader, ReadOutcome, read_bytewise, read_one};

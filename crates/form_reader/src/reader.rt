@@ -20,7 +20,7 @@ use user_macros::MacroFunctions;
 mod feed;
 mod whole;
 
-pub use whole::read_one;
+pub use whole::{read_bytewise, read_one};
 
 /// A reader that takes the text of a form one byte at a time. It keeps no text, but what the calls that are open have gathered.
 #[derive(Drop)]

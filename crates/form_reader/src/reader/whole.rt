@@ -10,13 +10,49 @@ ghost use Rattle.form_reader.specs.Reader.{IsOutcome};
 use crate::reader::{Advance, FormReader, ReadOutcome};
 use lisp_reading::Limits;
 use package_table::Packages;
+use plain_reader::{PlainForm, read_plain};
 use readtable_core::Readtable;
 use std::alloc::{AllocError, Global};
 use user_macros::MacroFunctions;
 
-/// What the text `bytes` begins with, where numbers are in `base`, which is 2 to 36. A text of whitespace alone needs no
-/// memory.
+/// What the text `bytes` begins with, where numbers are in `base`, which is 2 to 36: a plain form is read at once, any other text byte
+/// by byte. A text of whitespace alone needs no memory.
 pub fn read_one<R: MacroFunctions>(
+    alloc: Global,
+    limits: Limits,
+    readtable: &Readtable,
+    base: u8,
+    packages: &Packages,
+    current: &[u8],
+    macros: &R,
+    bytes: &[u8],
+) -> Result<ReadOutcome, AllocError>
+    requires answers { R.answers macros.now }
+    requires lowest_base { 2 ≤ base }
+    requires highest_base { base ≤ 36 }
+    requires current { IsPackage packages.now.0 current.now }
+    ensures outcome { IfOk result (λ outcome. IsOutcome outcome (reads
+        (setting_of limits readtable.now base packages.now.0 current.now
+        (R.functions macros.now))
+        bytes.now)) }
+    ensures blank { 0 < limits.text → list_all (is_whitespace readtable.now) bytes.now ≡ true
+        → result ≡ Ok ReadEmpty }
+{
+    match read_plain(alloc, limits, readtable, base, packages, current, bytes)? {
+        Some(PlainForm { datum, end }) => Ok(ReadOutcome::Form {
+            datum,
+            start: 0,
+            end,
+            next: end,
+        }),
+        None => read_bytewise(
+            alloc, limits, readtable, base, packages, current, macros, bytes,
+        ),
+    }
+}
+
+/// The same, byte by byte from the first on: for a text that is known not to be plain.
+pub fn read_bytewise<R: MacroFunctions>(
     alloc: Global,
     limits: Limits,
     readtable: &Readtable,
