@@ -25,7 +25,8 @@ use Rattle.evaluator.proofs.SilentForms.{value_silent}
 use Rattle.evaluator.proofs.KeepingForms.{value_keeps}
 use Rattle.evaluator.proofs.WithoutBase.{value_without_base}
 use Rattle.evaluator.proofs.NumberedForms.{value_numbered}
-use Rattle.form_eval.specs.Acceptance.{table_of, symbols, after_symbol, with_symbols, accepted_by, accept_by, accept}
+use Rattle.package_table.specs.Symbols.{symbols}
+use Rattle.form_eval.specs.Acceptance.{table_of, after_symbol, with_symbols, accepted_by, accept_by, accept}
 
 -- ---- one that does not write
 symbol_still : (t : Table) (x : Symbol) (u : Table) → after_symbol t x ≡ Ok u → intern_changes t x.0 x.1 ≡ false → u ≡ t

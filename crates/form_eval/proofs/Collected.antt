@@ -16,7 +16,8 @@ use Rattle.package_table.specs.Table.{Name, Table, Package, Present, IsPresent, 
 use Rattle.package_table.specs.Limits.{most_symbols, longest_symbol_name}
 use Rattle.package_table.specs.Changes.{Gives, intern_changes, with_new_symbol}
 use Rattle.package_table.proofs.Found.{present_found}
-use Rattle.form_eval.specs.Acceptance.{symbols, table_of, after_symbol}
+use Rattle.package_table.specs.Symbols.{symbols}
+use Rattle.form_eval.specs.Acceptance.{table_of, after_symbol}
 
 pub symbols_pairs : (items : List Datum) (end' : Object) → symbols (pairs (map object_of items) end') ≡ flat_map (λ d. symbols (object_of d)) items ++ symbols end'
 symbols_pairs [] end' = refl

@@ -28,7 +28,8 @@ use Rattle.plist_state.proofs.Soundness.{sound_packages}
 use Rattle.lisp_operators.specs.Evaluation.{Done}
 use Rattle.lisp_operators.specs.Packages.{one_by_one, then_others}
 use Rattle.evaluator.specs.Value.{value}
-use Rattle.form_eval.specs.Acceptance.{symbols, table_of, after_symbol, with_symbols, accepted_by, accept}
+use Rattle.package_table.specs.Symbols.{symbols}
+use Rattle.form_eval.specs.Acceptance.{table_of, after_symbol, with_symbols, accepted_by, accept}
 use Rattle.lisp_operators.specs.Readtables.{AreFunctionNames}
 use Rattle.form_eval.specs.Laws.{Fits, IsForm, IsSoundAfter}
 use Rattle.lisp_operators.proofs.Good.{Goods, goods_also}

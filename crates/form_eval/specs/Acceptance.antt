@@ -1,9 +1,10 @@
 -- A form as one transaction: its symbols are interned, and then it is evaluated.
-use Rattle.std.specs.Prelude.{Bool, true, false, List, [], ◌∷◌, ◌++◌, Result, Ok, Err}
-use Rattle.lisp_object.specs.Object.{Object, symbol, pair, vector}
+use Rattle.std.specs.Prelude.{Bool, true, false, List, Result, Ok, Err}
+use Rattle.lisp_object.specs.Object.{Object}
 use Rattle.package_table.specs.declared.error.PackageError.{PackageError}
 use Rattle.package_table.specs.Table.{Name, Table}
 use Rattle.package_table.specs.Errors.{number_of}
+use Rattle.package_table.specs.Symbols.{symbols}
 use Rattle.package_table.specs.Changes.{after_intern, intern_changes}
 use Rattle.plist_state.specs.Properties.{Symbol}
 use Rattle.plist_state.specs.State.{WorldState}
@@ -14,13 +15,6 @@ use Rattle.lisp_operators.specs.declared.evaluated.Evaluated.{Evaluated}
 use Rattle.lisp_operators.specs.Evaluated.{Answers, done}
 use Rattle.lisp_operators.specs.Packages.{one_by_one}
 use Rattle.evaluator.specs.Value.{value_by}
-
--- the interned symbols of an object, from left to right
-abbrev pub symbols : Object → List Symbol
-symbols (symbol home name) = (home, name) ∷ []
-symbols (pair x xs) = symbols x ++ symbols xs
-symbols (vector xs) = symbols xs
-symbols _ = []
 
 abbrev pub table_of : Result (Name × Table) PackageError → Result Table PackageError
 table_of (Ok p) = Ok p.1

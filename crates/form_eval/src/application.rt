@@ -1,6 +1,7 @@
 //! A form as one transaction, where its value is not asked for.
-ghost use Rattle.std.specs.Prelude.{◌≡◌, ◌∷◌, ◌++◌, [], IfOk, IfErr};
+ghost use Rattle.std.specs.Prelude.{◌≡◌, ◌∷◌, ◌++◌, [], true, IfOk, IfErr};
 ghost use Rattle.lisp_object.specs.Datum.{object_of};
+ghost use Rattle.package_table.specs.Symbols.{are_there};
 ghost use Rattle.form_eval.specs.Acceptance.{accept};
 ghost use Rattle.lisp_operators.specs.Evaluated.{IsProper};
 ghost use Rattle.lisp_operators.specs.Effects.{Leaves};
@@ -35,8 +36,51 @@ pub fn apply<M: Meaning>(
 {
     let names = macros.names();
     are_names(names);
+    perform(alloc, world, names, form, false)
+}
+
+/// Does what `apply` does with a form whose symbols are all there, and looks none of them up.
+///
+/// # Errors
+/// Those of `accept`.
+pub fn apply_known<M: Meaning>(
+    alloc: Global,
+    world: &mut World,
+    macros: &M,
+    form: &Datum,
+) -> Result<bool, EvaluationError>
+    requires proper { IsProper form.now }
+    requires form { IsForm world.old.0.packages (object_of form.now) }
+    requires known { are_there world.old.0.packages (object_of form.now) ≡ true }
+    ensures gives { Leaves result world.new.0
+        (accept M.functions.names world.old.0 (object_of form.now)) }
+    ensures marked { IfOk result (λ _. world.new.1 ≡ world.old.1 ++ world.old.0 ∷ []) }
+    ensures unchanged { IfErr result (λ _. world.new ≡ world.old) }
+{
+    let names = macros.names();
+    are_names(names);
+    perform(alloc, world, names, form, true)
+}
+
+// A form as a transaction, whose value is not asked for. Where `known`, its symbols are all there.
+fn perform(
+    alloc: Global,
+    world: &mut World,
+    names: &[FnName],
+    form: &Datum,
+    known: bool,
+) -> Result<bool, EvaluationError>
+    requires names { AreFunctionNames names.now }
+    requires proper { IsProper form.now }
+    requires form { IsForm world.old.0.packages (object_of form.now) }
+    requires known { known ≡ true → are_there world.old.0.packages (object_of form.now) ≡ true }
+    ensures gives { Leaves result world.new.0
+        (accept names.now world.old.0 (object_of form.now)) }
+    ensures marked { IfOk result (λ _. world.new.1 ≡ world.old.1 ++ world.old.0 ∷ []) }
+    ensures unchanged { IfErr result (λ _. world.new ≡ world.old) }
+{
     let mark = world.mark()?;
-    match run(alloc, world, names, form) {
+    match run(alloc, world, names, form, known) {
         Ok(wrote) => Ok(wrote),
         Err(error) => {
             world.back_to(mark);
@@ -51,16 +95,18 @@ fn run(
     world: &mut World,
     names: &[FnName],
     form: &Datum,
+    known: bool,
 ) -> Result<bool, EvaluationError>
     requires names { AreFunctionNames names.now }
     requires proper { IsProper form.now }
     requires form { IsForm world.old.0.packages (object_of form.now) }
+    requires known { known ≡ true → are_there world.old.0.packages (object_of form.now) ≡ true }
     ensures gives { Leaves result world.new.0
         (accept names.now world.old.0 (object_of form.now)) }
     ensures marked { world.new.1 ≡ world.old.1 }
 {
     world.soundness();
-    let interned = match intern_symbols(alloc, world, form) {
+    let interned = match intern_symbols(alloc, world, form, known) {
         Ok(interned) => interned,
         Err(error) => return Err(EvaluationError::from(error)),
     };

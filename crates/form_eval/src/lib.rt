@@ -4,7 +4,8 @@
 //! crate `evaluator`). `laws` proves what holds of every form. The function `accept` does with a `World` exactly what the
 //! definition says, and leaves the world as it was where a form is refused.
 //!
-//! - `transaction`: `accept`; `application`: `apply`, which does the same and gives no value
+//! - `transaction`: `accept`; `application`: `apply`, which does the same and gives no value; both have a twin for a form
+//!   whose symbols are all there
 //! - `symbols`: the symbols of a datum; `interning`: they are interned in their homes
 #![tactic(auto)]
 
@@ -14,6 +15,6 @@ pub mod laws;
 mod symbols;
 mod transaction;
 
-pub use application::apply;
+pub use application::{apply, apply_known};
 pub use lisp_operators::{Evaluated, EvaluationError};
-pub use transaction::accept;
+pub use transaction::{accept, accept_known};

@@ -5,7 +5,7 @@ ghost use Rattle.std.specs.Option.{option_map_or};
 ghost use Rattle.lisp_object.specs.Object.{nil};
 ghost use Rattle.lisp_object.specs.Datum.{object_of};
 ghost use Rattle.plist_state.specs.Readers.{borrowed_symbols};
-ghost use Rattle.form_eval.specs.Acceptance.{symbols};
+ghost use Rattle.package_table.specs.Symbols.{symbols};
 
 use lisp_object::{Boxed, Datum, Items};
 use package_table::standardized::COMMON_LISP;

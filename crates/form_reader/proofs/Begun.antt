@@ -1,5 +1,5 @@
 -- Where what is open began: what is before it is discarded text, and from there on the text is read as it is alone.
-use Rattle.std.proofs.Common.{◌≡◌, ℕ, zero, suc, ◌+◌, ◌-◌, ◌<◌, ◌≤◌, ◌⊎◌, inl, inr, Bool, true, false, List, [], ◌∷◌, ◌++◌, length, drop, Result, Ok, Err, refl, sym, ap, subst, ◌∙◌, append_assoc, append-nil, length-append, length-drop, arith}
+use Rattle.std.proofs.Common.{◌≡◌, ℕ, zero, suc, ◌+◌, ◌-◌, ◌<◌, ◌≤◌, ◌⊎◌, inl, inr, Bool, true, false, List, [], ◌∷◌, ◌++◌, length, drop, Result, Ok, Err, IfOk, refl, sym, ap, subst, ◌∙◌, append_assoc, append-nil, length-append, length-drop, arith}
 use Rattle.std.specs.Prelude.{◌&&◌}
 use Rattle.std.proofs.lemmas.Bool.{lt-ltb}
 use Rattle.std.proofs.lemmas.List.{take-append-le, drop-append-le}
@@ -7,7 +7,9 @@ use Rattle.std.proofs.Math.Seq.{take-length, drop-length, take-append_seam, drop
 use Rattle.lisp_object.specs.declared.refusal.TheConstants.{DOT_CONTEXT}
 use Rattle.lisp_reading.specs.declared.found.Found.{Found}
 use Rattle.lisp_reading.specs.declared.found.Found.TheVariants.{Nothing as nothing, One as one, LoneDot as lone_dot, TheEnd as the_end}
-use Rattle.lisp_reading.specs.Plans.{Read, run}
+use Rattle.lisp_reading.specs.Plans.{Read, fault, run}
+use Rattle.lisp_reading.specs.Deciding.{decided_from}
+use Rattle.lisp_reading.proofs.Deciding.{decided_is}
 use Rattle.lisp_reading.specs.Setting.{Setting}
 use Rattle.lisp_reading.specs.Reading.{Outcome, form, empty, refused, attempt, is_whitespace, outcome, reads_in, reads_at, reads, space_at}
 use Rattle.lisp_reading.proofs.Forms.{reads_is, the_end_there}
@@ -24,8 +26,12 @@ use Rattle.form_reader.specs.declared.step.Change.TheVariants.{Goes, Form as Cha
 use Rattle.form_reader.specs.declared.step.in_place.InPlace.{InPlace}
 use Rattle.form_reader.specs.declared.step.in_place.InPlace.TheVariants.{Passed as IsPassed}
 use Rattle.std.specs.declared.alloc.AllocError.{AllocError}
-use Rattle.form_reader.specs.Step.{is_space, outcome_of, BeginsAnew, EndsBefore, Starts}
-use Rattle.form_reader.specs.Reader.{fed, begun, further, BeginsAt, HasBegun, StepsBegun, IsNew, IsOpen, IsBetween, IsAfter, IsAfterIn, Steps, Becomes}
+use Rattle.form_reader.specs.Step.{is_space, outcome_of, start_of, verdict_of, ChangesTo, BeginsAnew, EndsBefore, Starts}
+use Rattle.form_reader.specs.State.{state_gives}
+use Rattle.form_reader.specs.EndOfText.{RefusesIn}
+use Rattle.form_reader.specs.declared.reader.ReadOutcome.{ReadOutcome}
+use Rattle.form_reader.specs.declared.reader.ReadOutcome.TheVariants.{Form as ReadForm, Empty as ReadEmpty, Refused as ReadRefused}
+use Rattle.form_reader.specs.Reader.{fed, begun, further, BeginsAt, HasBegun, StepsBegun, IsDecidedFrom, RefusesFrom, IsNew, IsBetween, IsAfter, IsAfterIn, Steps, Becomes}
 use Rattle.form_reader.proofs.Readers.{anew_between, between_reads, between_empty}
 use Rattle.form_reader.proofs.EndOfText.{ended_there}
 
@@ -151,8 +157,10 @@ refused_begins setting bytes from number offset begins is = (some (drop from byt
 
 -- ---- a reader
 
-pub between_begun : (setting : Setting) (reader : FormReader) (bytes : List ℕ) → IsAfter setting reader bytes → IsBetween reader → HasBegun setting reader bytes
-between_begun setting reader bytes after between =
+pub between_begun : (setting : Setting) (reader : FormReader) (bytes : List ℕ) → IsAfter setting reader bytes → IsBetween reader
+    → ((cs : List ℕ) → decided_from setting (bytes ++ cs) ≡ start_of setting reader.start (state_gives setting reader.stack AtObject reader.at cs))
+    → HasBegun setting reader bytes
+between_begun setting reader bytes after between decides =
     let here : IsAfterIn setting reader (Open AtObject) bytes = subst (λ (s : ReaderState). IsAfterIn setting reader s bytes) between.state after in
     let from : begun reader ≡ length bytes = omega (arith, here.0, between.at) in
     record {
@@ -160,10 +168,20 @@ between_begun setting reader bytes after between =
       begins = subst (BeginsAt setting bytes) (sym from)
           (ends_begins setting bytes (between_empty setting reader bytes after between) (λ cs. between_reads setting reader bytes cs after between));
       between = λ e. between;
+      decides = λ state is cs.
+          let same : AtObject ≡ state = let both : Open AtObject ≡ Open state = sym between.state ∙ is in cc in
+          decides cs ∙ ap (λ (s : State). start_of setting reader.start (state_gives setting reader.stack s reader.at cs)) same;
     }
 
+-- nothing was fed
+first_decides : (setting : Setting) (cs : List ℕ) → decided_from setting cs ≡ start_of setting 0 (state_gives setting [] AtObject 0 cs)
+unfolding decided_from
+first_decides setting cs = decided_is setting 0 cs
+
 pub new_begun : (setting : Setting) (reader : FormReader) → IsNew reader → IsAfter setting reader [] → HasBegun setting reader []
-new_begun setting reader new after = between_begun setting reader [] after (record { at = new.at; stack = new.stack; state = new.state })
+new_begun setting reader new after =
+    between_begun setting reader [] after (record { at = new.at; stack = new.stack; state = new.state })
+    (λ cs. first_decides setting cs ∙ (λ i. start_of setting (sym new.start i) (state_gives setting (sym new.stack i) AtObject (sym new.at i) cs)))
 
 -- a byte that is not discarded where nothing is open
 pub other_byte : (setting : Setting) (c : ℕ) → is_space setting [] AtObject 0 c ≡ false → 0 < setting.limits.text → is_whitespace setting.table c ≡ false
@@ -188,7 +206,8 @@ other_there setting reader state byte result is passes never between some = by (
         absurd (never (passes between.stack ((λ i. is_space setting (between.stack i) (here i) (between.at i) byte)
         ∙ ap (λ (b : Bool). b && (is_whitespace setting.table byte && true)) (lt-ltb 0 setting.limits.text some) ∙ ap (λ (b : Bool). true && (b && true)) e)))
 
-module _ (setting : Setting) (old : FormReader) (state : State) (bytes : List ℕ) (byte : ℕ) (after : IsAfterIn setting old (Open state) bytes) (has : HasBegun setting old bytes) where
+module _ (setting : Setting) (old : FormReader) (state : State) (bytes : List ℕ) (byte : ℕ) (after : IsAfterIn setting old (Open state) bytes) (has : HasBegun setting old bytes)
+    (is_open : old.state ≡ Open state) where
   -- the byte, where it is the first of what is open
   abbrev IsOther : Type 0
   IsOther = IsBetween old → 0 < setting.limits.text → is_whitespace setting.table byte ≡ false
@@ -213,18 +232,33 @@ module _ (setting : Setting) (old : FormReader) (state : State) (bytes : List �
       (λ cs. after.1 (byte ∷ cs) ∙ ap (outcome_of setting old.start) (ends.found cs) ∙ ap (λ n. reads_at setting n (byte ∷ cs)) after.0)
       (other_byte setting byte ends.other))
 
+  -- what decides the text, with the byte
+  pub decides_on : (cs : List ℕ) → decided_from setting ((bytes ++ byte ∷ []) ++ cs) ≡ start_of setting old.start (state_gives setting old.stack state old.at (byte ∷ cs))
+  decides_on cs = ap (decided_from setting) (append_assoc bytes (byte ∷ []) cs) ∙ has.decides state is_open (byte ∷ cs)
+
   -- it goes on where it is
-  pub went_begun : (new : FormReader) → IsOther → begun new ≡ begun old → fed new ≡ fed old + 1 → IsOpen new → HasBegun setting new (bytes ++ byte ∷ [])
-  went_begun new other same more goes_on = record {
-    goes_on = goes_on;
-    begins = subst (BeginsAt setting (bytes ++ byte ∷ [])) (sym same) (stays_begun other);
-    between = λ e. absurd (omega (arith, e, same, more, after.0));
+  pub went_begun : (next : State) → IsOther → ((cs : List ℕ) → state_gives setting old.stack state old.at (byte ∷ cs) ≡ state_gives setting old.stack next (old.at + 1) cs)
+      → (new : FormReader) → new.start ≡ old.start → new.at ≡ old.at + 1 → new.stack ≡ old.stack → new.state ≡ Open next → HasBegun setting new (bytes ++ byte ∷ [])
+  went_begun next other feeds new start at stack is = record {
+    goes_on = (next, is);
+    begins = subst (BeginsAt setting (bytes ++ byte ∷ [])) (sym start) (stays_begun other);
+    between = λ e. absurd (omega (arith, e, start, at, after.0));
+    decides = λ there same cs.
+        let other : next ≡ there = let both : Open next ≡ Open there = sym is ∙ same in cc in
+        decides_on cs ∙ ap (start_of setting old.start) (feeds cs)
+        ∙ (λ i. start_of setting (sym start i) (state_gives setting (sym stack i) (other i) (sym at i) cs));
   }
 
+  -- it is refused where it is
+  pub refused_decides : (number : ℕ) → ((cs : List ℕ) → state_gives setting old.stack state old.at (byte ∷ cs) ≡ fault number old.at)
+      → IsDecidedFrom setting (bytes ++ byte ∷ []) (begun old)
+  refused_decides number feeds = λ cs. decides_on cs ∙ ap (start_of setting old.start) (feeds cs)
+
   pub stepped_begun : (mid new : FormReader) (stack : List Frame) (change : Change) (step : Advance) → IsOther
-      → Starts setting old.stack state old.start old.at byte change → BeginsAnew stack change → Becomes change mid new step → mid.stack ≡ stack → mid.start ≡ old.start
+      → ((cs : List ℕ) → ChangesTo setting stack cs change (verdict_of setting old.start (state_gives setting old.stack state old.at (byte ∷ cs))))
+      → Starts setting old.stack state old.start old.at byte change → BeginsAnew stack change → Becomes change mid new step → mid.stack ≡ stack
       → Steps setting new (bytes ++ byte ∷ []) step → StepsBegun setting new (bytes ++ byte ∷ []) step
-  stepped_begun mid new stack (Goes start at there) step other starts anew takes same began steps =
+  stepped_begun mid new stack (Goes start at there) step other turns starts anew takes same steps =
       subst (λ (s : Advance). StepsBegun setting new (bytes ++ byte ∷ []) s) (sym takes.0) (by starts)
     where
       told : Steps setting new (bytes ++ byte ∷ []) AdvanceMore
@@ -233,16 +267,39 @@ module _ (setting : Setting) (old : FormReader) (state : State) (bytes : List �
       between : begun new ≡ fed new → IsBetween new
       between = anew_between mid new stack (Goes start at there) step anew takes same takes.0
 
+      decides : (state : State) → new.state ≡ Open state
+          → (cs : List ℕ) → decided_from setting ((bytes ++ byte ∷ []) ++ cs) ≡ start_of setting new.start (state_gives setting new.stack state new.at cs)
+      decides next is cs =
+          let found : there ≡ next = let both : Open there ≡ Open next = sym takes.4 ∙ is in cc in
+          decides_on cs ∙ (λ i. (turns cs i).1)
+          ∙ (λ i. start_of setting (sym takes.1 i) (state_gives setting ((sym same ∙ sym takes.3) i) (found i) (sym takes.2 i) cs))
+
       has_begun : BeginsAt setting (bytes ++ byte ∷ []) start → HasBegun setting new (bytes ++ byte ∷ [])
-      has_begun begins = record { goes_on = (there, takes.4); begins = subst (BeginsAt setting (bytes ++ byte ∷ [])) (sym takes.1) begins; between = between }
+      has_begun begins =
+          record { goes_on = (there, takes.4); begins = subst (BeginsAt setting (bytes ++ byte ∷ [])) (sym takes.1) begins; between = between; decides = decides }
 
       by : (start ≡ old.start) ⊎ ((at ≡ 0) ⊎ ((start ≡ old.start + old.at) × EndsBefore setting old.stack state old.at byte)) → HasBegun setting new (bytes ++ byte ∷ [])
       by (inl stays) = has_begun (subst (BeginsAt setting (bytes ++ byte ∷ [])) (sym stays) (stays_begun other))
-      by (inr (inl none)) = between_begun setting new (bytes ++ byte ∷ []) told.0 (between (omega (arith, takes.2, none)))
+      by (inr (inl none)) =
+          let anew = between (omega (arith, takes.2, none)) in
+          between_begun setting new (bytes ++ byte ∷ []) told.0 anew (decides AtObject anew.state)
       by (inr (inr here)) = has_begun (subst (BeginsAt setting (bytes ++ byte ∷ [])) (sym here.0) (ended_begins here.1))
-  stepped_begun mid new stack (ChangeForm x start «end» next) (AdvanceForm datum s e n) other starts anew takes same began steps = λ later. new_begun later new steps.4 (steps.5 later)
-  stepped_begun mid new stack (ChangeForm x start «end» next) AdvanceMore other starts anew takes same began steps = absurd takes
-  stepped_begun mid new stack (ChangeForm x start «end» next) (AdvanceRefused code offset) other starts anew takes same began steps = absurd takes
-  stepped_begun mid new stack (ChangeRefused code offset) step other starts anew takes same began steps =
+  stepped_begun mid new stack (ChangeForm x start «end» next) (AdvanceForm datum s e n) other turns starts anew takes same steps = λ later. new_begun later new steps.4 (steps.5 later)
+  stepped_begun mid new stack (ChangeForm x start «end» next) AdvanceMore other turns starts anew takes same steps = absurd takes
+  stepped_begun mid new stack (ChangeForm x start «end» next) (AdvanceRefused code offset) other turns starts anew takes same steps = absurd takes
+  stepped_begun mid new stack (ChangeRefused from code offset) step other turns starts anew takes same steps =
       subst (λ (s : Advance). StepsBegun setting new (bytes ++ byte ∷ []) s) (sym takes.0)
-      (subst (BeginsAt setting (bytes ++ byte ∷ [])) (sym (takes.2 ∙ began)) (stays_begun other))
+      (subst (BeginsAt setting (bytes ++ byte ∷ [])) (sym takes.2) (by starts), λ cs. decides_on cs ∙ (λ i. (turns cs i).1) ∙ sym takes.2)
+    where
+      by : (from ≡ old.start) ⊎ ((from ≡ old.start + old.at) × EndsBefore setting old.stack state old.at byte) → BeginsAt setting (bytes ++ byte ∷ []) from
+      by (inl stays) = subst (BeginsAt setting (bytes ++ byte ∷ [])) (sym stays) (stays_begun other)
+      by (inr here) = subst (BeginsAt setting (bytes ++ byte ∷ [])) (sym here.0) (ended_begins here.1)
+
+-- ---- the end of the text
+
+pub refuses_from : (setting : Setting) (reader : FormReader) (state : State) (bytes : List ℕ) (result : Result ReadOutcome AllocError) → reader.state ≡ Open state → HasBegun setting reader bytes
+    → IfOk result (RefusesIn setting reader.start (state_gives setting reader.stack state reader.at [])) → IfOk result (RefusesFrom setting bytes (begun reader))
+refuses_from setting reader state bytes (Ok (ReadRefused number offset)) is has h = ap (decided_from setting) (sym (append-nil bytes)) ∙ has.decides state is [] ∙ h
+refuses_from setting reader state bytes (Ok ReadEmpty) is has h = tt
+refuses_from setting reader state bytes (Ok (ReadForm datum start «end» next)) is has h = tt
+refuses_from setting reader state bytes (Err e) is has h = tt

@@ -260,16 +260,16 @@ module _ (setting : Setting) (stack : List Frame) (character at c : ℕ) (number
   abbrev of_sub : Function → ℕ → Option ℕ → InvokedCall
   of_sub f sub n = record { function = f; character = character; sub = Some sub; number = n }
 
-  abbrev call_gives : InvokedCall → Read Found
-  call_gives call = run setting.table setting.limits (outer_plan setting stack (called setting (length stack) (inner_at setting (length stack)) call)) (at + 1) cs
+  abbrev sub_call_gives : InvokedCall → Read Found
+  sub_call_gives call = run setting.table setting.limits (outer_plan setting stack (called setting (length stack) (inner_at setting (length stack)) call)) (at + 1) cs
 
   pub sub_some : (after : List Frame) (name : List ℕ) (f : Function) (sub : ℕ) (n : Option ℕ) (call : InvokedCall) (result : Result Event AllocError)
       → at < setting.limits.text → c < 128 → dispatch_at setting.table character c ≡ Some name → f ≡ function_of name → sub ≡ upper_case c → n ≡ number
       → call ≡ of_sub f sub n → IfOk result (λ event. Begins setting after stack call (at + 1) cs event)
       → IfOk result (λ event. Brings setting after (at + 1) cs event sub_gives)
   sub_some after name f sub n call result lt ascii e same upper digits is begins =
-      let whole : call_gives call ≡ sub_gives =
-      ap call_gives (is ∙ (λ i. of_sub (same i) (upper i) (digits i))) ∙ sym (sub_taken lt ascii ∙ ap sub_found e) in
+      let whole : sub_call_gives call ≡ sub_gives =
+      ap sub_call_gives (is ∙ (λ i. of_sub (same i) (upper i) (digits i))) ∙ sym (sub_taken lt ascii ∙ ap sub_found e) in
       subst (λ (r : Read Found). IfOk result (λ event. Brings setting after (at + 1) cs event r)) whole begins
 
 -- the number has ended, and the byte is the sub-character

@@ -25,7 +25,7 @@ use Rattle.lisp_reading.specs.Reading.{Piece, without_space, empty, sub_there, d
 use Rattle.form_reader.specs.Token.{token_read}
 use Rattle.form_reader.specs.Stack.{attempt_in, next_item_in, call_in, close_of, outer_plan, between, token_goes_on}
 use Rattle.form_reader.specs.State.{inner_at, state_gives, Brings}
-use Rattle.form_reader.specs.EndOfText.{TokenStops}
+use Rattle.form_reader.specs.EndOfText.{TokenStops, RefusesIn}
 use Rattle.form_reader.specs.Step.{outcome_of, Settles}
 use Rattle.form_reader.proofs.Values.{returned}
 use Rattle.lisp_reading.proofs.Forms.{reads_is, the_end_there}
@@ -163,6 +163,12 @@ module _ (setting : Setting) (stack : List Frame) (at : ℕ) where
   done_ends start settled found read outcome e settles is =
       let told : Settles setting stack at [] (IsGiven found) read = subst (λ (s : Event). Settles setting stack at [] s read) e settles in
       subst (λ (r : Read Found). IsOutcome outcome (outcome_of setting start r)) (sym told.0) is
+
+  pub done_refuses : (start : ℕ) (settled : Event) (found : Found) (read : Read Found) (outcome : ReadOutcome) → settled ≡ IsGiven found → Settles setting stack at [] settled read
+      → RefusesIn setting start (Ok (found, at, [])) outcome → RefusesIn setting start read outcome
+  done_refuses start settled found read outcome e settles is =
+      let told : Settles setting stack at [] (IsGiven found) read = subst (λ (s : Event). Settles setting stack at [] s read) e settles in
+      subst (λ (r : Read Found). RefusesIn setting start r outcome) (sym told.0) is
 
 -- ---- tokens
 

@@ -33,7 +33,7 @@ pub advances_last : (old middle new : FormReader) (k : ℕ) (step : Advance) →
     → Advances old new (k + 1) step
 advances_last old middle new k AdvanceMore so le counts begins = (omega (arith, so, counts), omega (arith, le, begins.0), begins.1)
 advances_last old middle new k (AdvanceForm datum start «end» next) so le counts begins = (counts, omega (arith, le, begins.0), begins.1)
-advances_last old middle new k (AdvanceRefused number offset) so le counts begins = omega (arith, le, begins)
+advances_last old middle new k (AdvanceRefused number offset) so le counts begins = omega (arith, le, begins.0)
 
 -- ---- what the steps answer
 

@@ -21,7 +21,7 @@ use Rattle.lisp_reading.specs.Plans.{Read, fault, gives}
 use Rattle.std.specs.declared.alloc.AllocError.{AllocError}
 use Rattle.form_reader.specs.declared.step.object.Passed.{Passed}
 use Rattle.form_reader.specs.declared.step.object.Passed.TheVariants.{Done as PassedDone}
-use Rattle.form_reader.specs.Step.{Passes, FeedsInPlace, IsReadyInPlace, outcome_of, rest_of, ChangesTo, IsStanding, IsReadyChange, BeginsFrom, Settles, BeginsAnew}
+use Rattle.form_reader.specs.Step.{Passes, FeedsInPlace, IsReadyInPlace, outcome_of, rest_of, verdict_of, ChangesTo, IsStanding, IsReadyChange, BeginsFrom, Settles, BeginsAnew}
 use Rattle.form_reader.specs.State.{state_gives, Brings}
 use Rattle.lisp_reading.specs.Setting.{Setting}
 use Rattle.lisp_reading.specs.Reading.{form, refused, reads, Outcome, empty, reads_at}
@@ -29,6 +29,7 @@ use Rattle.form_reader.specs.declared.step.in_place.InPlace.{InPlace}
 use Rattle.form_reader.specs.declared.step.in_place.InPlace.TheVariants.{GoesOn as InPlaceGoesOn, Passed as InPlacePassed, Left as InPlaceLeft, Refused as InPlaceRefused}
 use Rattle.form_reader.specs.Reader.{fed, begun, MayGoOn, DecideNothing, IsNew, IsAfter, IsAfterIn, Steps, BeginsLater, IsSoundStep, Becomes, IsBetween, LeavesBetween}
 use Rattle.form_reader.proofs.Deciding.{may_go_on, decide_nothing}
+use Rattle.form_reader.proofs.Steps.{none_turns}
 use Rattle.lisp_reading.proofs.Forms.{reads_is, stood}
 use Rattle.form_reader.specs.declared.state.Event.{Event}
 use Rattle.form_reader.specs.declared.state.Event.TheVariants.{Open as IsAt, Gives as IsGiven, Refused as IsRefused}
@@ -91,22 +92,22 @@ module _ (setting : Setting) (old mid new : FormReader) (state : State) (bytes :
   gave_up code offset a same cs = one_more a cs ∙ same cs
 
   pub stepped : (change : Change) (step : Advance) → IsAfterIn setting old (Open state) bytes
-      → ((cs : List ℕ) → ChangesTo setting after cs change (rest_of setting old.stack state old.start old.at (byte ∷ cs)))
+      → ((cs : List ℕ) → ChangesTo setting after cs change (verdict_of setting old.start (state_gives setting old.stack state old.at (byte ∷ cs))))
       → IsReadyChange setting.limits after (old.start + old.at + 1) change → Becomes change mid new step → mid.stack ≡ after → Steps setting new fed_now step
   stepped (Goes start at st) step a turns ready takes same =
       let many : length fed_now ≡ length bytes + 1 = length-append bytes (byte ∷ []) in
       let rest : (cs : List ℕ) → reads setting (fed_now ++ cs) ≡ rest_of setting new.stack st new.start new.at cs =
-      λ cs. one_more a cs ∙ turns cs ∙ (λ i. rest_of setting ((sym same ∙ sym takes.3) i) st (sym takes.1 i) (sym takes.2 i) cs) in
+      λ cs. one_more a cs ∙ (λ i. (turns cs i).0) ∙ (λ i. rest_of setting ((sym same ∙ sym takes.3) i) st (sym takes.1 i) (sym takes.2 i) cs) in
       subst (λ (s : Advance). Steps setting new fed_now s) (sym takes.0) (
         subst (λ (s : ReaderState). IsAfterIn setting new s fed_now) (sym takes.4) (omega (arith, many, takes.1, takes.2, ready.1, a.0), rest),
         omega (arith, many, takes.1, takes.2, ready.1, a.0),
-        may_go_on setting after st start at fed_now ready.0.levels ready.0.within (omega (arith, many, ready.1, a.0)) (λ cs. one_more a cs ∙ turns cs),
-        decide_nothing setting after st start at fed_now ready.0.levels ready.0.within (omega (arith, many, ready.1, a.0)) (λ cs. one_more a cs ∙ turns cs),
+        may_go_on setting after st start at fed_now ready.0.levels ready.0.within (omega (arith, many, ready.1, a.0)) (λ cs. one_more a cs ∙ (λ i. (turns cs i).0)),
+        decide_nothing setting after st start at fed_now ready.0.levels ready.0.within (omega (arith, many, ready.1, a.0)) (λ cs. one_more a cs ∙ (λ i. (turns cs i).0)),
       )
   stepped (ChangeForm x start «end» next) (AdvanceForm datum s e n) a turns ready takes same =
       let many : length fed_now ≡ length bytes + 1 = length-append bytes (byte ∷ []) in
       let new_form : IsNew new = record { start = takes.5; at = takes.6; stack = takes.7 ∙ same ∙ (turns []).1; state = takes.8 } in (
-        λ cs. one_more a cs ∙ (turns cs).0 ∙ (λ i. form (sym takes.0 i) (sym takes.2 i) (sym takes.3 i) (sym takes.4 i)),
+        λ cs. one_more a cs ∙ (λ i. ((turns cs).0 i).0) ∙ (λ i. form (sym takes.0 i) (sym takes.2 i) (sym takes.3 i) (sym takes.4 i)),
         takes.1,
         omega (arith, many, ready.0, takes.4, a.0),
         omega (arith, many, ready.1, takes.4, a.0),
@@ -115,25 +116,35 @@ module _ (setting : Setting) (old mid new : FormReader) (state : State) (bytes :
       )
   stepped (ChangeForm x start «end» next) AdvanceMore a turns ready takes same = absurd takes
   stepped (ChangeForm x start «end» next) (AdvanceRefused code offset) a turns ready takes same = absurd takes
-  stepped (ChangeRefused code offset) step a turns ready takes same =
-      subst (λ (s : Advance). Steps setting new fed_now s) (sym takes.0) (λ cs. one_more a cs ∙ turns cs, takes.1)
+  stepped (ChangeRefused from code offset) step a turns ready takes same =
+      subst (λ (s : Advance). Steps setting new fed_now s) (sym takes.0) (λ cs. one_more a cs ∙ (λ i. (turns cs i).0), takes.1)
 
 -- a byte that is taken in its place, one that is left, and one that is refused there
 module _ (setting : Setting) (stack : List Frame) (start at c : ℕ) (old new : State) (fed : InPlace) where
+  pub goes_there : (cs : List ℕ) → fed ≡ InPlaceGoesOn → FeedsInPlace setting stack at c cs old new fed
+      → state_gives setting stack old at (c ∷ cs) ≡ state_gives setting stack new (at + 1) cs
+  goes_there cs is feeds = subst (λ (f : InPlace). FeedsInPlace setting stack at c cs old new f) is feeds
+
   pub taken_there : (cs : List ℕ) → fed ≡ InPlaceGoesOn → FeedsInPlace setting stack at c cs old new fed
       → rest_of setting stack old start at (c ∷ cs) ≡ rest_of setting stack new start (at + 1) cs
-  taken_there cs is feeds = ap (outcome_of setting start) (subst (λ (f : InPlace). FeedsInPlace setting stack at c cs old new f) is feeds)
+  taken_there cs is feeds = ap (outcome_of setting start) (goes_there cs is feeds)
 
-  pub passed_there : (cs : List ℕ) → fed ≡ InPlacePassed → FeedsInPlace setting stack at c cs old new fed
-      → rest_of setting stack old start at (c ∷ cs) ≡ rest_of setting stack new (start + (at + 1)) 0 cs
-  passed_there cs is feeds = (subst (λ (f : InPlace). FeedsInPlace setting stack at c cs old new f) is feeds) start
+  pub passed_there : (cs : List ℕ) → fed ≡ InPlacePassed → FeedsInPlace setting stack at c cs old new fed → stack ≡ [] → new ≡ AtObject
+      → verdict_of setting start (state_gives setting stack old at (c ∷ cs)) ≡ verdict_of setting (start + (at + 1)) (state_gives setting stack new 0 cs)
+  passed_there cs is feeds none anew =
+      none_turns setting stack start (at + 1) cs _ none (subst (λ (f : InPlace). FeedsInPlace setting stack at c cs old new f) is feeds)
+      ∙ ap (λ (s : State). verdict_of setting (start + (at + 1)) (state_gives setting stack s 0 cs)) (sym anew)
 
   pub left_there : (cs : List ℕ) → fed ≡ InPlaceLeft → FeedsInPlace setting stack at c cs old new fed → new ≡ old
   left_there cs is feeds = subst (λ (f : InPlace). FeedsInPlace setting stack at c cs old new f) is feeds
 
+  pub fails_there : (code : ℕ) (cs : List ℕ) → fed ≡ InPlaceRefused code → FeedsInPlace setting stack at c cs old new fed
+      → state_gives setting stack old at (c ∷ cs) ≡ fault code at
+  fails_there code cs is feeds = subst (λ (f : InPlace). FeedsInPlace setting stack at c cs old new f) is feeds
+
   pub refused_there : (code : ℕ) (cs : List ℕ) → fed ≡ InPlaceRefused code → FeedsInPlace setting stack at c cs old new fed
       → rest_of setting stack old start at (c ∷ cs) ≡ refused code (start + at)
-  refused_there code cs is feeds = ap (outcome_of setting start) (subst (λ (f : InPlace). FeedsInPlace setting stack at c cs old new f) is feeds)
+  refused_there code cs is feeds = ap (outcome_of setting start) (fails_there code cs is feeds)
 
   pub ready_there : (limits : Limits) → fed ≡ InPlaceGoesOn → IsReadyInPlace limits at new fed → IsStanding limits stack old at → IsStanding limits stack new (at + 1)
   ready_there limits is ready standing =
@@ -151,7 +162,7 @@ fed_taking mid new after limits count (Goes start at st) step takes ready many =
 fed_taking mid new after limits count (ChangeForm x start «end» next) (AdvanceForm datum s e n) takes ready many = omega (arith, takes.5, takes.6, many)
 fed_taking mid new after limits count (ChangeForm x start «end» next) AdvanceMore takes ready many = absurd takes
 fed_taking mid new after limits count (ChangeForm x start «end» next) (AdvanceRefused code offset) takes ready many = absurd takes
-fed_taking mid new after limits count (ChangeRefused code offset) step takes ready many = omega (arith, takes.2, takes.3, many)
+fed_taking mid new after limits count (ChangeRefused from code offset) step takes ready many = omega (arith, takes.3, many)
 
 -- what is open after a change began no earlier
 pub begins_taking : (mid new : FormReader) (change : Change) (step : Advance) → Becomes change mid new step → BeginsFrom mid.start change → BeginsLater mid new step
@@ -160,7 +171,8 @@ begins_taking mid new (Goes start at st) step takes from =
 begins_taking mid new (ChangeForm x start «end» next) (AdvanceForm datum s e n) takes from = (omega (arith, takes.2, from), takes.5)
 begins_taking mid new (ChangeForm x start «end» next) AdvanceMore takes from = absurd takes
 begins_taking mid new (ChangeForm x start «end» next) (AdvanceRefused code offset) takes from = absurd takes
-begins_taking mid new (ChangeRefused code offset) step takes from = subst (λ (s : Advance). BeginsLater mid new s) (sym takes.0) takes.2
+begins_taking mid new (ChangeRefused start code offset) step takes from =
+    subst (λ (s : Advance). BeginsLater mid new s) (sym takes.0) (omega (arith, takes.2, from), omega arith)
 
 -- a form begins where the attempt that is open began, or later
 begins_from : (setting : Setting) (start : ℕ) (r : Read Found) (x : Object) (from «end» next : ℕ) → outcome_of setting start r ≡ form x from «end» next → start ≤ from
@@ -226,21 +238,21 @@ module _ (under : Limits → Setting) (held handed : Limits) (old reader : FormR
 -- what the attempt came to before the byte is what it gives
 pub done_outcome : (setting : Setting) (stack after : List Frame) (start at c : ℕ) (cs : List ℕ) (passed : Passed) (found : Found) (read : Read Found) (result : Result Change AllocError)
     → passed ≡ PassedDone found → Passes setting stack at c cs passed read
-    → IfOk result (λ change. ChangesTo setting after cs change (outcome_of setting start (Ok (found, at, c ∷ cs))))
-    → IfOk result (λ change. ChangesTo setting after cs change (outcome_of setting start read))
+    → IfOk result (λ change. ChangesTo setting after cs change (verdict_of setting start (Ok (found, at, c ∷ cs))))
+    → IfOk result (λ change. ChangesTo setting after cs change (verdict_of setting start read))
 done_outcome setting stack after start at c cs passed found read result e passes turns =
     let told : Passes setting stack at c cs (PassedDone found) read = subst (λ (p : Passed). Passes setting stack at c cs p read) e passes in
-    subst (λ (r : Read Found). IfOk result (λ change. ChangesTo setting after cs change (outcome_of setting start r))) (sym told.0) turns
+    subst (λ (r : Read Found). IfOk result (λ change. ChangesTo setting after cs change (verdict_of setting start r))) (sym told.0) turns
 
 -- after a form nothing is open
-pub leaves_between : (setting : Setting) (mid new : FormReader) (after : List Frame) (change : Change) (step : Advance) (o : Outcome) → ChangesTo setting after [] change o → Becomes change mid new step
+pub leaves_between : (setting : Setting) (mid new : FormReader) (after : List Frame) (change : Change) (step : Advance) (v : Outcome × ℕ) → ChangesTo setting after [] change v → Becomes change mid new step
     → mid.stack ≡ after → LeavesBetween new step
-leaves_between setting mid new after (Goes start at state) step o turns takes same = subst (λ (s : Advance). LeavesBetween new s) (sym takes.0) tt
-leaves_between setting mid new after (ChangeForm x start «end» next) (AdvanceForm datum s e n) o turns takes same =
+leaves_between setting mid new after (Goes start at state) step v turns takes same = subst (λ (s : Advance). LeavesBetween new s) (sym takes.0) tt
+leaves_between setting mid new after (ChangeForm x start «end» next) (AdvanceForm datum s e n) v turns takes same =
     record { at = takes.6; stack = takes.7 ∙ same ∙ turns.1; state = takes.8 }
-leaves_between setting mid new after (ChangeForm x start «end» next) AdvanceMore o turns takes same = absurd takes
-leaves_between setting mid new after (ChangeForm x start «end» next) (AdvanceRefused code offset) o turns takes same = absurd takes
-leaves_between setting mid new after (ChangeRefused code offset) step o turns takes same = subst (λ (s : Advance). LeavesBetween new s) (sym takes.0) tt
+leaves_between setting mid new after (ChangeForm x start «end» next) AdvanceMore v turns takes same = absurd takes
+leaves_between setting mid new after (ChangeForm x start «end» next) (AdvanceRefused code offset) v turns takes same = absurd takes
+leaves_between setting mid new after (ChangeRefused from code offset) step v turns takes same = subst (λ (s : Advance). LeavesBetween new s) (sym takes.0) tt
 
 -- what an event brings is what this reads
 pub brought : (setting : Setting) (stack : List Frame) (at : ℕ) (event : Event) → (read : Read Found) × Brings setting stack at [] event read
@@ -264,7 +276,7 @@ anew_between mid new after (Goes start at state) step anew takes same e here =
 anew_between mid new after (ChangeForm x start «end» next) (AdvanceForm datum s e n) anew takes same is here = cc
 anew_between mid new after (ChangeForm x start «end» next) AdvanceMore anew takes same is here = absurd takes
 anew_between mid new after (ChangeForm x start «end» next) (AdvanceRefused code offset) anew takes same is here = absurd takes
-anew_between mid new after (ChangeRefused code offset) step anew takes same is here =
+anew_between mid new after (ChangeRefused from code offset) step anew takes same is here =
     let other : AdvanceRefused code offset ≡ AdvanceMore = sym takes.0 ∙ is in cc
 
 -- ---- what is read where a reader is between forms

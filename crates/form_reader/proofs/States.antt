@@ -6,8 +6,8 @@ use Rattle.form_reader.specs.declared.stack.Frame.{Frame}
 use Rattle.lisp_reading.specs.declared.limits.Limits.{Limits}
 use Rattle.form_reader.specs.declared.reader.ReaderState.{ReaderState}
 use Rattle.form_reader.specs.declared.reader.ReaderState.TheVariants.{Open}
-use Rattle.form_reader.specs.declared.whole.State.{State}
-use Rattle.form_reader.specs.declared.whole.State.TheVariants.{Object as AtObject, Token as AtToken, CallToken as AtCallToken, Text as AtText, Escaped as AtEscaped, Line as AtLine, Block as AtBlock, Number as AtNumber}
+use Rattle.form_reader.specs.declared.state.State.{State}
+use Rattle.form_reader.specs.declared.state.State.TheVariants.{Object as AtObject, Token as AtToken, CallToken as AtCallToken, Text as AtText, Escaped as AtEscaped, Line as AtLine, Block as AtBlock, Number as AtNumber}
 use Rattle.form_reader.specs.State.{IsStateAt, is_state_at, is_standing}
 use Rattle.form_reader.specs.Step.{IsStanding}
 

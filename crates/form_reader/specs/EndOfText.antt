@@ -7,7 +7,12 @@ use Rattle.lisp_reading.specs.declared.limits.Limits.{Limits}
 use Rattle.form_reader.specs.declared.state.Event.{Event}
 use Rattle.form_reader.specs.declared.state.Event.TheVariants.{Open as IsAt, Gives as IsGiven, Refused as IsRefused}
 use Rattle.form_reader.specs.declared.state.State.TheVariants.{Object as AtObject}
-use Rattle.lisp_reading.specs.Plans.{fault}
+use Rattle.form_reader.specs.declared.reader.ReadOutcome.{ReadOutcome}
+use Rattle.form_reader.specs.declared.reader.ReadOutcome.TheVariants.{Refused as ReadRefused}
+use Rattle.lisp_reading.specs.declared.found.Found.{Found}
+use Rattle.lisp_reading.specs.Plans.{Read, fault}
+use Rattle.lisp_reading.specs.Setting.{Setting}
+use Rattle.form_reader.specs.Step.{start_of}
 use Rattle.form_reader.specs.Token.{token_read}
 
 -- it ends the token; or the token is refused
@@ -20,6 +25,11 @@ abbrev pub IsLastEvent : ℕ → Event → Type 0
 IsLastEvent at (IsAt state) = state ≡ AtObject
 IsLastEvent at (IsGiven found) = Unit {0}
 IsLastEvent at (IsRefused number offset) = offset ≤ at
+
+-- where the outcome is a refusal, it is of the attempt that began at start, which comes to this
+abbrev pub RefusesIn : Setting → ℕ → Read Found → ReadOutcome → Type 0
+RefusesIn setting start read (ReadRefused number offset) = start_of setting start read ≡ start
+RefusesIn setting start read _ = Unit {0}
 
 -- no more is waited for
 abbrev pub IsLastSettled : ℕ → Event → Type 0

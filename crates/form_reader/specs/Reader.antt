@@ -15,8 +15,10 @@ use Rattle.form_reader.specs.declared.reader.ReadOutcome.TheVariants.{Form as Re
 use Rattle.form_reader.specs.declared.step.Change.{Change}
 use Rattle.form_reader.specs.declared.step.Change.TheVariants.{Goes, Form as ChangeForm, Refused as ChangeRefused}
 use Rattle.lisp_reading.specs.Setting.{Setting}
+use Rattle.lisp_reading.specs.Deciding.{decided_from}
 use Rattle.lisp_reading.specs.Reading.{Outcome, form, empty, refused, is_whitespace, reads}
-use Rattle.form_reader.specs.Step.{rest_of}
+use Rattle.form_reader.specs.State.{state_gives}
+use Rattle.form_reader.specs.Step.{rest_of, start_of}
 
 -- the limits under which it reads
 abbrev pub limits_of : FormReader → Limits
@@ -97,11 +99,12 @@ Steps setting reader bytes (AdvanceForm datum start «end» next) =
 Steps setting reader bytes (AdvanceRefused number offset) =
     ((cs : List ℕ) → reads setting (bytes ++ cs) ≡ refused number offset) × HasRefused reader number offset
 
--- What was open began where what is open after a step began, or before: of a form, its object; after a form nothing is open.
+-- What was open began where what is open after a step began, or before: of a form, its object, and of a refusal, what is refused;
+-- after a form nothing is open.
 abbrev pub BeginsLater : FormReader → FormReader → Advance → Type 0
 BeginsLater old new AdvanceMore = (begun old ≤ begun new) × (begun new ≤ fed new)
 BeginsLater old new (AdvanceForm datum start «end» next) = (begun old ≤ start) × (begun new ≡ 0)
-BeginsLater old new (AdvanceRefused number offset) = begun new ≡ begun old
+BeginsLater old new (AdvanceRefused number offset) = (begun old ≤ begun new) × (begun new ≤ fed new)
 
 -- this outcome, of a text that lies so many bytes further on
 abbrev pub further : ℕ → Outcome → Outcome
@@ -117,23 +120,37 @@ pub record BeginsAt (setting : Setting) (bytes : List ℕ) (from : ℕ) : Type 0
   pub alone : (cs : List ℕ) → reads setting (bytes ++ cs) ≡ further from (reads setting (drop from bytes ++ cs))
   pub first : (c : ℕ) (cs : List ℕ) → drop from bytes ≡ c ∷ cs → 0 < setting.limits.text → is_whitespace setting.table c ≡ false
 
--- It goes on after these bytes, and what it has open began where it says; where that has no byte, it is between forms.
+-- whatever follows these bytes, what decides the text begins at this offset
+abbrev pub IsDecidedFrom : Setting → List ℕ → ℕ → Type 0
+IsDecidedFrom setting bytes from = (cs : List ℕ) → decided_from setting (bytes ++ cs) ≡ from
+
+-- It goes on after these bytes, and what it has open began where it says; where that has no byte, it is between forms. What decides the
+-- text begins where the attempt that it is in says.
 pub record HasBegun (setting : Setting) (reader : FormReader) (bytes : List ℕ) : Type 0 where
   pub goes_on : IsOpen reader
   pub begins : BeginsAt setting bytes (begun reader)
   pub between : begun reader ≡ fed reader → IsBetween reader
+  pub decides : (state : State) → reader.state ≡ Open state
+      → (cs : List ℕ) → decided_from setting (bytes ++ cs) ≡ start_of setting reader.start (state_gives setting reader.stack state reader.at cs)
 
--- where what is open after a step began, or what it refused; after a form the reader is new, whatever is handed to it then
+-- where what is open after a step began, or what it refused, which decides the text; after a form the reader is new, whatever is handed
+-- to it then
 abbrev pub StepsBegun : Setting → FormReader → List ℕ → Advance → Type 0
 StepsBegun setting reader bytes AdvanceMore = HasBegun setting reader bytes
 StepsBegun setting reader bytes (AdvanceForm datum start «end» next) = (later : Setting) → HasBegun later reader []
-StepsBegun setting reader bytes (AdvanceRefused number offset) = BeginsAt setting bytes (begun reader)
+StepsBegun setting reader bytes (AdvanceRefused number offset) =
+    BeginsAt setting bytes (begun reader) × IsDecidedFrom setting bytes (begun reader)
 
 -- What is answered is the outcome, and the object of a form is sound.
 abbrev pub IsOutcome : ReadOutcome → Outcome → Type 0
 IsOutcome (ReadForm datum start «end» next) o = (o ≡ form (object_of datum) start «end» next) × (is_proper datum ≡ true) × IsSound (object_of datum)
 IsOutcome ReadEmpty o = o ≡ empty
 IsOutcome (ReadRefused number offset) o = o ≡ refused number offset
+
+-- where the text is refused at its end, what is refused begins at this offset
+abbrev pub RefusesFrom : Setting → List ℕ → ℕ → ReadOutcome → Type 0
+RefusesFrom setting bytes from (ReadRefused number offset) = decided_from setting bytes ≡ from
+RefusesFrom setting bytes from _ = Unit {0}
 
 -- how many bytes it was fed after a step: one more, or as many as before where it refuses; after a form none
 abbrev pub Counts : FormReader → FormReader → Advance → Type 0
@@ -154,8 +171,8 @@ Becomes (ChangeForm x start «end» next) old new (AdvanceForm datum s e n) =
     (object_of datum ≡ x) × (is_proper datum ≡ true) × (s ≡ start) × (e ≡ «end») × (n ≡ next)
     × (new.start ≡ 0) × (new.at ≡ 0) × (new.stack ≡ old.stack) × (new.state ≡ Open AtObject)
 Becomes (ChangeForm x start «end» next) old new _ = ⊥
-Becomes (ChangeRefused number offset) old new step =
-    (step ≡ AdvanceRefused number offset) × (new.state ≡ Refused number offset) × (new.start ≡ old.start) × (new.at ≡ old.at)
+Becomes (ChangeRefused start number offset) old new step =
+    (step ≡ AdvanceRefused number offset) × (new.state ≡ Refused number offset) × (new.start ≡ start) × (fed new ≡ fed old)
 
 -- more bytes decide
 abbrev pub is_more : Advance → Bool

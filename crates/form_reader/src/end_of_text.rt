@@ -11,7 +11,7 @@ ghost use Rattle.form_reader.specs.declared.state.Event.TheVariants.{Open as IsA
 ghost use Rattle.form_reader.specs.declared.state.Event.TheVariants.{Gives as IsDone};
 ghost use Rattle.form_reader.specs.State.{Brings, state_gives};
 ghost use Rattle.form_reader.specs.Step.{outcome_of, rest_of, Settles};
-ghost use Rattle.form_reader.specs.EndOfText.{TokenStops, IsLastEvent, IsLastSettled};
+ghost use Rattle.form_reader.specs.EndOfText.{TokenStops, RefusesIn, IsLastEvent, IsLastSettled};
 ghost use Rattle.form_reader.specs.Reader.{IsOutcome};
 
 use crate::call::end_call;
@@ -175,6 +175,7 @@ fn done_last(found: Found, start: usize, at: usize) -> ReadOutcome
     requires count { start + at ≤ 2 ^ 63 }
     ensures outcome { (setting : Setting)
         → IsOutcome result (outcome_of setting start (Ok (found, at, []))) }
+    ensures refuses { (setting : Setting) → RefusesIn setting start (Ok (found, at, [])) result }
     ensures the_end { found ≡ the_end → result ≡ IsEmpty }
 {
     match found {
@@ -209,6 +210,8 @@ pub(crate) fn last_outcome<R: MacroFunctions>(
     requires count { start + at ≤ 2 ^ 63 }
     ensures outcome { let setting = setting R.functions with.now in
         IfOk result (λ outcome. IsOutcome outcome (rest_of setting stack.old state start at [])) }
+    ensures refuses { let setting = setting R.functions with.now in
+        IfOk result (RefusesIn setting start (state_gives setting stack.old state at [])) }
     ensures between { stack.old ≡ [] → state ≡ AtObject → result ≡ Ok IsEmpty }
 {
     match settle_last(with, stack, state, at)? {

@@ -73,8 +73,8 @@ impl FormReader {
     ghost use Rattle.lisp_reading.specs.Reading.{form, is_whitespace, reads};
     ghost use Rattle.form_reader.specs.declared.reader.Advance.TheVariants.{More as AdvanceMore, Refused as AdvanceRefused};
     ghost use Rattle.form_reader.specs.declared.reader.ReadOutcome.TheVariants.{Empty as ReadEmpty, Refused as ReadRefused};
-    ghost use Rattle.form_reader.specs.Step.{IsReadyChange};
-    ghost use Rattle.form_reader.specs.Reader.{limits_of, fed, begun, HasRefused, HasNoMemory, IsNew, IsBetween, LeavesBetween, IsAfter, IsOpen, Steps, Counts, BeginsLater, HasBegun, StepsBegun, IsSoundStep, Becomes, IsOutcome};
+    ghost use Rattle.form_reader.specs.Step.{BeginsFrom, IsReadyChange};
+    ghost use Rattle.form_reader.specs.Reader.{limits_of, fed, begun, HasRefused, HasNoMemory, IsNew, IsBetween, LeavesBetween, IsAfter, IsOpen, Steps, Counts, BeginsLater, HasBegun, StepsBegun, RefusesFrom, IsSoundStep, Becomes, IsOutcome};
 
     /// A reader that was fed nothing, between forms. It keeps `alloc` for what it gathers.
     pub fn new(alloc: Global, limits: Limits) -> FormReader
@@ -243,6 +243,7 @@ impl FormReader {
     #[inline(always)]
     fn take(&mut self, change: Change) -> Advance
         requires ready { IsReadyChange (limits_of self.old) self.old.stack (fed self.old + 1) change }
+        requires begins { BeginsFrom self.old.start change }
         ensures limits { limits_of self.new ≡ limits_of self.old }
         ensures takes { Becomes change self.old self.new result }
         ensures sound { IsSoundStep result }
@@ -265,7 +266,10 @@ impl FormReader {
                     next,
                 }
             }
-            Change::Refused(code, at) => {
+            Change::Refused(start, code, at) => {
+                // The offset of the refusing byte stays: what came to nothing before it is left out.
+                self.at -= start - self.start;
+                self.start = start;
                 self.state = ReaderState::Refused(code, at);
                 Advance::Refused { code, at }
             }
@@ -298,6 +302,13 @@ impl FormReader {
             (R.functions macros.now))
             bytes)) }
         ensures between { IsBetween self → result ≡ Ok ReadEmpty }
+        ensures has_begun { (bytes : List ℕ) → HasBegun
+            (setting_of (limits_of self) readtable.now base packages.now.0 current.now
+            (R.functions macros.now))
+            self bytes → IfOk result (RefusesFrom
+            (setting_of (limits_of self) readtable.now base packages.now.0 current.now
+            (R.functions macros.now))
+            bytes (begun self)) }
     {
         let FormReader {
             limits,

@@ -6,7 +6,7 @@ ghost use Rattle.form_reader.specs.declared.stack.Frame.{Frame};
 ghost use Rattle.lisp_reading.specs.declared.limits.Limits.{Limits as Bounds};
 ghost use Rattle.lisp_reading.specs.Setting.{Setting};
 ghost use Rattle.form_reader.specs.Context.{setting};
-ghost use Rattle.form_reader.specs.Step.{Passes, IsReadyPass, outcome_of, rest_of, Settles, ChangesTo, IsStanding, IsReadySettled, IsReadyChange, BeginsFrom, BeginsAnew, StartsAt, StartsWith, FollowsNothing, Starts};
+ghost use Rattle.form_reader.specs.Step.{Passes, IsReadyPass, verdict_of, Settles, ChangesTo, IsStanding, IsReadySettled, IsReadyChange, BeginsFrom, BeginsAnew, StartsAt, StartsWith, StartsAfter, Starts};
 ghost use Rattle.form_reader.specs.declared.state.State.TheVariants.{Object as AtObject};
 ghost use Rattle.form_reader.specs.State.{Brings, state_gives, lookahead, IsReady, Moves, IsReadyMove};
 
@@ -34,8 +34,8 @@ pub enum Change {
     Goes(usize, usize, State),
     /// A form: its object, its start, its end, and where the next form begins.
     Form(HeldObject, usize, usize, usize),
-    /// The number of a refusal, and its offset.
-    Refused(u16, usize),
+    /// A refusal: where what is refused began, its number, and its offset.
+    Refused(usize, u16, usize),
 }
 
 /// The byte `c` at `at`, also where it ends a token first.
@@ -99,7 +99,7 @@ fn done_after(found: Found, start: usize, at: usize) -> Change
     requires found { lookahead found ≡ 0 }
     requires count { start + at ≤ 2 ^ 63 }
     ensures turns { (setting : Setting) (cs : List ℕ)
-        → ChangesTo setting [] cs result (outcome_of setting start (Ok (found, at, cs))) }
+        → ChangesTo setting [] cs result (verdict_of setting start (Ok (found, at, cs))) }
     ensures ready { (limits : Bounds) (stack : List Frame) → length stack ≤ limits.nesting
         → IsReadyChange limits stack (start + at) result }
     ensures begins { BeginsFrom start result }
@@ -126,19 +126,20 @@ fn change_of<R: MacroFunctions>(
     requires answers { R.answers with.now.macros.now }
     requires nesting { length stack.old ≤ with.now.limits.nesting }
     requires ready { IsReady with.now.limits at event }
+    requires some { 0 < at }
     requires count { start + at ≤ 2 ^ 63 }
     ensures turns { let setting = setting R.functions with.now in
         (cs : List ℕ) (read : Read FoundThere) → Brings setting stack.old at cs event read
-        → IfOk result (λ change. ChangesTo setting stack.new cs change (outcome_of setting start read)) }
+        → IfOk result (λ change. ChangesTo setting stack.new cs change (verdict_of setting start read)) }
     ensures ready { IfOk result (IsReadyChange with.now.limits stack.new (start + at)) }
     ensures begins { IfOk result (BeginsFrom start) }
-    ensures anew { 0 < at → IfOk result (BeginsAnew stack.new) }
+    ensures anew { IfOk result (BeginsAnew stack.new) }
     ensures starts { IfOk result (StartsAt start) }
 {
     match settle(with, stack, event, at)? {
         Event::Open(state) => Ok(Change::Goes(start, at, state)),
         Event::Gives(found) => Ok(done_after(found, start, at)),
-        Event::Refused(code, offset) => Ok(Change::Refused(code, start + offset)),
+        Event::Refused(code, offset) => Ok(Change::Refused(start, code, start + offset)),
     }
 }
 
@@ -155,7 +156,7 @@ fn first_change<R: MacroFunctions>(
     requires count { start < 2 ^ 63 }
     ensures turns { let setting = setting R.functions with.now in
         (cs : List ℕ) → IfOk result (λ change. ChangesTo setting stack.new cs change
-        (rest_of setting [] AtObject start 0 (c ∷ cs))) }
+        (verdict_of setting start (state_gives setting [] AtObject 0 (c ∷ cs)))) }
     ensures ready { IfOk result (IsReadyChange with.now.limits stack.new (start + 1)) }
     ensures begins { IfOk result (BeginsFrom start) }
     ensures anew { IfOk result (BeginsAnew stack.new) }
@@ -184,12 +185,11 @@ fn done_before<R: MacroFunctions>(
     requires count { start + at < 2 ^ 63 }
     ensures turns { let setting = setting R.functions with.now in
         (cs : List ℕ) → IfOk result (λ change. ChangesTo setting stack.new cs change
-        (outcome_of setting start (Ok (found, at, c ∷ cs)))) }
+        (verdict_of setting start (Ok (found, at, c ∷ cs)))) }
     ensures ready { IfOk result (IsReadyChange with.now.limits stack.new (start + at + 1)) }
     ensures begins { IfOk result (BeginsFrom start) }
     ensures anew { IfOk result (BeginsAnew stack.new) }
-    ensures starts { IfOk result (StartsWith (setting R.functions with.now) (start + at) c) }
-    ensures nothing { IfOk result (FollowsNothing found) }
+    ensures starts { IfOk result (StartsAfter (setting R.functions with.now) found start at c) }
 {
     match found {
         Found::Nothing(_) => first_change(with, stack, start + at, c),
@@ -200,7 +200,7 @@ fn done_before<R: MacroFunctions>(
             }
             Ok(Change::Form(x, start, end, end))
         }
-        Found::LoneDot => Ok(Change::Refused(DOT_CONTEXT, start + at)),
+        Found::LoneDot => Ok(Change::Refused(start, DOT_CONTEXT, start + at)),
         Found::TheEnd => unreachable!(),
     }
 }
@@ -219,7 +219,7 @@ pub(crate) fn take_byte<R: MacroFunctions>(
     requires count { start + at < 2 ^ 63 }
     ensures turns { let setting = setting R.functions with.now in
         (cs : List ℕ) → IfOk result (λ change. ChangesTo setting stack.new cs change
-        (rest_of setting stack.old state start at (c ∷ cs))) }
+        (verdict_of setting start (state_gives setting stack.old state at (c ∷ cs)))) }
     ensures ready { IfOk result (IsReadyChange with.now.limits stack.new (start + at + 1)) }
     ensures begins { IfOk result (BeginsFrom start) }
     ensures anew { IfOk result (BeginsAnew stack.new) }

@@ -1,21 +1,21 @@
 -- Lists, quoted objects and texts are calls of the standard functions.
-use Rattle.std.proofs.Common.{◌≡◌, ℕ, suc, ◌+◌, ◌-◌, ◌<◌, ◌≤◌, Bool, true, false, List, [], ◌∷◌, ◌++◌, length, Option, Some, None, Ok, Err, refl, sym, ap, subst, ◌∙◌, arith}
+use Rattle.std.proofs.Common.{◌≡◌, ℕ, suc, ◌-◌, Bool, true, false, List, [], ◌∷◌, Option, Some, None, refl, sym, ap, subst, ◌∙◌}
 use Rattle.std.specs.Prelude.{codes, is_some}
 use Rattle.lisp_object.specs.Object.{Object, list_of}
-use Rattle.readtable_core.specs.Tables.{Table, entry_at}
-use Rattle.readtable_core.specs.Names.{std_list, std_quote, std_string}
+use Rattle.readtable_core.specs.Tables.{entry_at}
+use Rattle.readtable_core.specs.Names.{std_list, std_quote}
 use Rattle.readtable_core.specs.Sound.{IsReadtable, is_macro}
 use Rattle.readtable_core.specs.declared.characters.Syntax.{Syntax}
 use Rattle.readtable_core.specs.declared.characters.Syntax.TheVariants.{TerminatingMacro, NonTerminatingMacro}
-use Rattle.std_macros.specs.Values.{Material, headed, one as one_object}
+use Rattle.std_macros.specs.Values.{headed, one as one_object}
 use Rattle.std_macros.specs.declared.kind.Standard.TheVariants.{List as AList, Quote}
 use Rattle.lisp_reading.specs.declared.found.Found.{Found}
-use Rattle.lisp_reading.specs.declared.found.Found.TheVariants.{Nothing as nothing, One as one}
+use Rattle.lisp_reading.specs.declared.found.Found.TheVariants.{One as one}
 use Rattle.lisp_reading.specs.declared.way.Function.TheVariants.{Standard as AStandard}
 use Rattle.lisp_reading.specs.Calls.{InvokedCall}
-use Rattle.lisp_reading.specs.Plans.{Plan, gives, takes, scans, then_plan, run}
+use Rattle.lisp_reading.specs.Plans.{Plan, gives, scans, then_plan}
 use Rattle.lisp_reading.specs.Setting.{Setting}
-use Rattle.lisp_reading.specs.Reading.{Piece, item, Items, items_after, list_end, one_piece, completed, next_item, macro_called, stands_alone, alone, token_found, inner, attempt, piece_of, next_item_turn}
+use Rattle.lisp_reading.specs.Reading.{Piece, item, Items, list_end, one_piece, completed, next_item, macro_called, stands_alone, alone, token_found, inner, attempt, piece_of, next_item_turn}
 use Rattle.lisp_reading.proofs.Turns.{loop_is, next_item_guarded, attempt_ends}
 use Rattle.plain_reader.specs.Coming.{ComesTo}
 use Rattle.plain_reader.specs.Plain.{items_from}

@@ -2,10 +2,10 @@
 --     here, onward      nothing, and one after the other
 --     behind            a plan that goes on with another
 --     taken, passed     a byte that is taken, and one that is not
-use Rattle.std.proofs.Common.{◌≡◌, ℕ, ◌+◌, ◌-◌, ◌<◌, ◌≤◌, Bool, true, false, List, [], ◌∷◌, ◌++◌, length, Ok, Err, refl, sym, ap, ◌∙◌, arith}
+use Rattle.std.proofs.Common.{◌≡◌, ℕ, ◌+◌, ◌-◌, ◌≤◌, Bool, true, false, List, ◌∷◌, ◌++◌, length, refl, sym, ap, ◌∙◌, arith}
 use Rattle.std.specs.Prelude.{nat_le}
 use Rattle.std.proofs.lemmas.Bool.{lt-leb}
-use Rattle.lisp_reading.specs.Plans.{Plan, gives, takes, then_plan, Read, within, run}
+use Rattle.lisp_reading.specs.Plans.{Plan, takes, then_plan, Read, within, run}
 use Rattle.lisp_reading.specs.Setting.{Setting}
 use Rattle.lisp_reading.proofs.Steps.{run_then, and_then}
 use Rattle.plain_reader.specs.Coming.{ComesTo}

@@ -1,5 +1,5 @@
 -- A text by its first byte and the rest, as slice patterns have them.
-use Rattle.std.proofs.Common.{◌≡◌, ℕ, ◌-◌, ◌≤◌, ◌<◌, List, [], ◌∷◌, length, take, drop, get_or, refl, sym, ap, ◌∙◌, arith}
+use Rattle.std.proofs.Common.{◌≡◌, ℕ, ◌-◌, ◌≤◌, List, [], ◌∷◌, length, take, drop, get_or, sym, ap, ◌∙◌, arith}
 use Rattle.std.proofs.lemmas.List.{take_all, length-drop}
 
 pub front : (c : ℕ) (text : List ℕ) → 1 ≤ length text → get_or text 0 0 ≡ c → c ∷ take (length text - 1) (drop 1 text) ≡ text

@@ -2,7 +2,7 @@
 --     blank_items      whitespace is passed over
 --     object_items     an object is put to the items, and one whitespace after a token may be left to the next step
 --     closed_items     the parenthesis closes the list
-use Rattle.std.proofs.Common.{◌≡◌, ℕ, ◌+◌, ◌-◌, ◌<◌, ◌≤◌, Bool, true, false, List, [], ◌∷◌, ◌++◌, length, Option, Some, None, Ok, Err, refl, sym, ap, subst, ◌∙◌, arith}
+use Rattle.std.proofs.Common.{◌≡◌, ℕ, ◌+◌, ◌-◌, ◌<◌, ◌≤◌, Bool, true, false, List, [], ◌∷◌, ◌++◌, Some, Ok, refl, sym, ap, subst, ◌∙◌, arith}
 use Rattle.std.specs.Prelude.{nat_le, ◌==◌}
 use Rattle.std.proofs.lemmas.Bool.{leb-false, eqb-true}
 use Rattle.lisp_object.specs.declared.refusal.TheConstants.{FORM_TOO_LONG}
@@ -12,7 +12,7 @@ use Rattle.readtable_core.specs.declared.characters.Syntax.{Syntax}
 use Rattle.readtable_core.specs.declared.characters.Syntax.TheVariants.{Whitespace}
 use Rattle.lisp_reading.specs.declared.found.Found.{Found}
 use Rattle.lisp_reading.specs.declared.found.Found.TheVariants.{Nothing as nothing, One as one}
-use Rattle.lisp_reading.specs.Plans.{Plan, gives, takes, scans, then_plan, loop, Read, fault, within, run}
+use Rattle.lisp_reading.specs.Plans.{Plan, gives, scans, then_plan, Read, fault, within, run}
 use Rattle.lisp_reading.specs.Setting.{Setting}
 use Rattle.lisp_reading.specs.Reading.{Piece, item, closed, Items, is_blank, is_whitespace, without_space, piece_of, or_closed, next_item_turn, next_item, items_step, items_turn, items_after, stands_alone, alone, token_found, inner, attempt}
 use Rattle.lisp_reading.proofs.Steps.{run_then, and_then}

@@ -6,4 +6,5 @@ mod Listing
 mod Names
 mod Runs
 mod Strings
+mod There
 mod Whole

@@ -1,6 +1,6 @@
 -- A token without escapes: where it ends, and what reading it gives.
-use Rattle.std.proofs.Common.{◌≡◌, ℕ, suc, ◌+◌, ◌-◌, ◌<◌, ◌≤◌, Bool, true, false, List, [], ◌∷◌, ◌++◌, length, map, take, drop, Option, Some, None, Result, Ok, Err, IsTrue, refl, sym, ap, subst, ◌∙◌, arith, length-append, append_assoc, length-take-le, get_or}
-use Rattle.std.specs.Prelude.{nat_le, nat_lt, ◌&&◌, not, if◌then◌else◌}
+use Rattle.std.proofs.Common.{◌≡◌, ℕ, ◌+◌, ◌-◌, ◌<◌, ◌≤◌, Bool, true, false, List, [], ◌∷◌, ◌++◌, length, map, take, drop, Result, Ok, Err, IsTrue, refl, sym, ap, subst, ◌∙◌, arith, length-append, append_assoc, length-take-le, get_or}
+use Rattle.std.specs.Prelude.{nat_le, nat_lt, not, if◌then◌else◌}
 use Rattle.std.specs.List.{list_all}
 use Rattle.std.proofs.lemmas.Bool.{le-leb, and_parts, and_from}
 use Rattle.std.proofs.lemmas.List.Folds.{list_all_more}
@@ -15,15 +15,14 @@ use Rattle.token_scan.specs.declared.mark.Mark.{Mark}
 use Rattle.token_scan.specs.declared.mark.Mark.TheVariants.{Plain}
 use Rattle.token_scan.specs.Marks.{are_ascii}
 use Rattle.token_scan.specs.Spelling.{is_plain, ends_tokens}
-use Rattle.token_scan.specs.Tokens.{TypedByte, TokenFault, kind, typed, typed_text, outside, plain, one_more, with_front, in_bytes, token_in, ScannedBytes}
+use Rattle.token_scan.specs.Tokens.{TypedByte, kind, typed, typed_text, outside, plain, with_front, in_bytes, token_in, ScannedBytes}
 use Rattle.token_scan.proofs.Steps.{outside_ends, outside_plain, room, plain_taken}
-use Rattle.lisp_reading.specs.declared.found.Found.{Found}
 use Rattle.lisp_reading.specs.declared.found.Found.TheVariants.{One as one}
 use Rattle.lisp_reading.specs.declared.told.Told.{Told}
 use Rattle.lisp_reading.specs.declared.told.Told.TheVariants.{Object as told_object}
 use Rattle.lisp_object.specs.declared.refusal.TheConstants.{FORM_TOO_LONG}
 use Rattle.lisp_reading.specs.Naming.{told}
-use Rattle.lisp_reading.specs.Plans.{Plan, Read, Fault, gives, takes, scans, limited, scanned, run}
+use Rattle.lisp_reading.specs.Plans.{Plan, Read, gives, scans, limited, scanned, run}
 use Rattle.lisp_reading.specs.Setting.{Setting}
 use Rattle.lisp_reading.specs.Reading.{stands_alone, alone, told_found, token_found, inner, attempt}
 use Rattle.plain_reader.specs.Coming.{ComesTo}

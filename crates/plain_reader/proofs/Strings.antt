@@ -1,12 +1,12 @@
 -- A text without escapes.
-use Rattle.std.proofs.Common.{◌≡◌, ℕ, suc, ◌+◌, ◌-◌, ◌<◌, ◌≤◌, Bool, true, false, List, [], ◌∷◌, ◌++◌, length, map, take, drop, Option, Some, None, Result, Ok, Err, IsTrue, refl, sym, ap, subst, ◌∙◌, arith, append_assoc, get_or}
-use Rattle.std.specs.Prelude.{nat_lt, ◌&&◌, not, ◌==◌}
+use Rattle.std.proofs.Common.{◌≡◌, ℕ, ◌+◌, ◌-◌, ◌<◌, Bool, true, false, List, [], ◌∷◌, ◌++◌, length, take, drop, Some, None, refl, sym, ap, subst, ◌∙◌, append_assoc, get_or}
+use Rattle.std.specs.Prelude.{nat_lt, not, ◌==◌}
 use Rattle.std.specs.List.{list_all}
 use Rattle.std.proofs.lemmas.Bool.{and_parts, and_from, eqb-true, eq-eqb, ne_eqb}
 use Rattle.std.proofs.lemmas.List.{append-nil, take-append-drop, drop-drop, at_drop_more}
 use Rattle.std.proofs.lemmas.List.Folds.{list_all_more}
 use Rattle.lisp_object.specs.Ascii.{is_ascii}
-use Rattle.lisp_object.specs.Object.{Object, text as text_object}
+use Rattle.lisp_object.specs.Object.{text as text_object}
 use Rattle.lisp_object.specs.declared.refusal.TheConstants.{INVALID_CHARACTER, END_OF_FILE}
 use Rattle.readtable_core.specs.Names.{std_string}
 use Rattle.readtable_core.specs.Sound.{IsReadtable}
@@ -18,7 +18,7 @@ use Rattle.lisp_reading.specs.declared.found.Found.TheVariants.{One as one}
 use Rattle.lisp_reading.specs.declared.way.Function.TheVariants.{Standard as AStandard}
 use Rattle.lisp_reading.specs.Calls.{InvokedCall}
 use Rattle.lisp_reading.specs.Gathering.{is_escape, text_turn}
-use Rattle.lisp_reading.specs.Plans.{Plan, gives, refuses, takes, character, next_byte, then_plan, loop, run}
+use Rattle.lisp_reading.specs.Plans.{Plan, gives, refuses, character, next_byte, then_plan}
 use Rattle.lisp_reading.specs.Setting.{Setting}
 use Rattle.lisp_reading.specs.Reading.{text_to, completed, attempt}
 use Rattle.lisp_reading.proofs.Turns.{loop_is, text_guarded}

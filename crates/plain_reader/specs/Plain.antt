@@ -1,6 +1,8 @@
 -- What reading a plain form comes to.
-use Rattle.std.specs.Prelude.{ℕ, ◌≡◌, List, [], true, false}
+use Rattle.std.specs.Prelude.{ℕ, ◌≡◌, ◌<◌, Bool, List, true, false, length}
+use Rattle.std.specs.List.{list_all}
 use Rattle.lisp_object.specs.Object.{Object, list_of}
+use Rattle.package_table.specs.Symbols.{are_there}
 use Rattle.user_macros.specs.Functions.{Functions}
 use Rattle.lisp_reading.specs.declared.found.Found.TheVariants.{One as one}
 use Rattle.lisp_reading.specs.Plans.{Plan, gives}
@@ -35,3 +37,18 @@ abbrev pub Closes : Context → ℕ → List Object → List ℕ → Taken → T
 Closes with room xs text t =
     (functions : Functions) → ComesTo (setting with functions) (items_from (setting with functions) room xs) text (gives (xs, true)) t.rest.now
     × (t.token ≡ false) × (t.object ≡ list_of xs)
+
+-- less of the text is left
+abbrev pub LeavesLess : List ℕ → Taken → Type 0
+LeavesLess text t = length t.rest.now < length text
+
+-- each interned symbol of an object, and of these objects, is one of the packages
+abbrev pub AreThere : Context → Object → Type 0
+AreThere with x = are_there with.packages.now.0 x ≡ true
+
+abbrev pub AllAreThere : Context → List Object → Type 0
+AllAreThere with xs = list_all (are_there with.packages.now.0) xs ≡ true
+
+-- where all symbols are still known after a call, they were known before it, and this holds
+abbrev pub IfStill : Bool → Bool → Type 0 → Type 0
+IfStill before after fact = after ≡ true → (before ≡ true) × fact

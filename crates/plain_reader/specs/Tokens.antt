@@ -1,5 +1,5 @@
 -- Tokens that are written without escapes.
-use Rattle.std.specs.Prelude.{ℕ, ◌≡◌, ◌&&◌, not, Bool, true, false, List, [], ◌∷◌, map, take, drop, Ok, IsTrue}
+use Rattle.std.specs.Prelude.{ℕ, ◌≡◌, ◌&&◌, not, Bool, true, false, List, [], ◌∷◌, map, take, drop, Ok}
 use Rattle.std.specs.List.{list_all}
 use Rattle.lisp_object.specs.Object.{Object}
 use Rattle.readtable_core.specs.Characters.{has_invalid_trait}

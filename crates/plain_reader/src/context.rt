@@ -8,13 +8,13 @@ ghost use Rattle.package_table.specs.Table.{IsPackage};
 ghost use Rattle.lisp_reading.specs.Reading.{is_whitespace};
 
 use lisp_reading::Limits;
-use package_table::Packages;
+use package_table::{OnePackage, Packages};
 use readtable_core::Readtable;
 use std::alloc::Global;
 
 /// The limits, the readtable in force, where a parenthesis begins a list, the base of numbers, which is 2 to 36, the packages and
-/// the current one, which is one of them. The tests say whether the base is 10 and letters become upper-case ones, and whether a
-/// quote and a double quote have their standard functions.
+/// the current one, which is one of them, by its name and as it was found. The tests say whether the base is 10 and letters become
+/// upper-case ones, and whether a quote and a double quote have their standard functions.
 #[derive(Drop)]
 pub(crate) struct Context<'a> {
     pub alloc: Global,
@@ -23,12 +23,14 @@ pub(crate) struct Context<'a> {
     pub base: u8,
     pub packages: &'a Packages,
     pub current: &'a [u8],
+    pub current_package: OnePackage<'a>,
     pub standard: bool,
     pub quotes: bool,
     pub texts: bool,
     ghost lowest_base: { 2 ≤ base },
     ghost highest_base: { base ≤ 36 },
     ghost known: { IsPackage packages.now.0 current.now },
+    ghost same: { current_package ≡ (packages.now.0, current.now) },
     ghost sound: { IsReadtable readtable.now },
     ghost numbers: { standard ≡ true → base ≡ 10 },
     ghost case: { standard ≡ true → readtable.now.letters ≡ Upcase },

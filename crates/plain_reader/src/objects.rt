@@ -2,7 +2,7 @@
 ghost use Rattle.std.specs.Prelude.{◌≡◌, ◌<◌, ℕ, ◌∷◌, length, false, None, IfOk, IfSome, IsTrue};
 ghost use Rattle.lisp_reading.specs.Gathering.{is_escape};
 ghost use Rattle.lisp_reading.specs.Reading.{is_whitespace};
-ghost use Rattle.plain_reader.specs.Plain.{Takes, Gathers, Closes};
+ghost use Rattle.plain_reader.specs.Plain.{Takes, Gathers, Closes, LeavesLess, AreThere, AllAreThere, IfStill};
 ghost use Rattle.plain_reader.specs.Texts.{is_letter, IsText};
 
 use crate::context::Context;
@@ -20,21 +20,25 @@ pub(crate) struct Taken<'a> {
     pub rest: &'a [u8],
 }
 
-/// An object at the front of the text, where `room` more calls may be opened.
+/// An object at the front of the text, where `room` more calls may be opened. `known` becomes false where it has a symbol that
+/// is in no package, or may be in none.
 #[cycle(objects)]
 fn object<'a>(
     with: &Context<'_>,
     room: u32,
+    known: &mut bool,
     text: &'a [u8],
 ) -> Result<Option<Taken<'a>>, AllocError>
     ensures takes { IfOk result (λ found. IfSome found (Takes with.now room text.now)) }
-    ensures shorter { IfOk result (λ found. IfSome found (λ t. length t.rest.now < length text.now)) }
+    ensures known { IfOk result (λ found. IfStill known.old known.new
+        (IfSome found (λ t. AreThere with.now t.object))) }
+    ensures shorter { IfOk result (λ found. IfSome found (LeavesLess text.now)) }
 {
     match text {
-        [c, rest @ ..] if *c == b'(' => list(with, room, rest),
-        [c, rest @ ..] if *c == b'\'' && with.quotes => quoted(with, room, rest),
+        [c, rest @ ..] if *c == b'(' => list(with, room, known, rest),
+        [c, rest @ ..] if *c == b'\'' && with.quotes => quoted(with, room, known, rest),
         [c, rest @ ..] if *c == b'"' && with.texts => string(with, rest),
-        _ => token(with, text),
+        _ => token(with, known, text),
     }
 }
 
@@ -43,18 +47,21 @@ fn object<'a>(
 pub(crate) fn list<'a>(
     with: &Context<'_>,
     room: u32,
+    known: &mut bool,
     text: &'a [u8],
 ) -> Result<Option<Taken<'a>>, AllocError>
     ensures takes { IfOk result (λ found. IfSome found (Takes with.now room (40 ∷ text.now))) }
+    ensures known { IfOk result (λ found. IfStill known.old known.new
+        (IfSome found (λ t. AreThere with.now t.object))) }
     ensures token { IfOk result (λ found. IfSome found (λ t. t.token ≡ false)) }
-    ensures shorter { IfOk result (λ found. IfSome found (λ t. length t.rest.now < length text.now)) }
+    ensures shorter { IfOk result (λ found. IfSome found (LeavesLess text.now)) }
 {
     if room == 0 {
         return Ok(None);
     }
     let mut items = SoundObjects::new(with.alloc);
     let mut rest = text;
-    while let Some(more) = item(with, room - 1, &mut items, rest)? {
+    while let Some(more) = item(with, room - 1, known, &mut items, rest)? {
         rest = more;
     }
     close(with, room - 1, items, rest)
@@ -65,19 +72,23 @@ pub(crate) fn list<'a>(
 fn item<'a>(
     with: &Context<'_>,
     room: u32,
+    known: &mut bool,
     items: &mut SoundObjects,
     text: &'a [u8],
 ) -> Result<Option<&'a [u8]>, AllocError>
     ensures gathers { IfOk result (λ found. IfSome found
         (λ rest. Gathers with.now room items.old text.now items.new rest.now)) }
-    ensures shorter { IfOk result (λ found. IfSome found (λ rest. length rest.now < length text.now)) }
+    ensures shorter { IfOk result
+        (λ found. IfSome found (λ rest. length rest.now < length text.now)) }
     ensures same { IfOk result (λ found. found ≡ None → items.new ≡ items.old) }
+    ensures known { IfOk result (λ _. IfStill known.old known.new
+        (AllAreThere with.now items.old → AllAreThere with.now items.new)) }
 {
     match text {
         [] => Ok(None),
         [c, ..] if *c == b')' => Ok(None),
         [c, rest @ ..] if is_blank(with.readtable, *c) => Ok(Some(rest)),
-        _ => match object(with, room, text)? {
+        _ => match object(with, room, known, text)? {
             None => Ok(None),
             Some(taken) => {
                 items.push(taken.object)?;
@@ -95,9 +106,12 @@ fn close<'a>(
     text: &'a [u8],
 ) -> Result<Option<Taken<'a>>, AllocError>
     ensures closes { IfOk result (λ found. IfSome found (Closes with.now room items text.now)) }
+    ensures there { IfOk result (λ found. IfSome found
+        (λ t. AllAreThere with.now items → AreThere with.now t.object)) }
     ensures token { IfOk result (λ found. IfSome found (λ t. t.token ≡ false)) }
-    ensures shorter { IfOk result (λ found. IfSome found (λ t. length t.rest.now < length text.now)) }
+    ensures shorter { IfOk result (λ found. IfSome found (LeavesLess text.now)) }
 {
+    with.packages.soundness();
     match text {
         [c, rest @ ..] if *c == b')' => Ok(Some(Taken {
             token: false,
@@ -113,16 +127,20 @@ fn close<'a>(
 fn quoted<'a>(
     with: &Context<'_>,
     room: u32,
+    known: &mut bool,
     text: &'a [u8],
 ) -> Result<Option<Taken<'a>>, AllocError>
     requires { IsTrue with.now.quotes }
     ensures takes { IfOk result (λ found. IfSome found (Takes with.now room (39 ∷ text.now))) }
-    ensures shorter { IfOk result (λ found. IfSome found (λ t. length t.rest.now < length text.now)) }
+    ensures known { IfOk result (λ found. IfStill known.old known.new
+        (IfSome found (λ t. AreThere with.now t.object))) }
+    ensures shorter { IfOk result (λ found. IfSome found (LeavesLess text.now)) }
 {
     if room == 0 {
         return Ok(None);
     }
-    match object(with, room - 1, text)? {
+    with.packages.soundness();
+    match object(with, room - 1, known, text)? {
         None => Ok(None),
         Some(taken) => Ok(Some(Taken {
             token: taken.token,
@@ -135,8 +153,10 @@ fn quoted<'a>(
 /// A text without escapes, whose first double quote was before it.
 fn string<'a>(with: &Context<'_>, text: &'a [u8]) -> Result<Option<Taken<'a>>, AllocError>
     requires { IsTrue with.now.texts }
-    ensures takes { (room : ℕ) → IfOk result (λ found. IfSome found (Takes with.now room (34 ∷ text.now))) }
-    ensures shorter { IfOk result (λ found. IfSome found (λ t. length t.rest.now < length text.now)) }
+    ensures takes { (room : ℕ)
+        → IfOk result (λ found. IfSome found (Takes with.now room (34 ∷ text.now))) }
+    ensures there { IfOk result (λ found. IfSome found (λ t. AreThere with.now t.object)) }
+    ensures shorter { IfOk result (λ found. IfSome found (LeavesLess text.now)) }
 {
     match string_length(with.readtable, text) {
         None => Ok(None),

@@ -6,6 +6,7 @@ ghost use Rattle.lisp_object.specs.Datum.{object_of, is_proper};
 ghost use Rattle.readtable_core.specs.declared.table.Case.TheVariants.{Upcase};
 ghost use Rattle.readtable_core.specs.Tables.{entry_at};
 ghost use Rattle.package_table.specs.Table.{IsPackage};
+ghost use Rattle.package_table.specs.Symbols.{are_there};
 ghost use Rattle.user_macros.specs.Functions.{Functions};
 ghost use Rattle.lisp_reading.specs.Setting.{setting_of};
 ghost use Rattle.lisp_reading.specs.Reading.{is_whitespace, form, reads};
@@ -19,17 +20,21 @@ use readtable_core::standard_names::{STD_LIST, STD_QUOTE, STD_STRING};
 use readtable_core::{Case, Readtable, Syntax};
 use std::alloc::{AllocError, Global};
 
-/// A form that begins a text: its object, and its end.
+/// Under a higher limit of nesting, no form is read here.
+const MAX_NESTING: u32 = 1000;
+
+/// A form that begins a text: its object, its end, and whether each of its symbols is known to be one of the packages.
 #[derive(Drop)]
 pub struct PlainForm {
     pub datum: Datum,
     pub end: usize,
+    pub known: bool,
 }
 
 /// The form that the text `bytes` begins with, where numbers are in `base`, which is 2 to 36, if it is a list that is written
 /// with parentheses, quotes, tokens and texts without escapes, and whitespace, under the standard functions of these
 /// characters. It is that of every text that begins with these bytes, whatever the functions of users are. None says nothing
-/// of the text.
+/// of the text; under a limit of nesting over 1,000 it is all that is said.
 pub fn read_plain(
     alloc: Global,
     limits: Limits,
@@ -42,9 +47,12 @@ pub fn read_plain(
     requires lowest_base { 2 ≤ base }
     requires highest_base { base ≤ 36 }
     requires current { IsPackage packages.now.0 current.now }
-    ensures form { (functions : Functions) (more : List ℕ) → IfOk result (λ found. IfSome found (λ f. reads
-        (setting_of limits readtable.now base packages.now.0 current.now functions) (bytes.now ++ more)
-        ≡ form (object_of f.datum) 0 f.end f.end)) }
+    ensures form { (functions : Functions) (more : List ℕ) →
+        let setting = setting_of limits readtable.now base packages.now.0 current.now functions in
+        IfOk result (λ found. IfSome found
+        (λ f. reads setting (bytes.now ++ more) ≡ form (object_of f.datum) 0 f.end f.end)) }
+    ensures known { IfOk result (λ found. IfSome found
+        (λ f. f.known ≡ true → are_there packages.now.0 (object_of f.datum) ≡ true)) }
     ensures proper { IfOk result (λ found. IfSome found (λ f. is_proper f.datum ≡ true)) }
     ensures sound { IfOk result (λ found. IfSome found (λ f. IsSound (object_of f.datum))) }
     ensures some { IfOk result (λ found. IfSome found (λ f. 0 < f.end)) }
@@ -52,6 +60,10 @@ pub fn read_plain(
     ensures blank { list_all (is_whitespace readtable.now) bytes.now ≡ true → result ≡ Ok None }
 {
     if bytes.len() > limits.text {
+        return Ok(None);
+    }
+    // each open list is a call on the stack
+    if limits.nesting > MAX_NESTING {
         return Ok(None);
     }
     match bytes {
@@ -67,15 +79,18 @@ pub fn read_plain(
                 base,
                 packages,
                 current,
+                current_package: packages.package(current),
                 standard: base == 10 && is_upcase(readtable.case()),
                 quotes: calls(readtable, b'\'', STD_QUOTE),
                 texts: calls(readtable, b'"', STD_STRING),
             };
-            match list(&with, limits.nesting, rest)? {
+            let mut known = true;
+            match list(&with, limits.nesting, &mut known, rest)? {
                 None => Ok(None),
                 Some(taken) => Ok(Some(PlainForm {
                     datum: taken.object.into_datum(),
                     end: bytes.len() - taken.rest.len(),
+                    known,
                 })),
             }
         }

@@ -4,10 +4,12 @@ ghost use Rattle.std.specs.List.{list_all};
 ghost use Rattle.lisp_object.specs.Ascii.{is_ascii};
 ghost use Rattle.lisp_object.specs.Object.{IsSound, integer, text, symbol, list_of};
 ghost use Rattle.lisp_object.specs.Datum.{object_of, is_proper};
+ghost use Rattle.package_table.specs.Symbols.{are_there};
 ghost use Rattle.std_macros.specs.Values.{headed};
 
 use lisp_object::{Bytes, Datum};
 use lisp_reading::HeldObject;
+use package_table::Packages;
 use std::alloc::{AllocError, Global};
 use std::marker::Model;
 
@@ -86,6 +88,24 @@ impl SoundObject {
         items.into_list(alloc)
     }
 
+    /// Whether each of its interned symbols is one of these packages. Of a list and a vector it does not tell.
+    pub fn is_there(&self, packages: &Packages) -> bool
+        ensures { result ≡ true → are_there packages.now.0 self.now ≡ true }
+    {
+        match &self.datum {
+            Datum::Symbol { package, name } => {
+                packages.is_symbol(package.as_slice(), name.as_slice())
+            }
+            Datum::List { items: _, tail: _ } => false,
+            Datum::Vector(_) => false,
+            Datum::Integer(_) => true,
+            Datum::Rational(_) => true,
+            Datum::Char(_) => true,
+            Datum::Text(_) => true,
+            Datum::Uninterned(_) => true,
+        }
+    }
+
     /// The datum, moved out.
     pub fn into_datum(self) -> Datum
         ensures object { object_of result ≡ self }
@@ -127,7 +147,8 @@ impl Model for SoundObjects {
 
     ghost view = { λ h. map object_of h.data.items };
 
-    ghost invariant = { λ h. (list_all is_proper h.data.items ≡ true) × All (λ d. IsSound (object_of d)) h.data.items };
+    ghost invariant = { λ h.
+        (list_all is_proper h.data.items ≡ true) × All (λ d. IsSound (object_of d)) h.data.items };
 }
 
 impl SoundObjects {

@@ -4,7 +4,7 @@ ghost use Rattle.std.specs.List.{list_all};
 ghost use Rattle.lisp_object.specs.Ascii.{is_ascii};
 ghost use Rattle.token_scan.specs.Marks.{are_ascii};
 ghost use Rattle.token_scan.specs.Tokens.{typed, kind};
-ghost use Rattle.plain_reader.specs.Plain.{Takes};
+ghost use Rattle.plain_reader.specs.Plain.{Takes, LeavesLess, AreThere, IfStill};
 ghost use Rattle.plain_reader.specs.Tokens.{IsRun, IsToken, marks_of};
 
 use crate::context::Context;
@@ -19,9 +19,16 @@ use token_scan::{Mark, Marks};
 
 /// A token at the front of the text, without escapes, that is an object.
 #[inline(always)]
-pub(crate) fn token<'a>(with: &Context<'_>, text: &'a [u8]) -> Result<Option<Taken<'a>>, AllocError>
-    ensures takes { (room : ℕ) → IfOk result (λ found. IfSome found (Takes with.now room text.now)) }
-    ensures shorter { IfOk result (λ found. IfSome found (λ t. length t.rest.now < length text.now)) }
+pub(crate) fn token<'a>(
+    with: &Context<'_>,
+    known: &mut bool,
+    text: &'a [u8],
+) -> Result<Option<Taken<'a>>, AllocError>
+    ensures takes { (room : ℕ)
+        → IfOk result (λ found. IfSome found (Takes with.now room text.now)) }
+    ensures known { IfOk result (λ found. IfStill known.old known.new
+        (IfSome found (λ t. AreThere with.now t.object))) }
+    ensures shorter { IfOk result (λ found. IfSome found (LeavesLess text.now)) }
 {
     let Some(count) = token_length(with.readtable, text) else {
         return Ok(None);
@@ -31,7 +38,7 @@ pub(crate) fn token<'a>(with: &Context<'_>, text: &'a [u8]) -> Result<Option<Tak
     }
     let bytes = &text[..count];
     let rest = &text[count..];
-    match meaning(with, bytes)? {
+    match meaning(with, known, bytes)? {
         None => Ok(None),
         Some(object) => Ok(Some(Taken {
             token: true,
@@ -73,27 +80,39 @@ fn kind(readtable: &Readtable, c: u8) -> Syntax
 }
 
 /// The object that a token of these bytes is.
-fn meaning(with: &Context<'_>, bytes: &[u8]) -> Result<Option<SoundObject>, AllocError>
+fn meaning(
+    with: &Context<'_>,
+    known: &mut bool,
+    bytes: &[u8],
+) -> Result<Option<SoundObject>, AllocError>
     requires some { 0 < length bytes.now }
     requires ascii { list_all is_ascii bytes.now ≡ true }
-    ensures { IfOk result (λ found. IfSome found (IsToken with.now bytes.now)) }
+    ensures token { IfOk result (λ found. IfSome found (IsToken with.now bytes.now)) }
+    ensures known { IfOk result (λ found. IfStill known.old known.new
+        (IfSome found (AreThere with.now))) }
 {
     if with.standard {
         if is_word(bytes) {
-            return word(with, bytes);
+            return word(with, known, bytes);
         }
         if let Some(n) = decimal(bytes) {
             return Ok(Some(SoundObject::integer(n)));
         }
     }
-    through_marks(with, bytes)
+    through_marks(with, known, bytes)
 }
 
 /// The same, over its marks.
-fn through_marks(with: &Context<'_>, bytes: &[u8]) -> Result<Option<SoundObject>, AllocError>
+fn through_marks(
+    with: &Context<'_>,
+    known: &mut bool,
+    bytes: &[u8],
+) -> Result<Option<SoundObject>, AllocError>
     requires some { 0 < length bytes.now }
     requires ascii { list_all is_ascii bytes.now ≡ true }
-    ensures { IfOk result (λ found. IfSome found (IsToken with.now bytes.now)) }
+    ensures token { IfOk result (λ found. IfSome found (IsToken with.now bytes.now)) }
+    ensures known { IfOk result (λ found. IfStill known.old known.new
+        (IfSome found (AreThere with.now))) }
 {
     let case = with.readtable.case();
     let marks = marks(with.alloc, bytes)?;
@@ -105,7 +124,13 @@ fn through_marks(with: &Context<'_>, bytes: &[u8]) -> Result<Option<SoundObject>
         with.base,
         marks,
     ) {
-        Ok(Told::Object(x)) => Ok(Some(SoundObject::of_held(x))),
+        Ok(Told::Object(x)) => {
+            let object = SoundObject::of_held(x);
+            if !object.is_there(with.packages) {
+                *known = false;
+            }
+            Ok(Some(object))
+        }
         Ok(Told::Dot) => Ok(None),
         Err(TellError::OutOfMemory) => Err(AllocError),
         Err(TellError::Refused(_)) => Ok(None),

@@ -7,6 +7,7 @@ ghost use Rattle.token_meaning.specs.Numerals.{is_numeral, value};
 ghost use Rattle.plain_reader.specs.Tokens.{IsToken};
 ghost use Rattle.lisp_object.specs.Object.{symbol};
 ghost use Rattle.plain_reader.specs.Words.{is_word};
+ghost use Rattle.plain_reader.specs.Plain.{AreThere, IfStill};
 
 use crate::context::Context;
 use crate::sound::SoundObject;
@@ -31,17 +32,26 @@ fn has_colon(bytes: &[u8]) -> bool
 }
 
 /// The symbol of such a token.
-pub(crate) fn word(with: &Context<'_>, bytes: &[u8]) -> Result<Option<SoundObject>, AllocError>
+pub(crate) fn word(
+    with: &Context<'_>,
+    known: &mut bool,
+    bytes: &[u8],
+) -> Result<Option<SoundObject>, AllocError>
     requires standard { IsTrue with.now.standard }
     requires word { IsTrue (is_word bytes.now) }
     requires ascii { list_all is_ascii bytes.now ≡ true }
-    ensures { IfOk result (λ found. IfSome found (IsToken with.now bytes.now)) }
+    ensures token { IfOk result (λ found. IfSome found (IsToken with.now bytes.now)) }
+    ensures known { IfOk result (λ found. IfStill known.old known.new
+        (IfSome found (AreThere with.now))) }
 {
     with.packages.soundness();
     let name = upcased(with.alloc, bytes)?;
-    match with.packages.resolve(with.current, name.as_slice()) {
+    match with.current_package.resolve(name.as_slice()) {
         Ok(Resolved::Found(home)) => Ok(Some(symbol(with.alloc, home, name)?)),
-        Ok(Resolved::New(home)) => Ok(Some(symbol(with.alloc, home, name)?)),
+        Ok(Resolved::New(home)) => {
+            *known = false;
+            Ok(Some(symbol(with.alloc, home, name)?))
+        }
         Err(_) => Ok(None),
     }
 }
@@ -79,7 +89,8 @@ fn upper_case(c: u8) -> u8
 
 /// The number that decimal digits write, where there are no others and it is below 2^64.
 pub(crate) fn decimal(bytes: &[u8]) -> Option<u64>
-    ensures value { IfSome result (λ n. (is_numeral 10 bytes.now ≡ true) × (n ≡ value 10 bytes.now)) }
+    ensures value { IfSome result
+        (λ n. (is_numeral 10 bytes.now ≡ true) × (n ≡ value 10 bytes.now)) }
     ensures small { IfSome result (λ n. n < 2 ^ 64) }
 {
     if bytes.is_empty() {

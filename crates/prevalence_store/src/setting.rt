@@ -3,6 +3,7 @@ ghost use Rattle.std.specs.Prelude.{◌≡◌, ◌≤◌, true, IfOk};
 ghost use Rattle.package_table.specs.Table.{IsPackage};
 ghost use Rattle.form_reader.specs.Reader.{IsOutcome};
 ghost use Rattle.prevalence_store.specs.meaning.Acceptance.{base_in, package_in, read_in, table_in};
+ghost use Rattle.prevalence_store.specs.steps.Setting.{AreThere};
 ghost use Rattle.user_macros.specs.Functions.{are_registered};
 
 use crate::mode::Mode;
@@ -49,31 +50,48 @@ pub(crate) fn base_in(world: &World, mode: Mode) -> u8
 }
 
 /// What a text begins with.
+#[derive(Drop)]
+pub(crate) struct Beginning {
+    pub(crate) outcome: ReadOutcome,
+    /// Whether each symbol of a form is known to be there already.
+    pub(crate) known: bool,
+}
+
+/// What a text begins with.
 pub(crate) fn begins<R: MacroFunctions>(
     alloc: Global,
     world: &World,
     macros: &R,
     mode: Mode,
     text: &[u8],
-) -> Result<ReadOutcome, AllocError>
+) -> Result<Beginning, AllocError>
     requires answers { R.answers macros.now }
     requires whole { are_registered R.Meaning.functions (R.functions macros.now) ≡ true }
-    ensures { IfOk result (λ outcome. IsOutcome outcome
+    ensures outcome { IfOk result (λ begun. IsOutcome begun.outcome
         (read_in R.Meaning.functions world.now.0 mode text.now)) }
+    ensures known { IfOk result (λ begun. begun.known ≡ true
+        → AreThere world.now.0.packages begun.outcome) }
 {
     let (readtable, base) = (readtable_in(world, mode), base_in(world, mode));
     let (packages, package) = (world.packages(), package_in(world, mode));
     let limits = Limits::form();
     // most forms are plain, and need no reader of bytes
     if let Some(plain) = read_plain(alloc, limits, readtable, base, packages, package, text)? {
-        return Ok(ReadOutcome::Form {
-            datum: plain.datum,
-            start: 0,
-            end: plain.end,
-            next: plain.end,
+        return Ok(Beginning {
+            outcome: ReadOutcome::Form {
+                datum: plain.datum,
+                start: 0,
+                end: plain.end,
+                next: plain.end,
+            },
+            known: plain.known,
         });
     }
-    read_one(
+    let outcome = read_one(
         alloc, limits, readtable, base, packages, package, macros, text,
-    )
+    )?;
+    Ok(Beginning {
+        outcome,
+        known: false,
+    })
 }

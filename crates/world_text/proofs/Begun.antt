@@ -28,7 +28,7 @@ use Rattle.lisp_reading.specs.Calls.{InvokedCall}
 use Rattle.lisp_reading.specs.Naming.{told}
 use Rattle.lisp_reading.specs.Setting.{Setting, setting_of}
 use Rattle.lisp_reading.specs.Reading.{stands_alone, alone, called, inner, attempt, token_found, sub_there, sub_called, number_after}
-use Rattle.form_reader.proofs.Attempts.{takes_is, passes_is}
+use Rattle.form_reader.proofs.Objects.{takes_is, passes_is}
 use Rattle.lisp_reading.proofs.Fed.{byte_taken, number_ends}
 use Rattle.lisp_reading.proofs.Steps.{and_then, run_then}
 use Rattle.world_text.proofs.Spelling.{starts_token, Spelled, bare_spelled, token_of}

@@ -13,8 +13,8 @@ use Rattle.lisp_reading.specs.declared.found.Found.TheVariants.{Nothing as nothi
 use Rattle.lisp_reading.specs.Plans.{Plan, gives, then_plan, Read, run}
 use Rattle.lisp_reading.specs.Setting.{Setting}
 use Rattle.lisp_reading.specs.Reading.{Piece, item, dot, closed, without_space, is_whitespace, piece_of, or_closed, next_item_turn, next_item, Items, items_step, items_turn, items_after, undotted, after_tail, after_dot, list_end, finished, attempt}
-use Rattle.form_reader.proofs.Attempts.{takes_is, passes_is}
-use Rattle.form_reader.proofs.Opened.{then_moves}
+use Rattle.form_reader.proofs.Objects.{takes_is, passes_is}
+use Rattle.form_reader.proofs.Stacks.{then_moves}
 use Rattle.lisp_reading.proofs.Steps.{and_then, run_then}
 use Rattle.lisp_reading.proofs.Turns.{attempt_ends, loop_is, next_item_guarded, items_guarded}
 use Rattle.world_text.proofs.Begun.{under, begun, space_begun}

@@ -32,7 +32,7 @@ use Rattle.lisp_reading.specs.Plans.{Plan, Read, run}
 use Rattle.lisp_reading.specs.Setting.{Setting}
 use Rattle.lisp_reading.specs.Reading.{finished, inner, completed, text_to, items_after, list_end, undotted, attempt, without_space, form, space_at, outcome, reads, reads_at}
 use Rattle.lisp_reading.proofs.Forms.{reads_is}
-use Rattle.form_reader.proofs.Opened.{then_moves}
+use Rattle.form_reader.proofs.Stacks.{then_moves}
 use Rattle.lisp_reading.proofs.Steps.{and_then, run_then}
 use Rattle.world_text.specs.Tokens.{AreTokensWithin, ends_with_token}
 use Rattle.world_text.proofs.Marked.{name_marks}

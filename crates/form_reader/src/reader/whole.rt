@@ -39,7 +39,7 @@ pub fn read_one<R: MacroFunctions>(
         → result ≡ Ok ReadEmpty }
 {
     match read_plain(alloc, limits, readtable, base, packages, current, bytes)? {
-        Some(PlainForm { datum, end }) => Ok(ReadOutcome::Form {
+        Some(PlainForm { datum, end, .. }) => Ok(ReadOutcome::Form {
             datum,
             start: 0,
             end,

@@ -2,7 +2,9 @@
 ghost use Rattle.std.specs.Prelude.{◌≡◌, ◌≤◌, ◌<◌, ◌+◌, ℕ, List, [], ◌∷◌, length, true, false, Ok, None, IfOk, IfSome};
 ghost use Rattle.form_reader.specs.Context.{setting};
 ghost use Rattle.form_reader.specs.declared.state.State.TheVariants.{Object as AtObject};
-ghost use Rattle.form_reader.specs.Step.{is_space, BeginsToken, FeedsInPlace, IsBegunAt, IsReadyInPlace, Stays, rest_of};
+ghost use Rattle.form_reader.specs.Step.{is_space, BeginsToken, FeedsInPlace, IsBegunAt, IsReadyInPlace, Stays};
+ghost use Rattle.form_reader.specs.State.{state_gives};
+ghost use Rattle.lisp_reading.specs.declared.found.Found.TheVariants.{Nothing as nothing};
 ghost use Rattle.form_reader.specs.declared.step.in_place.InPlace.TheVariants.{Passed as IsPassed};
 
 use crate::context::Context;
@@ -148,8 +150,8 @@ pub(crate) fn is_discarded<R: MacroFunctions>(
     ensures stays { let setting = setting R.functions with.now in
         (cs : List ℕ) → result ≡ true → 0 < length stack.now → Stays setting stack.now at c cs }
     ensures passes { let setting = setting R.functions with.now in
-        (start : ℕ) (cs : List ℕ) → result ≡ true → stack.now ≡ []
-        → rest_of setting stack.now AtObject start at (c ∷ cs) ≡ rest_of setting stack.now AtObject (start + (at + 1)) 0 cs }
+        (cs : List ℕ) → result ≡ true → stack.now ≡ []
+        → state_gives setting stack.now AtObject at (c ∷ cs) ≡ Ok (nothing false, at + 1, cs) }
     ensures below { result ≡ true → at < with.now.limits.text }
     ensures space { let setting = setting R.functions with.now in
         result ≡ is_space setting stack.now AtObject at c }

@@ -8,8 +8,8 @@ use Rattle.gate_log.specs.HalfInUse.{HalvesValue}
 use Rattle.lisp_object.specs.Object.{Object, IsSound}
 use Rattle.lisp_object.specs.declared.datum.Datum.{Datum}
 use Rattle.lisp_object.specs.Datum.{object_of, is_proper}
-use Rattle.form_reader.specs.declared.ending.ReadOutcome.{ReadOutcome}
-use Rattle.form_reader.specs.declared.ending.ReadOutcome.TheVariants.{Form as ReadForm}
+use Rattle.form_reader.specs.declared.reader.ReadOutcome.{ReadOutcome}
+use Rattle.form_reader.specs.declared.reader.ReadOutcome.TheVariants.{Form as ReadForm}
 use Rattle.form_reader.specs.Reader.{IsOutcome}
 use Rattle.lisp_object.specs.declared.refusal.TheConstants.{NO_MEMORY, TEXT_LEFT_OVER}
 use Rattle.form_eval.specs.Acceptance.{accept}

@@ -3,7 +3,7 @@ use Rattle.std.proofs.lemmas.List.{map-append}
 use Rattle.lisp_object.specs.Datum.{object_of}
 use Rattle.lisp_object.proofs.Objects.{object_of-Symbol}
 use Rattle.plist_state.specs.Readers.{borrowed_symbol}
-use Rattle.form_eval.specs.Acceptance.{symbols}
+use Rattle.package_table.specs.Symbols.{symbols}
 use Rattle.form_eval.proofs.symbols.+adding.Goals as goal
 
 pub add-returns-in_ok-push-in-Symbol : goal.add-returns-in_ok-push-in-Symbol

@@ -1,7 +1,7 @@
 use Rattle.std.proofs.Common.{◌≡◌, ◌++◌, take, map}
 use Rattle.std.specs.List.{flat_map}
 use Rattle.lisp_object.specs.Datum.{object_of}
-use Rattle.form_eval.specs.Acceptance.{symbols}
+use Rattle.package_table.specs.Symbols.{symbols}
 use Rattle.form_eval.proofs.symbols.+adding.Given as goal
 
 -- those of the items so far

@@ -15,7 +15,7 @@ returns-in-Gives-clause-ready g c =
     (done_nesting c.args.with.now.limits c.settle.new.stack c.args.at _ _ c.in-Gives.is c.in_ok-state.ensures.ready)
 
 pub returns-in-Gives-clause-anew : goal.returns-in-Gives-clause-anew
-returns-in-Gives-clause-anew g c = λ some.
+returns-in-Gives-clause-anew g c =
     let setting = setting g.R.MacroFunctions.functions c.args.with.now in
     let own = brought setting c.args.stack.now c.args.at c.args.event in
     done_anew setting c.settle.new.stack c.args.at _ c.in-Gives.found own.0 c.done_after.result c.in-Gives.is (c.in_ok-state.ensures.settles [] own.0 own.1) c.done_after.ensures.anew

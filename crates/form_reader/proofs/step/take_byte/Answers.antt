@@ -25,7 +25,7 @@ pub returns-in-Done-clause-starts : goal.returns-in-Done-clause-starts
 returns-in-Done-clause-starts g c =
     let setting = setting g.R.MacroFunctions.functions c.args.with.now in
     done_starts setting c.args.stack.now c.args.state c.args.start c.args.at c.args.c c.feed.new.stack c.in_ok-event.field-0 c.in-Done.found c.done_before.result c.in-Done.is c.in_ok-event.ensures.passes
-    c.done_before.ensures.starts c.done_before.ensures.nothing
+    c.done_before.ensures.starts
 
 pub returns-in-Brings-clause-starts : goal.returns-in-Brings-clause-starts
 returns-in-Brings-clause-starts g c =

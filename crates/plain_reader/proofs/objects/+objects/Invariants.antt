@@ -1,5 +1,5 @@
-use Rattle.std.proofs.Common.{ℕ, ◌+◌, ◌-◌, ◌*◌, ◌<◌, ◌≤◌, length, []}
-use Rattle.plain_reader.specs.Plain.{Gathers}
+use Rattle.std.proofs.Common.{◌+◌, ◌-◌, ◌*◌, ◌<◌, ◌≤◌, length, []}
+use Rattle.plain_reader.specs.Plain.{Gathers, AllAreThere, IfStill}
 use Rattle.plain_reader.proofs.objects.+objects.Given as goal
 
 -- a call of an object's function is below the object, and an object in it below that, as one call fewer may be opened
@@ -20,6 +20,7 @@ invariant-list-loop-items l = record {
   gathers : Gathers l.with (l.room - 1) [] l.fn.text l.items l.rest;
   within : length l.rest ≤ length l.fn.text;
   room : 0 < l.room;
+  known : IfStill l.fn.known l.known (AllAreThere l.with l.items);
 }
 
 abbrev pub decreases-list-loop-items : goal.decreases-list-loop-items

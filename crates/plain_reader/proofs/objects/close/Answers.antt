@@ -1,9 +1,11 @@
-use Rattle.std.proofs.Common.{refl, subst, true, take, drop, length, ◌-◌}
+use Rattle.std.proofs.Common.{◌≡◌, refl, sym, subst, true, take, drop, length, ◌-◌}
 use Rattle.lisp_reading.specs.Plans.{gives}
+use Rattle.package_table.specs.Symbols.{are_there}
 use Rattle.plain_reader.specs.Coming.{ComesTo}
 use Rattle.plain_reader.specs.Plain.{setting, items_from}
 use Rattle.plain_reader.proofs.Items.{closed_items}
 use Rattle.plain_reader.proofs.Fronts.{front}
+use Rattle.plain_reader.proofs.There.{list_there}
 use Rattle.plain_reader.proofs.objects.close.Goals as goal
 
 pub returns-in_ok-into_list-in-len1-up-clause-closes : goal.returns-in_ok-into_list-in-len1-up-clause-closes
@@ -15,3 +17,8 @@ returns-in_ok-into_list-in-len1-up-clause-closes c = λ functions.
       refl,
       c.in_ok-into_list-in-len1-up.ensures,
     )
+
+pub returns-in_ok-into_list-in-len1-up-clause-there : goal.returns-in_ok-into_list-in-len1-up-clause-there
+returns-in_ok-into_list-in-len1-up-clause-there c = λ all.
+    let t = c.args.with.now.packages.now.0 in
+    subst (λ x. are_there t x ≡ true) (sym c.in_ok-into_list-in-len1-up.ensures) (list_there t c.args.items c.soundness.ensures all)

@@ -1,4 +1,4 @@
-use Rattle.std.proofs.Common.{◌≡◌, true, ◌-◌, take, drop, length, sym, subst, arith, IfSome}
+use Rattle.std.proofs.Common.{true, take, sym, subst, arith, IfSome}
 use Rattle.lisp_reading.specs.declared.found.Found.TheVariants.{One as one}
 use Rattle.lisp_reading.specs.Plans.{gives}
 use Rattle.lisp_reading.specs.Reading.{attempt}
@@ -19,4 +19,4 @@ returns-in-Some-2-clause-takes c = λ room functions.
     let count = c.in-Some.count in
     subst (λ rest. ComesTo setting (attempt setting room) text (gives (one true c.in-Some-2.object)) rest) (sym (rest_is count text))
     (token_taken setting room count text c.in-Some-2.object c.in-Some.ensures.run (omega arith) c.in-Some.ensures.within c.if-count-with.false
-    (subst (λ o. IfSome o (IsToken c.args.with.now (take count text))) c.in-Some-2.is c.in_ok-meaning.ensures))
+    (subst (λ o. IfSome o (IsToken c.args.with.now (take count text))) c.in-Some-2.is c.in_ok-meaning.ensures.token))

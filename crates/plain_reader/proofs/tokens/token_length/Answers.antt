@@ -1,4 +1,4 @@
-use Rattle.std.proofs.Common.{◌≡◌, sym, ap, ◌∙◌, inl, inr, refl}
+use Rattle.std.proofs.Common.{sym, ap, ◌∙◌, inl, inr}
 use Rattle.readtable_core.specs.Characters.{is_invalid}
 use Rattle.token_scan.specs.Spelling.{ends_tokens}
 use Rattle.plain_reader.proofs.Runs.{parts_more, run_here}

@@ -30,7 +30,7 @@ pub returns-clause-has_begun : goal.returns-clause-has_begun
 returns-clause-has_begun g c = λ bytes after has.
     let setting = setting g.R.MacroFunctions.functions c.args.with.now in
     let here : IsAfterIn setting c.args.self.now (Open c.in-Open.state) bytes = subst (λ (s : ReaderState). IsAfterIn setting c.args.self.now s bytes) (sym c.replace.ensures.value ∙ c.in-Open.is) after in
-    stepped_begun setting c.args.self.now c.in-Open.state bytes c.args.byte here has _ c.take.new.self c.take_byte.new.stack c.in_ok-next-in-Open.next c.take.result
-    c.requires.other c.in_ok-next-in-Open.ensures.starts c.in_ok-next-in-Open.ensures.anew c.take.ensures.takes refl refl
+    stepped_begun setting c.args.self.now c.in-Open.state bytes c.args.byte here has (sym c.replace.ensures.value ∙ c.in-Open.is) _ c.take.new.self c.take_byte.new.stack c.in_ok-next-in-Open.next c.take.result
+    c.requires.other c.in_ok-next-in-Open.ensures.turns c.in_ok-next-in-Open.ensures.starts c.in_ok-next-in-Open.ensures.anew c.take.ensures.takes refl
     (stepped setting c.args.self.now _ c.take.new.self c.in-Open.state bytes c.args.byte c.take_byte.new.stack c.in_ok-next-in-Open.next c.take.result
     here c.in_ok-next-in-Open.ensures.turns c.in_ok-next-in-Open.ensures.ready c.take.ensures.takes refl)

@@ -12,9 +12,9 @@ returns-clause-stays g c = λ cs e some.
     (c.is_closed_by.ensures.other c.if-is_closed_by.false) (sym c.syntax.ensures ∙ blank_is c.syntax.result (sym c.is_blank.ensures ∙ e))
 
 pub returns-clause-passes : goal.returns-clause-passes
-returns-clause-passes g c = λ start cs e none.
+returns-clause-passes g c = λ cs e none.
     let setting = setting g.R.MacroFunctions.functions c.args.with.now in
-    blank_passes setting c.args.stack.now start c.args.at c.args.c cs (omega arith) none
+    blank_passes setting c.args.stack.now c.args.at c.args.c cs (omega arith) none
     (sym c.syntax.ensures ∙ blank_is c.syntax.result (sym c.is_blank.ensures ∙ e))
 
 pub returns-clause-space : goal.returns-clause-space

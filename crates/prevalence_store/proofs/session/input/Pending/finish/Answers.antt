@@ -1,7 +1,7 @@
 use Rattle.std.proofs.Common.{arith, subst, sym, ◌∙◌}
 use Rattle.lisp_object.specs.Datum.{object_of}
 use Rattle.form_reader.specs.Reader.{BeginsAt, IsOutcome}
-use Rattle.form_reader.specs.declared.ending.ReadOutcome.{ReadOutcome}
+use Rattle.form_reader.specs.declared.reader.ReadOutcome.{ReadOutcome}
 use Rattle.prevalence_store.specs.meaning.Acceptance.{read_in, setting_in}
 use Rattle.prevalence_store.proofs.calls.Executing.{form_places, form_read}
 use Rattle.prevalence_store.proofs.steps.Pendings.{kept_count, last_form, last_places}

@@ -1,0 +1,99 @@
+-- Objects whose symbols are all there.
+--     symbol_there, found_there      a symbol that is present in its home, and one that a name stands for
+--     list_there, headed_there      lists of such objects, and quoted ones
+--     more_there      one more such object
+--     still_same, still_list, still_more      after a call that changes nothing, after one that closes a list, after two calls
+use Rattle.std.proofs.Common.{◌≡◌, Bool, true, false, cond, Option, None, Some, Result, Ok, Err, IfOk, IfSome, List, [], ◌∷◌, ◌++◌, codes, bytes_eq, refl, sym, ap, ◌∙◌}
+use Rattle.std.specs.Prelude.{◌&&◌}
+use Rattle.std.specs.List.{list_all}
+use Rattle.std.specs.Option.{option_map, option_map_or}
+use Rattle.std.proofs.lemmas.Bool.{and_parts}
+use Rattle.std.proofs.lemmas.List.Folds.{list_all-append}
+use Rattle.lisp_object.specs.Object.{Object, symbol, pair, list_of}
+use Rattle.package_table.specs.declared.error.PackageError.{PackageError}
+use Rattle.package_table.specs.declared.error.PackageError.TheVariants.{LockedPackage}
+use Rattle.package_table.specs.Table.{Name, Table, Present, IsPresent, IsSound, common_lisp, common_lisp_names, entry_at}
+use Rattle.package_table.specs.Lookup.{found, is_symbol}
+use Rattle.package_table.specs.Resolving.{Resolution, found_at, new_in, resolution}
+use Rattle.package_table.specs.Symbols.{symbols, are_there}
+use Rattle.package_table.proofs.Found.{found_finds}
+use Rattle.package_table.proofs.FirstNames.{lisp_present, nil_present}
+use Rattle.package_table.proofs.Frames.{equal_itself}
+use Rattle.package_table.proofs.Names.{same_some, none_some}
+use Rattle.package_table.proofs.Keeping.{present_at_home}
+use Rattle.std.specs.declared.alloc.AllocError.{AllocError}
+use Rattle.std_macros.specs.Values.{headed}
+use Rattle.plain_reader.specs.declared.context.Context.{Context}
+use Rattle.plain_reader.specs.declared.objects.Taken.{Taken}
+use Rattle.plain_reader.specs.Plain.{AreThere, AllAreThere, IfStill}
+
+-- both of two tests
+both : (a b : Bool) → a ≡ true → b ≡ true → (a && b) ≡ true
+both true true _ _ = refl
+both true false _ e = e
+both false b e _ = e
+
+test_of : (o : Option Present) (h : Name) → option_map (λ (e : Present). e.home) o ≡ Some h → option_map_or (λ (e : Present). bytes_eq e.home h) o false ≡ true
+test_of None h none = absurd (none_some h none)
+test_of (Some e) h home = ap (λ x. bytes_eq x h) (same_some e.home h home) ∙ equal_itself h
+
+pub symbol_there : (t : Table) (h n : Name) → IsPresent t h n h → are_there t (symbol h n) ≡ true
+symbol_there t h n there = both (is_symbol t h n) true (test_of (entry_at t h n) h there) refl
+
+-- the home of what was found
+abbrev home_found : Result Resolution PackageError → Option Name
+home_found (Ok (found_at h)) = Some h
+home_found (Ok (new_in p)) = None
+home_found (Err e) = None
+
+new_or_locked : (b : Bool) (p : Name) → home_found (cond b (Err LockedPackage) (Ok (new_in p))) ≡ None
+new_or_locked true p = refl
+new_or_locked false p = refl
+
+home_is : (o : Option Name) (b : Bool) (p : Name) → home_found (option_map_or (λ h. Ok (found_at h)) o (cond b (Err LockedPackage) (Ok (new_in p)))) ≡ o
+home_is None b p = new_or_locked b p
+home_is (Some h) b p = refl
+
+pub found_there : (t : Table) (p n h : Name) → IsSound t → resolution t p n ≡ Ok (found_at h) → are_there t (symbol h n) ≡ true
+found_there t p n h sound is =
+    let finds : found t p n ≡ Some h = sym (home_is (found t p n) (bytes_eq p common_lisp) p) ∙ ap home_found is in
+    symbol_there t h n (present_at_home t p n h sound.joined (found_finds t n p h finds))
+
+pair_there : (t : Table) (x xs : Object) → are_there t x ≡ true → are_there t xs ≡ true → are_there t (pair x xs) ≡ true
+pair_there t x xs a b = list_all-append (λ s. is_symbol t s.0 s.1) (symbols x) (symbols xs) ∙ both (are_there t x) (are_there t xs) a b
+
+pub list_there : (t : Table) (xs : List Object) → IsSound t → list_all (are_there t) xs ≡ true → are_there t (list_of xs) ≡ true
+list_there t [] sound all = symbol_there t common_lisp (codes "NIL") (nil_present t sound)
+list_there t (x ∷ xs) sound all =
+    let each = and_parts (are_there t x) (list_all (are_there t) xs) all in
+    pair_there t x (list_of xs) each.0 (list_there t xs sound each.1)
+
+quote_there : (t : Table) → IsSound t → are_there t (symbol common_lisp (codes "QUOTE")) ≡ true
+unfolding common_lisp_names
+quote_there t sound = symbol_there t common_lisp (codes "QUOTE") (lisp_present t sound (codes "QUOTE") refl)
+
+pub headed_there : (t : Table) (x : Object) → IsSound t → are_there t x ≡ true → are_there t (headed (codes "QUOTE") x) ≡ true
+headed_there t x sound there =
+    list_there t (symbol common_lisp (codes "QUOTE") ∷ x ∷ []) sound
+    (both (are_there t (symbol common_lisp (codes "QUOTE"))) (are_there t x && true) (quote_there t sound) (both (are_there t x) true there refl))
+
+pub more_there : (t : Table) (xs : List Object) (x : Object) → list_all (are_there t) xs ≡ true → are_there t x ≡ true → list_all (are_there t) (xs ++ x ∷ []) ≡ true
+more_there t xs x all there = list_all-append (are_there t) xs (x ∷ []) ∙ both (list_all (are_there t) xs) (are_there t x && true) all (both (are_there t x) true there refl)
+
+pub still_same : (with : Context) (known : Bool) (result : Result (Option Taken) AllocError) → IfOk result (λ found. IfSome found (λ t. AreThere with t.object))
+    → IfOk result (λ found. IfStill known known (IfSome found (λ t. AreThere with t.object)))
+still_same with known (Err e) there = tt
+still_same with known (Ok found) there = λ e. (e, there)
+
+pub still_list : (with : Context) (xs : List Object) (before after : Bool) (result : Result (Option Taken) AllocError)
+    → IfOk result (λ found. IfSome found (λ t. AllAreThere with xs → AreThere with t.object)) → IfStill before after (AllAreThere with xs)
+    → IfOk result (λ found. IfStill before after (IfSome found (λ t. AreThere with t.object)))
+still_list with xs before after (Err e) there still = tt
+still_list with xs before after (Ok None) there still = λ e. ((still e).0, tt)
+still_list with xs before after (Ok (Some t)) there still = λ e. ((still e).0, there (still e).1)
+
+pub still_more : {a b c : Bool} {P Q : Type 0} → IfStill a b P → IfStill b c (P → Q) → IfStill a c Q
+still_more first then known =
+    let later = then known in
+    let before = first later.0 in
+    (before.0, later.1 before.1)
