@@ -7,12 +7,13 @@ ghost use Rattle.std.specs.Cmp.Rules.{comparing};
 ghost use Rattle.lisp_object.specs.Ascii.{is_ascii};
 
 use std::alloc::{AllocError, Global};
+use std::rc::RcSlice;
 use std::marker::Model;
 
-/// A name or a text: a `Vec` of bytes that contracts see as the list of its bytes, without a capacity.
+/// A name or a text: bytes that are counted, so that a copy takes no memory. Contracts see the list of them.
 #[derive(Debug, Drop)]
 pub struct Bytes {
-    bytes: Vec<u8>,
+    bytes: RcSlice<u8>,
 }
 
 impl Model for Bytes {
@@ -20,37 +21,33 @@ impl Model for Bytes {
 
     ghost Value = { List ℕ };
 
-    ghost view = { λ b. b.bytes.items };
+    ghost use Rattle.std.specs.Rc.{rc_slice_items};
+
+    ghost view = { λ b. rc_slice_items b.bytes };
 }
 
 impl Bytes {
-    /// The bytes of `vec`, without a copy.
-    pub fn from_vec(vec: Vec<u8>) -> Bytes
-        ensures { result ≡ vec.items }
+    /// The bytes of `vec`, without a copy of them.
+    pub fn from_vec(vec: Vec<u8>) -> Result<Bytes, AllocError>
+        ensures { IfOk result (λ b. b ≡ vec.items) }
     {
-        Bytes { bytes: vec }
+        let bytes = RcSlice::from_vec(vec)?;
+        Ok(Bytes { bytes })
     }
 
     /// A copy of `bytes`.
     pub fn from_slice(alloc: Global, bytes: &[u8]) -> Result<Bytes, AllocError>
         ensures { IfOk result (λ b. b ≡ bytes.now) }
     {
-        Ok(Bytes::from_vec(Vec::from_slice(alloc, bytes)?))
+        Bytes::from_vec(Vec::from_slice(alloc, bytes)?)
     }
 
-    /// Bytes equal to these.
-    pub fn copy(&self, alloc: Global) -> Result<Bytes, AllocError>
+    /// These bytes once more. Takes no memory.
+    pub fn copy(&self, _: Global) -> Result<Bytes, AllocError>
         ensures { IfOk result (λ b. b ≡ self.now) }
     {
-        Bytes::from_slice(alloc, self.as_slice())
-    }
-
-    /// The bytes as a `Vec`, without a copy.
-    pub fn into_vec(self) -> Vec<u8>
-        ensures { result.items ≡ self }
-    {
-        let Bytes { bytes } = self;
-        bytes
+        let bytes = self.bytes.clone()?;
+        Ok(Bytes { bytes })
     }
 
     /// The bytes.
