@@ -17,3 +17,7 @@ pub mod PlainForms
 pub mod EndedAt
 pub mod Answering
 pub mod Inputs
+pub mod Gathering
+pub mod Counting
+pub mod Gathered
+pub mod TakingGroups

@@ -10,3 +10,4 @@ pub mod Answer
 pub mod Schedule
 pub mod Course
 pub mod Serve
+pub mod Gather

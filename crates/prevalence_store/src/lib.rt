@@ -30,7 +30,8 @@
 //! - `Store::serve` is told by one relation (`Serves`): how many forms were taken and answered, in which mode, what of the
 //!   lines was written, what the log holds then (`IsAfter`), and a case for each ending with its cause.
 //! - `Store::serve_wanted` is `serve` with the place of a refusal, counted in the input (`IsPlace`), and where what is refused
-//!   begins (`IsRefusedFrom`), and with an end at the first form that is refused if that is wanted (`ServesWanted`).
+//!   begins (`IsRefusedFrom`), and with an end at the first form that is refused if that is wanted (`ServesWanted`). If groups are wanted,
+//!   the forms under way at a fault may be some in place of one; all else is as without them, by the same relation.
 //! - `refusal_name` gives the name of a refusal by its number, empty for a number that is none.
 //!
 //! # Modules
@@ -40,7 +41,8 @@
 //!   `replay` makes the world again from the records of a log; `setting` says under what a text is read, by the mode, and what it
 //!   begins with (`form_reader`).
 //! - `session`: `serve`, and its parts: `input` and `output`, the streams; `answer`, what becomes of a form that was read;
-//!   `schedule`, when it takes snapshots; `course`, how far it has come.
+//!   `gather`, forms that are evaluated one after the other and logged together, and `together`, the answers to them; `schedule`,
+//!   when it takes snapshots; `course`, how far it has come.
 //! - `mode`, `step`, `outcome`, `open_fault`: the words of the calls. `failure`: why a form is not accepted.
 //! - `laws`: the headline, openings in a row, that an image means one world, that files of version 1 mean what they meant, and
 //!   which numbers refuse a form.

@@ -49,6 +49,8 @@ pub struct Wanted {
     pub snapshot_every: u64,
     /// Whether the first form whose evaluation is refused ends the session.
     pub strict: bool,
+    /// Whether the forms that are whole in the bytes that were read are logged together, and answered then.
+    pub group: bool,
 }
 
 /// Where a session ended in its input.

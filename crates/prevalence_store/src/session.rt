@@ -2,7 +2,9 @@
 
 mod answer;
 pub(crate) mod course;
+pub(crate) mod gather;
 pub(crate) mod input;
 pub(crate) mod output;
 pub(crate) mod schedule;
 mod serve;
+mod together;

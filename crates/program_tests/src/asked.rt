@@ -18,6 +18,8 @@ pub enum Ask<'a> {
     /// A session that is strict or not, and tells where it ended: its answers, and `end`, `store N`, or `reader N` or `strict N`
     /// with the forms before it and the places where it starts and is refused, as in `reader 4 forms 1 start 2 at 2`.
     Wanted(bool, Serving<'a>),
+    /// The same with groups.
+    Together(bool, Serving<'a>),
     /// A form in this mode: `accepted 7` for an integer, `accepted` for another value, or `refused N`.
     Form(Mode, &'a [u8]),
     /// Forms in this mode that are executed together, each with a line as above; or `unrun 90`.
@@ -106,15 +108,10 @@ fn serve<D: Disk>(
 fn serve_wanted<D: Disk>(
     alloc: Global,
     store: &mut Store<D, ByName>,
-    strict: bool,
+    wanted: Wanted,
     session: Serving<'_>,
 ) -> (Ended, Kept) {
     let (mut reader, mut writer) = streams(alloc, session);
-    let wanted = Wanted {
-        mode: session.mode,
-        snapshot_every: session.every,
-        strict,
-    };
     let ended = store.serve_wanted(&mut reader, &mut writer, wanted);
     (ended, writer)
 }
@@ -136,10 +133,17 @@ fn wanted_lines<D: Disk>(
     alloc: Global,
     store: &mut Store<D, ByName>,
     strict: bool,
+    group: bool,
     session: Serving<'_>,
     text: &mut Vec<u8>,
 ) -> Result<(), Trouble> {
-    let (ended, writer) = serve_wanted(alloc, store, strict, session);
+    let wanted = Wanted {
+        mode: session.mode,
+        snapshot_every: session.every,
+        strict,
+        group,
+    };
+    let (ended, writer) = serve_wanted(alloc, store, wanted, session);
     text.extend_from_slice(kept(writer)?.as_slice())?;
     ended_line(text, ended)
 }
@@ -224,7 +228,8 @@ pub fn ask_one<D: Disk>(
 ) -> Result<(), Trouble> {
     match call {
         Ask::Serve(session) => session_lines(alloc, store, session, text),
-        Ask::Wanted(strict, session) => wanted_lines(alloc, store, strict, session, text),
+        Ask::Wanted(strict, session) => wanted_lines(alloc, store, strict, false, session, text),
+        Ask::Together(strict, session) => wanted_lines(alloc, store, strict, true, session, text),
         Ask::Form(mode, form) => form_line(store, mode, form, text),
         Ask::All(mode, forms) => all_lines(store, mode, forms, text),
         Ask::Snapshot => snapshot_line(store, text),

@@ -90,6 +90,7 @@ fn watched(alloc: Global, input: &[u8]) -> Result<(Option<u64>, bool, bool), Tro
         mode: Mode::Current,
         snapshot_every: 0,
         strict: false,
+        group: false,
     };
     let served = serve_on(
         alloc,

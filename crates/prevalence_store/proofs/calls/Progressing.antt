@@ -1,11 +1,11 @@
 -- How the turns of a session join.
-use Rattle.std.proofs.Common.{◌≡◌, ℕ, zero, suc, ◌+◌, ◌⊎◌, List, [], ◌∷◌, ◌++◌, length, Option, None, Some, IsTrue, refl, sym, ap, subst, ◌∙◌, inl, inr, append_assoc, append-nil, arith, length-append}
+use Rattle.std.proofs.Common.{◌≡◌, ℕ, zero, suc, Bool, ◌+◌, ◌⊎◌, List, [], ◌∷◌, ◌++◌, length, Option, None, Some, IsTrue, refl, sym, ap, subst, ◌∙◌, inl, inr, append_assoc, append-nil, arith, length-append}
 use Rattle.std.specs.Option.{option_map, option_and_then}
 use Rattle.std.proofs.lemmas.List.Sums.{sum_by-append}
 use Rattle.disk_trait.specs.Disk.{State, IsHonest, IsSound}
 use Rattle.disk_trait.specs.Half.{opposite_of}
 use Rattle.disk_trait.specs.declared.half.Half.{Half}
-use Rattle.gate_log.specs.Layout.{LogRecord}
+use Rattle.gate_log.specs.Layout.{LogRecord, with_records}
 use Rattle.prevalence_store.specs.declared.mode.Mode.{Mode}
 use Rattle.prevalence_store.specs.declared.outcome.Ending.{Ending}
 use Rattle.prevalence_store.specs.declared.outcome.Ending.TheVariants.{End, Reader, Store}
@@ -13,7 +13,7 @@ use Rattle.prevalence_store.specs.meaning.Acceptance.{after, read_in}
 use Rattle.prevalence_store.specs.calls.Execute.{SurvivesAs}
 use Rattle.prevalence_store.specs.calls.Store.{LeavesAlone, StoreView, Describes}
 use Rattle.prevalence_store.specs.meaning.Answers.{Progress, after_forms, begun, last_line, one_form, one_form_more, onward}
-use Rattle.prevalence_store.specs.calls.Serve.{Advances, Ends, IsAfter, IsExtended, IsRenewed, Serves, contents_after, half_after, with_entries}
+use Rattle.prevalence_store.specs.calls.Serve.{Advances, Ends, IsAfter, IsExtended, IsRenewed, Serves, contents_after, half_after}
 use Rattle.prevalence_store.specs.calls.Streams.{Writes}
 use Rattle.plist_state.specs.State.{WorldState}
 use Rattle.prevalence_store.specs.Theorem.{Survives}
@@ -64,7 +64,7 @@ module _ (functions : Functions) {D R : Type 0} (state : D → State) (sound : (
     fits = let a = one.fits in let b = two.fits in omega arith;
     described = λ k claims held.
         subst (λ entries. Describes new (record k { entries = entries }) (state new.disk).reads) (append_assoc k.entries xs ys)
-        (two.described (with_entries k xs) (subst IsTrue (sym honest) claims) (one.described k claims held));
+        (two.described (with_records k xs) (subst IsTrue (sym honest) claims) (one.described k claims held));
     other = λ claims.
         let still = subst IsTrue (sym honest) claims in
         alone_both (opposite_of old.half) (state old.disk) (state mid.disk) (state new.disk) (sound mid.disk still) (one.other claims)
@@ -88,7 +88,7 @@ module _ (functions : Functions) {D R : Type 0} (state : D → State) (sound : (
     record_count = two.record_count;
     size = two.size;
     fits = let fits = two.fits in omega arith;
-    described = λ k claims held. two.described (with_entries k xs) (subst IsTrue (sym honest) claims) (one.described k claims held);
+    described = λ k claims held. two.described (with_records k xs) (subst IsTrue (sym honest) claims) (one.described k claims held);
   }
 
   -- they were taken earlier
@@ -160,7 +160,7 @@ module _ (functions : Functions) {D R : Type 0} (state : D → State) (sound : (
 module _ (functions : Functions) where
   -- ---- progress
 
-  step_back : (mode : Mode) (o : Option Progress) (r : Progress) → option_and_then (one_form_more functions mode) o ≡ Some r → (q : Progress) × (o ≡ Some q) × (one_form_more functions mode q ≡ Some r)
+  pub step_back : (mode : Mode) (o : Option Progress) (r : Progress) → option_and_then (one_form_more functions mode) o ≡ Some r → (q : Progress) × (o ≡ Some q) × (one_form_more functions mode q ≡ Some r)
   step_back mode None r is = absurd (cc)
   step_back mode (Some q) r is = (q, refl, is)
 
@@ -204,34 +204,36 @@ module _ (functions : Functions) where
       survives = survive_with q.taken (length q.taken) (length (p.taken ++ q.taken)) (length-append p.taken q.taken) second.survives;
     }
 
-    pub ends_both : (forms : ℕ) (far : Progress) (lines : ℕ) (answered : Progress) (part : List ℕ) (ending : Ending)
-        → Ends functions state mid new p.world mode p.rest b c forms far lines answered part ending
-        → Ends functions state old new w mode text a c (forms + m) (onward p far) (lines + m) (onward p answered) part ending
-    ends_both forms far lines answered part End ends = record {
+    pub ends_both : (forms : ℕ) (far : Progress) (lines : ℕ) (answered : Progress) (part : List ℕ) (group : Bool) (ending : Ending)
+        → after_forms functions lines p.world mode p.rest ≡ Some answered → Ends functions state mid new p.world mode p.rest b c forms far lines answered part group ending
+        → Ends functions state old new w mode text a c (forms + m) (onward p far) (lines + m) (onward p answered) part group ending
+    ends_both forms far lines answered part group End answered_is ends = record {
       all = let all = ends.all in omega arith;
       no_part = ends.no_part;
       nothing_left = ends.nothing_left;
       after = after_both functions state sound old mid new w p first.after honest far ends.after;
     }
-    ends_both forms far lines answered part (Reader number) ends = record {
+    ends_both forms far lines answered part group (Reader number) answered_is ends = record {
       all = let all = ends.all in omega arith;
       at = ends.at;
       reads = ends.reads;
       line = ends.line;
       after = after_both functions state sound old mid new w p first.after honest far ends.after;
     }
-    ends_both forms far lines answered part (Store number) (inl stopped) = inl (record {
+    ends_both forms far lines answered part group (Store number) answered_is (inl stopped) = inl (record {
       device = stopped.device;
-      one_open = let one = stopped.one_open in omega arith;
+      some_open = let some = stopped.some_open in omega arith;
       no_part = stopped.no_part;
       mid = stopped.mid;
       before = after_both functions state sound old mid stopped.mid w p first.after honest answered stopped.before;
-      record_ = stopped.record_;
-      was_accepted = ap (λ l. p.taken ++ l) stopped.was_accepted ∙ sym (append_assoc p.taken answered.taken (stopped.record_ ∷ []));
+      entries = stopped.entries;
+      some = stopped.some;
+      one_open = λ none. let one = stopped.one_open none in (omega (arith, one.0), one.1);
+      were_accepted = ap (λ l. p.taken ++ l) stopped.were_accepted ∙ sym (append_assoc p.taken answered.taken stopped.entries);
       fits = stopped.fits;
       failed = stopped.failed;
     })
-    ends_both forms far lines answered part (Store number) (inr (inl stopped)) = inr (inl (record {
+    ends_both forms far lines answered part group (Store number) answered_is (inr (inl stopped)) = inr (inl (record {
       device = stopped.device;
       all = let all = stopped.all in omega arith;
       no_part = stopped.no_part;
@@ -240,7 +242,7 @@ module _ (functions : Functions) where
       fits = stopped.fits;
       failed = stopped.failed;
     }))
-    ends_both forms far lines answered part (Store number) (inr (inr (inl full))) =
+    ends_both forms far lines answered part group (Store number) answered_is (inr (inr (inl full))) =
         let renewed = renewed_later functions state sound old mid new w p.world p.taken far.taken first.after.records first.after.limit honest first.after.log full.renewed in
         inr (inr (inl (record {
           full = full.full;
@@ -252,7 +254,7 @@ module _ (functions : Functions) where
           only_text = full.only_text;
           after = after_both functions state sound old mid new w p first.after honest far full.after;
         })))
-    ends_both forms far lines answered part (Store number) (inr (inr (inr (inl large)))) = inr (inr (inr (inl (record {
+    ends_both forms far lines answered part group (Store number) answered_is (inr (inr (inr (inl large)))) = inr (inr (inr (inl (record {
       large = large.large;
       all = let all = large.all in omega arith;
       no_part = large.no_part;
@@ -260,14 +262,14 @@ module _ (functions : Functions) where
       why = large.why;
       after = after_both functions state sound old mid new w p first.after honest far large.after;
     }))))
-    ends_both forms far lines answered part (Store number) (inr (inr (inr (inr (inl unread))))) = inr (inr (inr (inr (inl (record {
+    ends_both forms far lines answered part group (Store number) answered_is (inr (inr (inr (inr (inl unread))))) = inr (inr (inr (inr (inl (record {
       input = unread.input;
       all = let all = unread.all in omega arith;
       no_part = unread.no_part;
       more = unread.more;
       after = after_both functions state sound old mid new w p first.after honest far unread.after;
     })))))
-    ends_both forms far lines answered part (Store number) (inr (inr (inr (inr (inr (inl unwritten)))))) = inr (inr (inr (inr (inr (inl (record {
+    ends_both forms far lines answered part group (Store number) answered_is (inr (inr (inr (inr (inr (inl unwritten)))))) = inr (inr (inr (inr (inr (inl (record {
       output = unwritten.output;
       unwritten = unwritten.unwritten;
       some_left = unwritten.some_left;
@@ -277,24 +279,29 @@ module _ (functions : Functions) where
           ∙ ap (λ t. p.lines ++ t) (append_assoc answered.lines part unwritten.unwritten)
           ∙ sym (append_assoc p.lines answered.lines (part ++ unwritten.unwritten))
           ∙ sym (append_assoc (p.lines ++ answered.lines) part unwritten.unwritten);
-      in_form = λ one.
-          let is = unwritten.in_form (omega arith) in (
-            is.0,
-            is.1,
-            ap (λ t. p.lines ++ t) (is.2 ∙ append_assoc answered.lines part is.0) ∙ sym (append_assoc p.lines answered.lines (part ++ is.0))
-                ∙ sym (append_assoc (p.lines ++ answered.lines) part is.0),
+      in_form = λ some.
+          let is = unwritten.in_form (omega arith) in
+          let rest = is.2 in (
+            onward p is.0,
+            forms_onward (lines + 1) m ((lines + m) + 1) w mode text p is.0 (omega arith) first.far_is is.1,
+            (
+              rest.0,
+              rest.1,
+              ap (λ t. p.lines ++ t) (rest.2 ∙ append_assoc answered.lines part rest.0) ∙ sym (append_assoc p.lines answered.lines (part ++ rest.0))
+                  ∙ sym (append_assoc (p.lines ++ answered.lines) part rest.0),
+            ),
           );
       after = after_both functions state sound old mid new w p first.after honest far unwritten.after;
     }))))))
-    ends_both forms far lines answered part (Store number) (inr (inr (inr (inr (inr (inr out)))))) = inr (inr (inr (inr (inr (inr (record {
+    ends_both forms far lines answered part group (Store number) answered_is (inr (inr (inr (inr (inr (inr out)))))) = inr (inr (inr (inr (inr (inr (record {
       memory = out.memory;
       no_part = out.no_part;
       after = after_both functions state sound old mid new w p first.after honest far out.after;
     }))))))
 
     -- some forms, and how the session ended after them
-    unfoldable pub serve_both : (ending : Ending) → Serves functions state mid new p.world mode p.rest b c ending → Serves functions state old new w mode text a c ending
-    serve_both ending second = record {
+    unfoldable pub serve_both : (group : Bool) (ending : Ending) → Serves functions state mid new p.world mode p.rest b c group ending → Serves functions state old new w mode text a c group ending
+    serve_both group ending second = record {
       forms = second.forms + m;
       far = onward p second.far;
       far_is = forms_onward second.forms m (second.forms + m) w mode text p second.far refl first.far_is second.far_is;
@@ -302,10 +309,10 @@ module _ (functions : Functions) where
       answered = onward p second.answered;
       answered_is = forms_onward second.lines m (second.lines + m) w mode text p second.answered refl first.far_is second.answered_is;
       at_most = let at_most = second.at_most in omega arith;
-      in_turn = let in_turn = second.in_turn in omega arith;
+      in_turn = λ none. let in_turn = second.in_turn none in omega arith;
       part = second.part;
       output = λ held is. writes_both a b c p.lines (second.answered.lines ++ second.part) first.lines second.output held is
           ∙ ap (λ t. Some (held ++ t)) (sym (append_assoc p.lines second.answered.lines second.part));
       survives = survive_with second.far.taken (length second.answered.taken) (length (p.taken ++ second.answered.taken)) (length-append p.taken second.answered.taken) second.survives;
-      ends = ends_both second.forms second.far second.lines second.answered second.part ending second.ends;
+      ends = ends_both second.forms second.far second.lines second.answered second.part group ending second.answered_is second.ends;
     }

@@ -112,20 +112,20 @@ module _ (functions : Functions) {D R : Type 0} (state : D → State) where
 
   -- ---- one after the other
 
-  module _ (sound : (d : D) → IsHonest (state d) → IsSound (state d)) (strict : Bool) (course later last : Course) (old mid new : StoreView D R) (w : WorldState) (mode : Mode) (a b c : Option (List ℕ)) (pending : Pending)
+  module _ (sound : (d : D) → IsHonest (state d) → IsSound (state d)) (wanted : Wanted) (course later last : Course) (old mid new : StoreView D R) (w : WorldState) (mode : Mode) (a b c : Option (List ℕ)) (pending : Pending)
       (honest : (state mid.disk).honest ≡ (state old.disk).honest) where
-    module _ (text : List ℕ) (left : List ℕ) (first : GoesOn functions state strict course later old mid w mode text a b pending left) where
+    module _ (text : List ℕ) (left : List ℕ) (first : GoesOn functions state wanted.strict course later old mid w mode text a b pending left) where
       abbrev p : Progress
       p = first.far
 
       abbrev rest : List ℕ
       rest = first.bytes ++ left
 
-      none_of : (refusals : List ℕ) → (strict ≡ true → refusals ≡ []) → strict ≡ true → p.refused ++ refusals ≡ []
+      none_of : (refusals : List ℕ) → (wanted.strict ≡ true → refusals ≡ []) → wanted.strict ≡ true → p.refused ++ refusals ≡ []
       none_of refusals second is = ap (λ l. l ++ refusals) (first.accepted is) ∙ second is
 
-      goes_on_both : (after : Pending) (others : List ℕ) → GoesOn functions state strict later last mid new p.world mode rest b c after others
-          → GoesOn functions state strict course last old new w mode text a c after others
+      goes_on_both : (after : Pending) (others : List ℕ) → GoesOn functions state wanted.strict later last mid new p.world mode rest b c after others
+          → GoesOn functions state wanted.strict course last old new w mode text a c after others
       goes_on_both after others second = record {
         forms = second.forms + first.forms;
         far = onward p second.far;
@@ -160,7 +160,7 @@ module _ (functions : Functions) {D R : Type 0} (state : D → State) where
       start_both : (others : List ℕ) (from start : ℕ) → start + length others ≡ later.bytes + length p.rest + from → start + length others ≡ course.bytes + length text + from
       start_both others from start is = omega (arith, is, first.comes.bytes_are)
 
-      stops_both : (number : ℕ) (place : Place) → StopsStrict functions state mid new p.world mode p.rest b c later.pace later.forms later.bytes number place → strict ≡ true
+      stops_both : (number : ℕ) (place : Place) → StopsStrict functions state mid new p.world mode p.rest b c later.pace later.forms later.bytes number place → wanted.strict ≡ true
           → StopsStrict functions state old new w mode text a c course.pace course.forms course.bytes number place
       stops_both number place second is = record {
         forms = second.forms + first.forms;
@@ -180,8 +180,8 @@ module _ (functions : Functions) {D R : Type 0} (state : D → State) where
         begins = second.begins;
       }
 
-      pub paced_both : (ending : Ending) (served : Serves functions state mid new p.world mode p.rest b c ending) → ServesInPace functions state later.pace mid new p.world mode p.rest b c ending served
-          → ServesInPace functions state course.pace old new w mode text a c ending (serve_both functions state sound old mid new w mode text a b c first.forms p first.advances honest ending served)
+      pub paced_both : (ending : Ending) (served : Serves functions state mid new p.world mode p.rest b c wanted.group ending) → ServesInPace functions state later.pace mid new p.world mode p.rest b c ending served
+          → ServesInPace functions state course.pace old new w mode text a c ending (serve_both functions state sound old mid new w mode text a b c first.forms p first.advances honest wanted.group ending served)
       unfolding serve_both
       paced_both ending served paced =
           ends_after functions old.limit w mode p course.pace later.pace (fill_of old) (fill_of mid) first.advances.after.records first.paced first.forms served.forms served.far served.lines served.answered
@@ -189,15 +189,15 @@ module _ (functions : Functions) {D R : Type 0} (state : D → State) where
           (subst (λ n. EndsInPace functions n p.world later.pace (fill_of mid) mode served.forms served.far served.lines served.answered (fill_of new) ending) first.advances.after.limit paced)
 
       -- a session over what is left, and the whole of it
-      strict_both : (ending : Ending) → ServesStrict functions state strict later mid new p.world mode p.rest b c ending → ServesStrict functions state strict course old new w mode text a c ending
+      strict_both : (ending : Ending) → ServesStrict functions state wanted later mid new p.world mode p.rest b c ending → ServesStrict functions state wanted course old new w mode text a c ending
       unfolding serve_both
       strict_both ending (served, paced, accepted) = (
-        serve_both functions state sound old mid new w mode text a b c first.forms p first.advances honest ending served,
+        serve_both functions state sound old mid new w mode text a b c first.forms p first.advances honest wanted.group ending served,
         paced_both ending served paced,
         none_of served.answered.refused accepted,
       )
 
-      ends_both_at : (ended : Ended) → EndsAt functions state strict later mid new p.world mode p.rest b c ended → EndsAt functions state strict course old new w mode text a c ended
+      ends_both_at : (ended : Ended) → EndsAt functions state wanted later mid new p.world mode p.rest b c ended → EndsAt functions state wanted course old new w mode text a c ended
       unfolding serve_both strict_both
       ends_both_at ways.End second = strict_both End second
       ends_both_at (ways.Unreadable number place) (served, at) = (
@@ -214,12 +214,12 @@ module _ (functions : Functions) {D R : Type 0} (state : D → State) where
         (is more).1,
       )
 
-      serves_both : (ended : Ended) → HasEndedAt functions state strict later mid new p.world mode p.rest b c ended → HasEndedAt functions state strict course old new w mode text a c ended
+      serves_both : (ended : Ended) → HasEndedAt functions state wanted later mid new p.world mode p.rest b c ended → HasEndedAt functions state wanted course old new w mode text a c ended
       unfolding serve_both
       serves_both ways.End second = absurd second
       serves_both (ways.Unreadable number place) (is, accepted, at) = (
         record {
-          serves = serve_both functions state sound old mid new w mode text a b c first.forms p first.advances honest (Reader number) is.serves;
+          serves = serve_both functions state sound old mid new w mode text a b c first.forms p first.advances honest wanted.group (Reader number) is.serves;
           paced = paced_both (Reader number) is.serves is.paced;
           stays = refused_both is.serves.forms is.serves.far number is.stays;
         },
@@ -229,7 +229,7 @@ module _ (functions : Functions) {D R : Type 0} (state : D → State) where
       serves_both (ways.Unaccepted number place) (is, second) = (is, stops_both number place second is)
       serves_both (ways.Store number) (is, accepted) = (
         record {
-          serves = serve_both functions state sound old mid new w mode text a b c first.forms p first.advances honest (Store number) is.serves;
+          serves = serve_both functions state sound old mid new w mode text a b c first.forms p first.advances honest wanted.group (Store number) is.serves;
           paced = paced_both (Store number) is.serves is.paced;
           stays = λ output all.
               let same : is.serves.lines + first.forms ≡ is.serves.forms + first.forms = all in
@@ -239,48 +239,48 @@ module _ (functions : Functions) {D R : Type 0} (state : D → State) where
         none_of is.serves.answered.refused accepted,
       )
 
-      pub ended_both : (ended : Ended) → HasEndedAt functions state strict later mid new p.world mode rest b c ended → HasEndedAt functions state strict course old new w mode text a c ended
-      ended_both ended second = serves_both ended (subst (λ t. HasEndedAt functions state strict later mid new p.world mode t b c ended) (sym first.rest) second)
+      pub ended_both : (ended : Ended) → HasEndedAt functions state wanted later mid new p.world mode rest b c ended → HasEndedAt functions state wanted course old new w mode text a c ended
+      ended_both ended second = serves_both ended (subst (λ t. HasEndedAt functions state wanted later mid new p.world mode t b c ended) (sym first.rest) second)
 
     -- what was answered, and what became of what was left
-    pub answers_both : (text left : List ℕ) (first : GoesOn functions state strict course later old mid w mode text a b pending left) (after : Pending) (result : Option Ended)
-        → Answers functions state strict later last mid new first.far.world mode (first.bytes ++ left) b c after result → Answers functions state strict course last old new w mode text a c after result
+    pub answers_both : (text left : List ℕ) (first : GoesOn functions state wanted.strict course later old mid w mode text a b pending left) (after : Pending) (result : Option Ended)
+        → Answers functions state wanted later last mid new first.far.world mode (first.bytes ++ left) b c after result → Answers functions state wanted course last old new w mode text a c after result
     unfolding extended
     answers_both text left first after None second = goes_on_both text left first after [] second
     answers_both text left first after (Some ended) second = λ more.
-        ended_both (text ++ more) (left ++ more) (extended strict course later old mid w mode text a b pending left more first) ended
-        (subst (λ t. HasEndedAt functions state strict later mid new first.far.world mode t b c ended) (append_assoc first.bytes left more) (second more))
+        ended_both (text ++ more) (left ++ more) (extended wanted.strict course later old mid w mode text a b pending left more first) ended
+        (subst (λ t. HasEndedAt functions state wanted later mid new first.far.world mode t b c ended) (append_assoc first.bytes left more) (second more))
 
     -- what was left, and what a piece of it came to
-    pub next_both : (text rest : List ℕ) (first : GoesOn functions state strict course later old mid w mode text a b pending rest) (after : Pending) (result : Result ℕ Ended)
-        → ComesTo functions state strict later last mid new first.far.world mode (first.bytes ++ rest) b c after rest result → ComesTo functions state strict course last old new w mode text a c after rest result
+    pub next_both : (text rest : List ℕ) (first : GoesOn functions state wanted.strict course later old mid w mode text a b pending rest) (after : Pending) (result : Result ℕ Ended)
+        → ComesTo functions state wanted later last mid new first.far.world mode (first.bytes ++ rest) b c after rest result → ComesTo functions state wanted course last old new w mode text a c after rest result
     next_both text rest first after (Ok count) second = goes_on_both text rest first after (drop count rest) second
     next_both text rest first after (Err ended) second = answers_both text rest first after (Some ended) second
 
     -- more of the text, and what it came to
-    pub more_both : (text more : List ℕ) (first : GoesOn functions state strict course later old mid w mode text a b pending []) (after : Pending) (result : Option Ended)
-        → Answers functions state strict later last mid new first.far.world mode (first.bytes ++ more) b c after result → Answers functions state strict course last old new w mode (text ++ more) a c after result
+    pub more_both : (text more : List ℕ) (first : GoesOn functions state wanted.strict course later old mid w mode text a b pending []) (after : Pending) (result : Option Ended)
+        → Answers functions state wanted later last mid new first.far.world mode (first.bytes ++ more) b c after result → Answers functions state wanted course last old new w mode (text ++ more) a c after result
     unfolding extended
-    more_both text more first after result second = answers_both (text ++ more) more (extended strict course later old mid w mode text a b pending [] more first) after result second
+    more_both text more first after result second = answers_both (text ++ more) more (extended wanted.strict course later old mid w mode text a b pending [] more first) after result second
 
     -- the end of the input, and what it came to
-    pub end_both : (text : List ℕ) (first : GoesOn functions state strict course later old mid w mode text a b pending []) (ended : Ended)
-        → EndsAt functions state strict later mid new first.far.world mode first.bytes b c ended → EndsAt functions state strict course old new w mode text a c ended
+    pub end_both : (text : List ℕ) (first : GoesOn functions state wanted.strict course later old mid w mode text a b pending []) (ended : Ended)
+        → EndsAt functions state wanted later mid new first.far.world mode first.bytes b c ended → EndsAt functions state wanted course old new w mode text a c ended
     end_both text first ended second =
-        ends_both_at text [] first ended (subst (λ t. EndsAt functions state strict later mid new first.far.world mode t b c ended) (sym (first.rest ∙ append-nil first.bytes)) second)
+        ends_both_at text [] first ended (subst (λ t. EndsAt functions state wanted later mid new first.far.world mode t b c ended) (sym (first.rest ∙ append-nil first.bytes)) second)
 
   -- the session ended within a piece
-  pub ended_within : (strict : Bool) (course later : Course) (old new : StoreView D R) (w : WorldState) (mode : Mode) (a b : Option (List ℕ)) (after : Pending) (bytes piece : List ℕ) (n : ℕ) (ended : Ended)
-      → Answers functions state strict course later old new w mode (bytes ++ take n piece) a b after (Some ended) → Answers functions state strict course later old new w mode (bytes ++ piece) a b after (Some ended)
-  ended_within strict course later old new w mode a b after bytes piece n ended is more =
-      subst (λ t. HasEndedAt functions state strict course old new w mode t a b ended)
+  pub ended_within : (wanted : Wanted) (course later : Course) (old new : StoreView D R) (w : WorldState) (mode : Mode) (a b : Option (List ℕ)) (after : Pending) (bytes piece : List ℕ) (n : ℕ) (ended : Ended)
+      → Answers functions state wanted course later old new w mode (bytes ++ take n piece) a b after (Some ended) → Answers functions state wanted course later old new w mode (bytes ++ piece) a b after (Some ended)
+  ended_within wanted course later old new w mode a b after bytes piece n ended is more =
+      subst (λ t. HasEndedAt functions state wanted course old new w mode t a b ended)
       (append_assoc bytes (take n piece) (drop n piece ++ more) ∙ ap (λ t. bytes ++ t) (sym (append_assoc (take n piece) (drop n piece) more) ∙ ap (λ t. t ++ more) (take-append-drop n piece))
       ∙ sym (append_assoc bytes piece more)) (is (drop n piece ++ more))
 
   -- a read failed after it
-  pub unread_after : (strict : Bool) (course later : Course) (old new : StoreView D R) (w : WorldState) (mode : Mode) (text : List ℕ) (a b : Option (List ℕ)) (pending : Pending)
-      → GoesOn functions state strict course later old new w mode text a b pending [] → ServesStrict functions state strict course old new w mode text a b (Store INPUT)
-  unread_after strict course later old new w mode text a b pending goes =
+  pub unread_after : (wanted : Wanted) (course later : Course) (old new : StoreView D R) (w : WorldState) (mode : Mode) (text : List ℕ) (a b : Option (List ℕ)) (pending : Pending)
+      → GoesOn functions state wanted.strict course later old new w mode text a b pending [] → ServesStrict functions state wanted course old new w mode text a b (Store INPUT)
+  unread_after wanted course later old new w mode text a b pending goes =
       let far : Progress = goes.far in (
         record {
           forms = goes.forms;
@@ -290,7 +290,7 @@ module _ (functions : Functions) {D R : Type 0} (state : D → State) where
           answered = far;
           answered_is = goes.advances.far_is;
           at_most = omega arith;
-          in_turn = omega arith;
+          in_turn = λ none. omega arith;
           part = [];
           output = subst (Writes a b) (sym (append-nil far.lines)) goes.advances.lines;
           survives = goes.advances.survives;

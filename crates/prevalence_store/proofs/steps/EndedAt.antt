@@ -1,5 +1,5 @@
 -- How a session ends at what was read: at no memory, at a refusal of the reader, and in a form.
-use Rattle.std.proofs.Common.{◌≡◌, ℕ, ◌+◌, ◌≤◌, Bool, true, List, [], ◌++◌, length, Option, Some, Ok, Err, inl, inr, refl, sym, ap, subst, ◌∙◌, append_assoc, append-nil, length-append, arith}
+use Rattle.std.proofs.Common.{◌≡◌, ℕ, ◌+◌, ◌≤◌, Bool, true, List, [], ◌++◌, length, Option, Some, Result, Ok, Err, inl, inr, refl, sym, ap, subst, ◌∙◌, append_assoc, append-nil, length-append, arith}
 use Rattle.disk_trait.specs.Disk.{State, IsHonest, IsSound}
 use Rattle.lisp_object.specs.Object.{Object}
 use Rattle.lisp_object.specs.declared.refusal.TheConstants.{NO_MEMORY}
@@ -27,7 +27,7 @@ use Rattle.prevalence_store.specs.steps.Course.{Course, pass}
 use Rattle.prevalence_store.specs.steps.Input.{HasRefusal}
 use Rattle.prevalence_store.specs.steps.Serve.{Answers, EndsAt, HasEndedAt, ended_at}
 use Rattle.prevalence_store.proofs.steps.Places.{place_at_once, refuses_from, refuses_more_from}
-use Rattle.prevalence_store.proofs.steps.Endings.{done, fault_answered, no_memory, nothing}
+use Rattle.prevalence_store.proofs.steps.Endings.{any_group, done, fault_answered, no_memory, nothing}
 use Rattle.prevalence_store.proofs.steps.Pacing.{done_paced, fault_paced, no_memory_paced}
 use Rattle.user_macros.specs.Functions.{Functions}
 
@@ -38,19 +38,20 @@ tells_accepted functions w mode text far (Refused number) other tells = absurd (
 
 module _ (functions : Functions) {D R : Type 0} (state : D → State) where
   -- the session ended before any answer, whatever follows the text
-  pub ends_at_once : (strict : Bool) (course : Course) (old new : StoreView D R) (w : WorldState) (mode : Mode) (text : List ℕ) (a b : Option (List ℕ)) (number : ℕ)
+  pub ends_at_once : (wanted : Wanted) (course : Course) (old new : StoreView D R) (w : WorldState) (mode : Mode) (text : List ℕ) (a b : Option (List ℕ)) (number : ℕ)
       → (stops : StopsInForm functions state old new w mode text a b number) × ServesInPace functions state course.pace old new w mode text a b (Store number) stops.serves
-      → HasEndedAt functions state strict course old new w mode text a b (ways.Store number)
-  ends_at_once strict course old new w mode text a b number is =
-      (record { serves = is.0.serves; paced = is.1; stays = λ output all. let one = is.0.in_form output in absurd (omega arith) }, λ is_strict. is.0.accepted)
+      → HasEndedAt functions state wanted course old new w mode text a b (ways.Store number)
+  unfolding any_group
+  ends_at_once wanted course old new w mode text a b number is =
+      (record { serves = any_group functions state old new w mode text a b wanted.group (Store number) is.0.serves; paced = is.1; stays = λ output all. let one = is.0.in_form output in absurd (omega arith) }, λ is_strict. is.0.accepted)
 
   -- the reader refused the text, whatever follows it
-  pub fault_ended : (sound : (d : D) → IsHonest (state d) → IsSound (state d)) (strict : Bool) (course later : Course) (old new : StoreView D R) (w : WorldState) (mode : Mode) (text : List ℕ) (a b : Option (List ℕ)) (pending : Pending)
+  pub fault_ended : (sound : (d : D) → IsHonest (state d) → IsSound (state d)) (wanted : Wanted) (course later : Course) (old new : StoreView D R) (w : WorldState) (mode : Mode) (text : List ℕ) (a b : Option (List ℕ)) (pending : Pending)
       (number : ℕ) → old.world ≡ Some w → (refuses : HasRefusal functions w mode text number) → new ≡ old → (start : ℕ) (place : Place) → place.forms ≡ course.forms → place.start ≡ course.bytes + start
       → place.at ≡ course.bytes + refuses.at → BeginsAt (setting_in functions w mode) text start × IsDecidedFrom (setting_in functions w mode) text start → (ending : Ending) → AnswersFault number a b ending
-      → Answers functions state strict course later old new w mode text a b pending (Some (ended_at place ending))
+      → Answers functions state wanted course later old new w mode text a b pending (Some (ended_at place ending))
   unfolding fault_answered nothing
-  fault_ended sound strict course later old new w mode text a b pending number known refuses same start place forms_is start_is at_is begins ending answers more = by_ending ending answers where
+  fault_ended sound wanted course later old new w mode text a b pending number known refuses same start place forms_is start_is at_is begins ending answers more = by_ending ending answers where
     still : (others : List ℕ) → read_in functions w mode ((text ++ more) ++ others) ≡ refused number refuses.at
     still others = ap (read_in functions w mode) (append_assoc text more others) ∙ refuses.reads (more ++ others)
 
@@ -62,12 +63,12 @@ module _ (functions : Functions) {D R : Type 0} (state : D → State) where
     from_start = refuses_more_from functions w mode text more start number refuses.at begins.0
         (ap (read_in functions w mode) (sym (append-nil text)) ∙ refuses.reads []) (refuses.reads more)
 
-    by_ending : (e : Ending) → AnswersFault number a b e → HasEndedAt functions state strict course old new w mode (text ++ more) a b (ended_at place e)
+    by_ending : (e : Ending) → AnswersFault number a b e → HasEndedAt functions state wanted course old new w mode (text ++ more) a b (ended_at place e)
     by_ending End is = absurd is
     by_ending (Reader code) is = (
       record {
-        serves = fault_answered functions state sound old new w mode (text ++ more) a b known number refuses.at (refuses.reads more) same (Reader code) is;
-        paced = fault_paced functions state sound old new w mode (text ++ more) a b known number refuses.at (refuses.reads more) same (Reader code) is course.pace;
+        serves = fault_answered functions state sound old new w mode (text ++ more) a b known wanted.group number refuses.at (refuses.reads more) same (Reader code) is;
+        paced = fault_paced functions state sound old new w mode (text ++ more) a b known wanted.group number refuses.at (refuses.reads more) same (Reader code) is course.pace;
         stays = λ others. (refl, (refuses.at, still others ∙ ap (λ n. refused n refuses.at) (sym is.0)));
       },
       λ is_strict. refl,
@@ -82,63 +83,63 @@ module _ (functions : Functions) {D R : Type 0} (state : D → State) where
     )
     by_ending (Store code) (inl full) = (
       record {
-        serves = fault_answered functions state sound old new w mode (text ++ more) a b known number refuses.at (refuses.reads more) same (Store code) (inl full);
-        paced = fault_paced functions state sound old new w mode (text ++ more) a b known number refuses.at (refuses.reads more) same (Store code) (inl full) course.pace;
+        serves = fault_answered functions state sound old new w mode (text ++ more) a b known wanted.group number refuses.at (refuses.reads more) same (Store code) (inl full);
+        paced = fault_paced functions state sound old new w mode (text ++ more) a b known wanted.group number refuses.at (refuses.reads more) same (Store code) (inl full) course.pace;
         stays = λ output all. (number, λ others. (refl, (refuses.at, still others)));
       },
       λ is_strict. refl,
     )
     by_ending (Store code) (inr memory) = (
       record {
-        serves = fault_answered functions state sound old new w mode (text ++ more) a b known number refuses.at (refuses.reads more) same (Store code) (inr memory);
-        paced = fault_paced functions state sound old new w mode (text ++ more) a b known number refuses.at (refuses.reads more) same (Store code) (inr memory) course.pace;
+        serves = fault_answered functions state sound old new w mode (text ++ more) a b known wanted.group number refuses.at (refuses.reads more) same (Store code) (inr memory);
+        paced = fault_paced functions state sound old new w mode (text ++ more) a b known wanted.group number refuses.at (refuses.reads more) same (Store code) (inr memory) course.pace;
         stays = λ output all. (number, λ others. (refl, (refuses.at, still others)));
       },
       λ is_strict. refl,
     )
 
   -- there is no memory for what was read
-  pub memory_ended : (sound : (d : D) → IsHonest (state d) → IsSound (state d)) (strict : Bool) (course : Course) (old : StoreView D R) (w : WorldState) (mode : Mode) (text : List ℕ) (held : Option (List ℕ)) → old.world ≡ Some w
-      → HasEndedAt functions state strict course old old w mode text held held (ways.Store NO_MEMORY)
+  pub memory_ended : (sound : (d : D) → IsHonest (state d) → IsSound (state d)) (wanted : Wanted) (course : Course) (old : StoreView D R) (w : WorldState) (mode : Mode) (text : List ℕ) (held : Option (List ℕ)) → old.world ≡ Some w
+      → HasEndedAt functions state wanted course old old w mode text held held (ways.Store NO_MEMORY)
   unfolding no_memory nothing
-  memory_ended sound strict course old w mode text held known = (
+  memory_ended sound wanted course old w mode text held known = (
     record {
-      serves = no_memory functions state sound old old w mode text held held known refl refl;
-      paced = no_memory_paced functions state sound old old w mode text held held known refl refl course.pace;
+      serves = no_memory functions state sound old old w mode text held held known wanted.group refl refl;
+      paced = no_memory_paced functions state sound old old w mode text held held known wanted.group refl refl course.pace;
       stays = λ output. absurd (omega arith);
     },
     λ is_strict. refl,
   )
 
-  pub memory_at_end : (sound : (d : D) → IsHonest (state d) → IsSound (state d)) (strict : Bool) (course : Course) (old : StoreView D R) (w : WorldState) (mode : Mode) (text : List ℕ) (held : Option (List ℕ)) → old.world ≡ Some w
-      → EndsAt functions state strict course old old w mode text held held (ways.Store NO_MEMORY)
+  pub memory_at_end : (sound : (d : D) → IsHonest (state d) → IsSound (state d)) (wanted : Wanted) (course : Course) (old : StoreView D R) (w : WorldState) (mode : Mode) (text : List ℕ) (held : Option (List ℕ)) → old.world ≡ Some w
+      → EndsAt functions state wanted course old old w mode text held held (ways.Store NO_MEMORY)
   unfolding no_memory nothing
-  memory_at_end sound strict course old w mode text held known = (
-    no_memory functions state sound old old w mode text held held known refl refl,
-    no_memory_paced functions state sound old old w mode text held held known refl refl course.pace,
+  memory_at_end sound wanted course old w mode text held known = (
+    no_memory functions state sound old old w mode text held held known wanted.group refl refl,
+    no_memory_paced functions state sound old old w mode text held held known wanted.group refl refl course.pace,
     λ is_strict. refl,
   )
 
   -- nothing is left at the end of the input
-  pub done_at_end : (sound : (d : D) → IsHonest (state d) → IsSound (state d)) (strict : Bool) (course : Course) (old : StoreView D R) (w : WorldState) (mode : Mode) (text : List ℕ) (held : Option (List ℕ)) → old.world ≡ Some w
-      → empty ≡ read_in functions w mode text → EndsAt functions state strict course old old w mode text held held ways.End
+  pub done_at_end : (sound : (d : D) → IsHonest (state d) → IsSound (state d)) (wanted : Wanted) (course : Course) (old : StoreView D R) (w : WorldState) (mode : Mode) (text : List ℕ) (held : Option (List ℕ)) → old.world ≡ Some w
+      → empty ≡ read_in functions w mode text → EndsAt functions state wanted course old old w mode text held held ways.End
   unfolding done nothing
-  done_at_end sound strict course old w mode text held known none = (
-    done functions state sound old old w mode text held held known refl refl none,
-    done_paced functions state sound old old w mode text held held known refl refl none course.pace,
+  done_at_end sound wanted course old w mode text held known none = (
+    done functions state sound old old w mode text held held known wanted.group refl refl none,
+    done_paced functions state sound old old w mode text held held known wanted.group refl refl none course.pace,
     λ is_strict. refl,
   )
 
   -- the reader refuses the text at the end of the input
-  pub fault_at_end : (sound : (d : D) → IsHonest (state d) → IsSound (state d)) (strict : Bool) (course : Course) (old new : StoreView D R) (w : WorldState) (mode : Mode) (text : List ℕ) (a b : Option (List ℕ)) (number at : ℕ)
+  pub fault_at_end : (sound : (d : D) → IsHonest (state d) → IsSound (state d)) (wanted : Wanted) (course : Course) (old new : StoreView D R) (w : WorldState) (mode : Mode) (text : List ℕ) (a b : Option (List ℕ)) (number at : ℕ)
       → old.world ≡ Some w → (reads : read_in functions w mode text ≡ refused number at) → new ≡ old → (start : ℕ) (place : Place) → place.forms ≡ course.forms → place.start ≡ course.bytes + start → place.at ≡ course.bytes + at
-      → BeginsAt (setting_in functions w mode) text start × (decided_from (setting_in functions w mode) text ≡ start) → (ending : Ending) → AnswersFault number a b ending → EndsAt functions state strict course old new w mode text a b (ended_at place ending)
+      → BeginsAt (setting_in functions w mode) text start × (decided_from (setting_in functions w mode) text ≡ start) → (ending : Ending) → AnswersFault number a b ending → EndsAt functions state wanted course old new w mode text a b (ended_at place ending)
   unfolding fault_answered nothing
-  fault_at_end sound strict course old new w mode text a b number at known reads same start place forms_is start_is at_is begins End answers = absurd answers
-  fault_at_end sound strict course old new w mode text a b number at known reads same start place forms_is start_is at_is begins (Reader code) answers = (
+  fault_at_end sound wanted course old new w mode text a b number at known reads same start place forms_is start_is at_is begins End answers = absurd answers
+  fault_at_end sound wanted course old new w mode text a b number at known reads same start place forms_is start_is at_is begins (Reader code) answers = (
     (
-      fault_answered functions state sound old new w mode text a b known number at reads same (Reader code) answers,
-      fault_paced functions state sound old new w mode text a b known number at reads same (Reader code) answers course.pace,
+      fault_answered functions state sound old new w mode text a b known wanted.group number at reads same (Reader code) answers,
+      fault_paced functions state sound old new w mode text a b known wanted.group number at reads same (Reader code) answers course.pace,
       λ is_strict. refl,
     ),
     (
@@ -150,14 +151,14 @@ module _ (functions : Functions) {D R : Type 0} (state : D → State) where
           (subst (λ n. IsRefusedFrom functions w mode text n at start) (sym answers.0) (refuses_from functions w mode text start number at begins.0 reads)),
     ),
   )
-  fault_at_end sound strict course old new w mode text a b number at known reads same start place forms_is start_is at_is begins (Store code) (inl full) = (
-    fault_answered functions state sound old new w mode text a b known number at reads same (Store code) (inl full),
-    fault_paced functions state sound old new w mode text a b known number at reads same (Store code) (inl full) course.pace,
+  fault_at_end sound wanted course old new w mode text a b number at known reads same start place forms_is start_is at_is begins (Store code) (inl full) = (
+    fault_answered functions state sound old new w mode text a b known wanted.group number at reads same (Store code) (inl full),
+    fault_paced functions state sound old new w mode text a b known wanted.group number at reads same (Store code) (inl full) course.pace,
     λ is_strict. refl,
   )
-  fault_at_end sound strict course old new w mode text a b number at known reads same start place forms_is start_is at_is begins (Store code) (inr memory) = (
-    fault_answered functions state sound old new w mode text a b known number at reads same (Store code) (inr memory),
-    fault_paced functions state sound old new w mode text a b known number at reads same (Store code) (inr memory) course.pace,
+  fault_at_end sound wanted course old new w mode text a b number at known reads same start place forms_is start_is at_is begins (Store code) (inr memory) = (
+    fault_answered functions state sound old new w mode text a b known wanted.group number at reads same (Store code) (inr memory),
+    fault_paced functions state sound old new w mode text a b known wanted.group number at reads same (Store code) (inr memory) course.pace,
     λ is_strict. refl,
   )
 
@@ -184,18 +185,28 @@ module _ (functions : Functions) {D R : Type 0} (state : D → State) where
 
   -- the session ended in the form that the text begins with
   pub read_ended : (wanted : Wanted) (course later : Course) (old new : StoreView D R) (w : WorldState) (text : List ℕ) (a b : Option (List ℕ)) (start next : ℕ) (ended : Ended)
-      → AnswersRead functions state course later old new w wanted text a b start next (Err ended) → start ≤ length text → HasEndedAt functions state wanted.strict course old new w wanted.mode text a b ended
+      → AnswersRead functions state course later old new w wanted text a b start next (Err ended) → start ≤ length text → HasEndedAt functions state wanted course old new w wanted.mode text a b ended
   read_ended wanted course later old new w text a b start next ways.End is within = absurd is
   read_ended wanted course later old new w text a b start next (ways.Unreadable number place) is within = absurd is
   read_ended wanted course later old new w text a b start next (ways.Unaccepted number place) is within = (is.0, strict_stops wanted course later old new w text a b start next number place is within)
-  read_ended wanted course later old new w text a b start next (ways.Store number) is within = ends_at_once wanted.strict course old new w wanted.mode text a b number is
+  read_ended wanted course later old new w text a b start next (ways.Store number) is within = ends_at_once wanted course old new w wanted.mode text a b number is
 
   pub read_at_end : (wanted : Wanted) (course later : Course) (old new : StoreView D R) (w : WorldState) (text : List ℕ) (a b : Option (List ℕ)) (start next : ℕ) (ended : Ended)
-      → AnswersRead functions state course later old new w wanted text a b start next (Err ended) → start ≤ length text → EndsAt functions state wanted.strict course old new w wanted.mode text a b ended
+      → AnswersRead functions state course later old new w wanted text a b start next (Err ended) → start ≤ length text → EndsAt functions state wanted course old new w wanted.mode text a b ended
+  unfolding any_group
   read_at_end wanted course later old new w text a b start next ways.End is within = absurd is
   read_at_end wanted course later old new w text a b start next (ways.Unreadable number place) is within = absurd is
   read_at_end wanted course later old new w text a b start next (ways.Unaccepted number place) is within = (is.0, strict_stops wanted course later old new w text a b start next number place is within)
-  read_at_end wanted course later old new w text a b start next (ways.Store number) is within = (is.0.serves, is.1, λ is_strict. is.0.accepted)
+  read_at_end wanted course later old new w text a b start next (ways.Store number) is within =
+      (any_group functions state old new w wanted.mode text a b wanted.group (Store number) is.0.serves, is.1, λ is_strict. is.0.accepted)
+
+  -- the same where nothing was done before
+  pub read_from : (course mid later : Course) (old between new : StoreView D R) (w : WorldState) (wanted : Wanted) (text : List ℕ) (a b c : Option (List ℕ)) (start next : ℕ) (result : Result Unit Ended) → between ≡ old → b ≡ a → mid ≡ course
+      → AnswersRead functions state mid later between new w wanted text b c start next result → AnswersRead functions state course later old new w wanted text a c start next result
+  read_from course mid later old between new w wanted text a b c start next result same quiet stays answered =
+      subst (λ (k : Course). AnswersRead functions state k later old new w wanted text a c start next result) stays
+      (subst (λ (s : StoreView D R). AnswersRead functions state mid later s new w wanted text a c start next result) same
+      (subst (λ t. AnswersRead functions state mid later between new w wanted text t c start next result) quiet answered))
 
   -- a form that was passed, by its offsets in the text
   pub at_starts : (course later : Course) (old new : StoreView D R) (w : WorldState) (wanted : Wanted) (text : List ℕ) (a b : Option (List ℕ)) (start next from to : ℕ) (refusals : List ℕ) → from ≡ start → to ≡ next

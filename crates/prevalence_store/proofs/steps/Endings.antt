@@ -1,5 +1,5 @@
 -- A session in which no form was taken, and what is written of a line.
-use Rattle.std.proofs.Common.{◌≡◌, ◌≢◌, ℕ, Bool, List, [], ◌++◌, Option, None, Some, Result, Ok, Err, IfOk, refl, sym, ap, subst, ◌∙◌, inl, inr, append-nil, arith}
+use Rattle.std.proofs.Common.{◌≡◌, ◌≢◌, ℕ, Bool, false, List, [], ◌++◌, Option, None, Some, Result, Ok, Err, IfOk, refl, sym, ap, subst, ◌∙◌, inl, inr, append-nil, arith}
 use Rattle.std.specs.Option.{option_map}
 use Rattle.disk_trait.specs.Disk.{State, IsHonest, IsSound}
 use Rattle.disk_trait.specs.Half.{opposite_of}
@@ -45,6 +45,45 @@ ok_map P Q (Ok v) f is = f v is
 ok_map P Q (Err e) f is = tt
 
 module _ (functions : Functions) where
+  -- ---- with groups or without
+
+  module _ {D R : Type 0} (state : D → State) (old new : StoreView D R) (w : WorldState) (mode : Mode) (text : List ℕ) (held written : Option (List ℕ)) (group : Bool) where
+    pub ends_any : (forms : ℕ) (far : Progress) (lines : ℕ) (answered : Progress) (part : List ℕ) (ending : Ending)
+        → Ends functions state old new w mode text held written forms far lines answered part false ending → Ends functions state old new w mode text held written forms far lines answered part group ending
+    ends_any forms far lines answered part End ends = ends
+    ends_any forms far lines answered part (Reader number) ends = ends
+    ends_any forms far lines answered part (Store number) (inl stopped) = inl (record {
+      device = stopped.device;
+      some_open = stopped.some_open;
+      no_part = stopped.no_part;
+      mid = stopped.mid;
+      before = stopped.before;
+      entries = stopped.entries;
+      some = stopped.some;
+      one_open = λ none. stopped.one_open refl;
+      were_accepted = stopped.were_accepted;
+      fits = stopped.fits;
+      failed = stopped.failed;
+    })
+    ends_any forms far lines answered part (Store number) (inr other) = inr other
+
+    -- a session in which each form was answered before the next
+    unfoldable pub any_group : (ending : Ending) → Serves functions state old new w mode text held written false ending → Serves functions state old new w mode text held written group ending
+    any_group ending served = record {
+      forms = served.forms;
+      far = served.far;
+      far_is = served.far_is;
+      lines = served.lines;
+      answered = served.answered;
+      answered_is = served.answered_is;
+      at_most = served.at_most;
+      in_turn = λ none. served.in_turn refl;
+      part = served.part;
+      output = served.output;
+      survives = served.survives;
+      ends = ends_any served.forms served.far served.lines served.answered served.part ending served.ends;
+    }
+
   -- ---- what was written
 
   -- the world of the text's first form
@@ -75,9 +114,9 @@ module _ (functions : Functions) where
           });
         })
 
-    unfoldable pub nothing : (ending : Ending) (part : List ℕ) → new ≡ old → Writes held written part
-        → Ends functions state old new w mode text held written 0 (begun w text) 0 (begun w text) part ending → Serves functions state old new w mode text held written ending
-    nothing ending part same writes ends = record {
+    unfoldable pub nothing : (group : Bool) (ending : Ending) (part : List ℕ) → new ≡ old → Writes held written part
+        → Ends functions state old new w mode text held written 0 (begun w text) 0 (begun w text) part group ending → Serves functions state old new w mode text held written group ending
+    nothing group ending part same writes ends = record {
       forms = 0;
       far = begun w text;
       far_is = refl;
@@ -85,36 +124,36 @@ module _ (functions : Functions) where
       answered = begun w text;
       answered_is = refl;
       at_most = omega arith;
-      in_turn = omega arith;
+      in_turn = λ none. omega arith;
       part = part;
       output = writes;
       survives = unchanged_survives functions state sound old new w same;
       ends = ends;
     }
 
-    unfoldable pub no_memory : new ≡ old → written ≡ held → Serves functions state old new w mode text held written (Store NO_MEMORY)
-    no_memory same quiet = nothing (Store NO_MEMORY) [] same (writes_nothing held written quiet)
+    unfoldable pub no_memory : (group : Bool) → new ≡ old → written ≡ held → Serves functions state old new w mode text held written group (Store NO_MEMORY)
+    no_memory group same quiet = nothing group (Store NO_MEMORY) [] same (writes_nothing held written quiet)
         (inr (inr (inr (inr (inr (inr (record { memory = refl; no_part = refl; after = after_none text [] [] same })))))))
 
-    unfoldable pub done : new ≡ old → written ≡ held → empty ≡ read_in functions w mode text → Serves functions state old new w mode text held written End
-    done same quiet is = nothing End [] same (writes_nothing held written quiet)
+    unfoldable pub done : (group : Bool) → new ≡ old → written ≡ held → empty ≡ read_in functions w mode text → Serves functions state old new w mode text held written group End
+    done group same quiet is = nothing group End [] same (writes_nothing held written quiet)
         (record { all = refl; no_part = refl; nothing_left = sym is; after = after_none text [] [] same })
 
-    pub unread : (number : ℕ) → number ≡ INPUT → MayGoOn text (read_in functions w mode text) → new ≡ old → written ≡ held → Serves functions state old new w mode text held written (Store number)
-    unread number is more same quiet = nothing (Store number) [] same (writes_nothing held written quiet)
+    pub unread : (group : Bool) (number : ℕ) → number ≡ INPUT → MayGoOn text (read_in functions w mode text) → new ≡ old → written ≡ held → Serves functions state old new w mode text held written group (Store number)
+    unread group number is more same quiet = nothing group (Store number) [] same (writes_nothing held written quiet)
         (inr (inr (inr (inr (inl (record { input = is; all = refl; no_part = refl; more = more; after = after_none text [] [] same }))))))
 
     -- the reader refused what the text begins with
-    unfoldable pub fault_answered : (number at : ℕ) → read_in functions w mode text ≡ refused number at → new ≡ old → (ending : Ending) → AnswersFault number held written ending
-        → Serves functions state old new w mode text held written ending
-    fault_answered number at is same End answers = absurd answers
-    fault_answered number at is same (Reader code) answers =
-        nothing (Reader code) (refusal_line number) same answers.1
+    unfoldable pub fault_answered : (group : Bool) (number at : ℕ) → read_in functions w mode text ≡ refused number at → new ≡ old → (ending : Ending) → AnswersFault number held written ending
+        → Serves functions state old new w mode text held written group ending
+    fault_answered group number at is same End answers = absurd answers
+    fault_answered group number at is same (Reader code) answers =
+        nothing group (Reader code) (refusal_line number) same answers.1
         (record { all = refl; at = at; reads = subst (λ n. read_in functions w mode text ≡ refused n at) (sym answers.0) is; line = ap refusal_line (sym answers.0); after = after_none text [] [] same })
-    fault_answered number at is same (Store code) (inl full) =
+    fault_answered group number at is same (Store code) (inl full) =
         let part = part_of held written (refusal_line number) (λ none. absurd (cc)) full.1 in
-        nothing (Store code) part.0 same part.4
-        (inr (inr (inr (inr (inr (inl (record { output = full.0; unwritten = part.1; some_left = part.3; front = ap last_line is ∙ part.2; in_form = λ one. absurd (omega arith); after = after_none text [] [] same })))))))
-    fault_answered number at is same (Store code) (inr memory) =
-        nothing (Store code) [] same (writes_nothing held written memory.1)
+        nothing group (Store code) part.0 same part.4
+        (inr (inr (inr (inr (inr (inl (record { output = full.0; unwritten = part.1; some_left = part.3; front = ap last_line is ∙ part.2; in_form = λ some. absurd (omega arith); after = after_none text [] [] same })))))))
+    fault_answered group number at is same (Store code) (inr memory) =
+        nothing group (Store code) [] same (writes_nothing held written memory.1)
         (inr (inr (inr (inr (inr (inr (record { memory = memory.0; no_part = refl; after = after_none text [] [] same })))))))

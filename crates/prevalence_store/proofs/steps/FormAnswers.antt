@@ -36,11 +36,11 @@ use Rattle.user_macros.specs.Functions.{Functions}
 use Rattle.prevalence_store.proofs.steps.Endings.{writes_nothing, part_of, after_one_form, after_none, nothing}
 
 -- if something comes first or last, there is something
-some_first : (xs ys : List ℕ) → xs ≢ [] → xs ++ ys ≢ []
+pub some_first : (xs ys : List ℕ) → xs ≢ [] → xs ++ ys ≢ []
 some_first [] ys some is = absurd (some refl)
 some_first (x ∷ xs) ys some is = absurd (cc)
 
-some_last : (xs : List ℕ) (y : ℕ) → xs ++ y ∷ [] ≢ []
+pub some_last : (xs : List ℕ) (y : ℕ) → xs ++ y ∷ [] ≢ []
 some_last [] y is = absurd (cc)
 some_last (x ∷ xs) y is = absurd (cc)
 
@@ -151,7 +151,7 @@ module _ (functions : Functions) where
 
     -- one form was taken, and not answered whole
     unfoldable taken_only : (far : Progress) (part : List ℕ) (number : ℕ) (n : ℕ) → after_forms functions 1 w mode text ≡ Some far → Writes held written part
-        → SurvivesAs functions state old new w far.taken n → Ends functions state old new w mode text held written 1 far 0 (begun w text) part (Store number)
+        → SurvivesAs functions state old new w far.taken n → Ends functions state old new w mode text held written 1 far 0 (begun w text) part false (Store number)
         → StopsInForm functions state old new w mode text held written number
     taken_only far part number n one writes survives ends = record {
       serves = record {
@@ -162,7 +162,7 @@ module _ (functions : Functions) where
         answered = begun w text;
         answered_is = refl;
         at_most = omega arith;
-        in_turn = omega arith;
+        in_turn = λ none. omega arith;
         part = part;
         output = writes;
         survives = λ here claims keeps. fewer_survive functions (state old.disk) (state new.disk) w far.taken n 0 new.world (survives here claims keeps) (omega arith);
@@ -194,7 +194,7 @@ module _ (functions : Functions) where
                 unwritten = part.1 ++ last_line (read_in functions far.world mode far.rest);
                 some_left = some_first part.1 (last_line (read_in functions far.world mode far.rest)) part.3;
                 front = unwritten_front far.lines line part.0 part.1 (last_line (read_in functions far.world mode far.rest)) same_line part.2;
-                in_form = λ one. (part.1, part.3, sym same_line ∙ part.2);
+                in_form = λ some. (far, one_is (Ok (done_of e given.0)) given.1, (part.1, part.3, sym same_line ∙ part.2));
                 after = after_stores e given.0 given.1 given.2;
               }))))))),
           inr (inl (refl, inl refl, (e.wrote, leaves e.wrote given.0 given.2))),
@@ -209,7 +209,7 @@ module _ (functions : Functions) where
                 unwritten = part.1 ++ last_line (read_in functions far.world mode far.rest);
                 some_left = some_first part.1 (last_line (read_in functions far.world mode far.rest)) part.3;
                 front = unwritten_front far.lines line part.0 part.1 (last_line (read_in functions far.world mode far.rest)) is_line.line_of part.2;
-                in_form = λ one. (part.1, part.3, sym is_line.line_of ∙ part.2);
+                in_form = λ some. (far, one_is (Err number) (of.cause w known), (part.1, part.3, sym is_line.line_of ∙ part.2));
                 after = after_none functions state sound old new w mode text held written known (drop next text) (refusal_line number) (number ∷ []) same;
               }))))))),
           inr (inl (refl, inl refl, (false, refused_leaves same))),
@@ -223,7 +223,7 @@ module _ (functions : Functions) where
     unfolding nothing
     out_of_memory number memory same quiet = (
       record {
-        serves = nothing functions state sound old new w mode text held written known (Store number) [] same (writes_nothing held written quiet)
+        serves = nothing functions state sound old new w mode text held written known false (Store number) [] same (writes_nothing held written quiet)
             (inr (inr (inr (inr (inr (inr (record { memory = memory; no_part = refl; after = after_none functions state sound old new w mode text held written known text [] [] same })))))));
         in_form = λ output. absurd (omega arith);
         accepted = refl;
@@ -255,13 +255,15 @@ module _ (functions : Functions) where
               (subst (λ (es : List LogRecord). SurvivesAs functions state old new w es 0) (sym taken) (of.survives w))
               (inl (record {
                 device = stop;
-                one_open = refl;
+                some_open = omega arith;
                 no_part = refl;
                 mid = old;
                 before = after_none functions state sound old old w mode text held held known text [] [] refl;
-                record_ = logged mode own;
-                was_accepted = taken;
-                fits = why.1;
+                entries = logged mode own ∷ [];
+                some = omega arith;
+                one_open = λ none. (refl, refl);
+                were_accepted = taken;
+                fits = let fits = why.1 in omega arith;
                 failed = failed;
               })),
           inr (inr (stop, refl, refl, λ i. record { generation = failed.generation i; record_count = failed.record_count i; size = failed.size i })),

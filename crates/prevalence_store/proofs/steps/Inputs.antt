@@ -53,7 +53,7 @@ module _ (functions : Functions) {D R : Type 0} (state : D → State) (wanted : 
   first = first_course wanted.snapshot_every
 
   -- a read failed
-  pub unread_input : ServesStrict functions state wanted.strict first old new w wanted.mode text held written (Store INPUT) → HasLeft had before text → Keeps before has
+  pub unread_input : ServesStrict functions state wanted first old new w wanted.mode text held written (Store INPUT) → HasLeft had before text → Keeps before has
       → ServesWanted functions state wanted old new w had has held written (ways.Store INPUT)
   unread_input (served, paced, accepted) left keeps = (
     record {
@@ -66,7 +66,7 @@ module _ (functions : Functions) {D R : Type 0} (state : D → State) (wanted : 
   )
 
   -- the input is at its end
-  pub ended_input : (ended : Ended) → EndsAt functions state wanted.strict first old new w wanted.mode text held written ended → HasLeft had before text → Consumes before has [] → IsAtEnd has
+  pub ended_input : (ended : Ended) → EndsAt functions state wanted first old new w wanted.mode text held written ended → HasLeft had before text → Consumes before has [] → IsAtEnd has
       → ServesWanted functions state wanted old new w had has held written ended
   ended_input ended at left took ends = by_ending ended at where
     -- nothing is left of what the reader had
@@ -77,7 +77,7 @@ module _ (functions : Functions) {D R : Type 0} (state : D → State) (wanted : 
         let none = at_end has then.0 then.1.0 ends in
         (one.1.1 ∙ ap (λ t. text ++ t) (then.1.1 ∙ none), then.1.0 ∙ ap (λ t. Some t) none)
 
-    by_ending : (e : Ended) → EndsAt functions state wanted.strict first old new w wanted.mode text held written e → ServesWanted functions state wanted old new w had has held written e
+    by_ending : (e : Ended) → EndsAt functions state wanted first old new w wanted.mode text held written e → ServesWanted functions state wanted old new w had has held written e
     by_ending ways.End (served, paced, accepted) = (
       record { text = text; serves = served; paced = paced; reads = λ all is. let none = none_left all is in ([], none.0, (refl, none.1)) },
       accepted,
@@ -94,7 +94,7 @@ module _ (functions : Functions) {D R : Type 0} (state : D → State) (wanted : 
     )
 
   -- the session ended before it
-  pub decided_input : (ended : Ended) → HasEndedAt functions state wanted.strict first old new w wanted.mode text held written ended → HasLeft had has text
+  pub decided_input : (ended : Ended) → HasEndedAt functions state wanted first old new w wanted.mode text held written ended → HasLeft had has text
       → ServesWanted functions state wanted old new w had has held written ended
   decided_input ways.End is left = absurd is
   decided_input (ways.Unreadable number place) (is, accepted, at) left = (
@@ -120,9 +120,9 @@ module _ (functions : Functions) {D R : Type 0} (state : D → State) (wanted : 
 
 -- a session that is not strict, as it is served
 pub as_served : (functions : Functions) {D R : Type 0} (state : D → State) (wanted : Wanted) (old new : StoreView D R) (w : WorldState) (held written : Option (List ℕ)) (had has : Option (List ℕ)) (ended : Ended) (ending : Ending)
-    → ServesWanted functions state wanted old new w had has held written ended → wanted.strict ≡ false → ending_of ended ≡ ending → ServesInput functions state wanted.snapshot_every old new w wanted.mode had has held written ending
-as_served functions state wanted old new w held written had has ways.End ending served strict is = subst (λ e. ServesInput functions state wanted.snapshot_every old new w wanted.mode had has held written e) is served.0
+    → ServesWanted functions state wanted old new w had has held written ended → wanted.strict ≡ false → ending_of ended ≡ ending → ServesInput functions state wanted.group wanted.snapshot_every old new w wanted.mode had has held written ending
+as_served functions state wanted old new w held written had has ways.End ending served strict is = subst (λ e. ServesInput functions state wanted.group wanted.snapshot_every old new w wanted.mode had has held written e) is served.0
 as_served functions state wanted old new w held written had has (ways.Unreadable number place) ending served strict is =
-    subst (λ e. ServesInput functions state wanted.snapshot_every old new w wanted.mode had has held written e) is served.0
+    subst (λ e. ServesInput functions state wanted.group wanted.snapshot_every old new w wanted.mode had has held written e) is served.0
 as_served functions state wanted old new w held written had has (ways.Unaccepted number place) ending served strict is = let is_strict = served.0 in absurd (cc)
-as_served functions state wanted old new w held written had has (ways.Store number) ending served strict is = subst (λ e. ServesInput functions state wanted.snapshot_every old new w wanted.mode had has held written e) is served.0
+as_served functions state wanted old new w held written had has (ways.Store number) ending served strict is = subst (λ e. ServesInput functions state wanted.group wanted.snapshot_every old new w wanted.mode had has held written e) is served.0

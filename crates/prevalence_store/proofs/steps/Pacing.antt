@@ -77,7 +77,7 @@ module _ (functions : Functions) (limit : ℕ) where
     ends_after m forms far lines answered now (Store number) (inr (inr (inl is))) = inr (inr (inl (record { made = room_after far now is.made; why = is.why })))
     ends_after m forms far lines answered now (Store number) (inr (inr (inr is))) = inr (inr (inr (record {
       device = is.device;
-      one_open = let one = is.one_open in omega arith;
+      some_open = let some = is.some_open in omega arith;
       before = before_both is.before;
     }))) where
       before_both : IsPaced functions limit pr.world q g answered.taken now ⊎ HasMadeRoom functions limit pr.world q g mode answered now
@@ -154,18 +154,18 @@ module _ (functions : Functions) (limit : ℕ) where
             by_why (inr memory) = inr (inl memory)
 
       -- the device failed in it
-      record_ends : (forms lines : ℕ) (answered far : Progress) → HasReadied w mode text start middle → number ≡ DEVICE → forms ≡ lines + 1 → answered ≡ begun w text → now ≡ middle
+      record_ends : (forms lines : ℕ) (answered far : Progress) → HasReadied w mode text start middle → number ≡ DEVICE → lines < forms → answered ≡ begun w text → now ≡ middle
           → EndsInPace functions limit w pace start mode forms far lines answered now (Store number)
       record_ends forms lines answered far ready device still_open none same =
           subst (λ (p : Progress). EndsInPace functions limit w pace start mode forms far lines p now (Store number)) (sym none)
-          (inr (inr (inr (record { device = device; one_open = still_open; before = by_ready ready })))) where
+          (inr (inr (inr (record { device = device; some_open = still_open; before = by_ready ready })))) where
             by_ready : HasReadied w mode text start middle → IsPaced functions limit w pace start (begun w text).taken now ⊎ HasMadeRoom functions limit w pace start mode (begun w text) now
             by_ready (inl kept) = inl (pace, (refl, same ∙ kept))
             by_ready (inr over) = inr (record { later = pace; before = start; paced = (refl, refl); next = over.0; begun = same ∙ over.1 })
 
       -- the session ended in it
       pub try_ends : (forms lines more_forms more_lines : ℕ) (answered far : Progress) → HasReadied w mode text start middle → after_forms functions forms w mode text ≡ Some far
-          → (forms ≡ lines + 1 → more_forms ≡ more_lines + 1)
+          → (forms ≡ lines + 1 → more_lines < more_forms)
           → ((number ≡ NO_MEMORY) × (far ≡ begun w text) × (now ≡ middle))
           ⊎ (((forms ≡ 1) × ((number ≡ OUTPUT) ⊎ (number ≡ NO_MEMORY)) × ((wrote : Bool) × LeavesRecord (LogsAtOnce limit middle now) far.taken middle now wrote))
           ⊎ ((number ≡ DEVICE) × (forms ≡ lines + 1) × (answered ≡ begun w text) × (now ≡ middle)))
@@ -185,22 +185,22 @@ module _ (functions : Functions) {D R : Type 0} (state : D → State) (sound : (
   same_fill same = ap (λ (s : StoreView D R). fill_of s) same
 
   -- the answer to a refusal of the reader
-  pub fault_paced : (number at : ℕ) (is : read_in functions w mode text ≡ refused number at) (same : new ≡ old) (ending : Ending) (answers : AnswersFault number held written ending) (pace : Pace)
-      → ServesInPace functions state pace old new w mode text held written ending (fault_answered functions state sound old new w mode text held written known number at is same ending answers)
+  pub fault_paced : (group : Bool) (number at : ℕ) (is : read_in functions w mode text ≡ refused number at) (same : new ≡ old) (ending : Ending) (answers : AnswersFault number held written ending) (pace : Pace)
+      → ServesInPace functions state pace old new w mode text held written ending (fault_answered functions state sound old new w mode text held written known group number at is same ending answers)
   unfolding fault_answered nothing
-  fault_paced number at is same End answers pace = absurd answers
-  fault_paced number at is same (Reader code) answers pace = (pace, (refl, same_fill same))
-  fault_paced number at is same (Store code) (inl full) pace =
+  fault_paced group number at is same End answers pace = absurd answers
+  fault_paced group number at is same (Reader code) answers pace = (pace, (refl, same_fill same))
+  fault_paced group number at is same (Store code) (inl full) pace =
       inl (record { paced = (pace, (refl, same_fill same)); other = λ other. let output = full.0 in absurd (omega arith); fault = λ device. let output = full.0 in absurd (omega arith) })
-  fault_paced number at is same (Store code) (inr memory) pace =
+  fault_paced group number at is same (Store code) (inr memory) pace =
       inl (record { paced = (pace, (refl, same_fill same)); other = λ other. let out = memory.0 in absurd (omega arith); fault = λ device. let out = memory.0 in absurd (omega arith) })
 
-  pub no_memory_paced : (same : new ≡ old) (quiet : written ≡ held) (pace : Pace)
-      → ServesInPace functions state pace old new w mode text held written (Store NO_MEMORY) (no_memory functions state sound old new w mode text held written known same quiet)
+  pub no_memory_paced : (group : Bool) (same : new ≡ old) (quiet : written ≡ held) (pace : Pace)
+      → ServesInPace functions state pace old new w mode text held written (Store NO_MEMORY) (no_memory functions state sound old new w mode text held written known group same quiet)
   unfolding no_memory nothing
-  no_memory_paced same quiet pace = inl (record { paced = (pace, (refl, same_fill same)); other = λ other. absurd (omega arith); fault = λ device. absurd (omega arith) })
+  no_memory_paced group same quiet pace = inl (record { paced = (pace, (refl, same_fill same)); other = λ other. absurd (omega arith); fault = λ device. absurd (omega arith) })
 
-  pub done_paced : (same : new ≡ old) (quiet : written ≡ held) (is : empty ≡ read_in functions w mode text) (pace : Pace)
-      → ServesInPace functions state pace old new w mode text held written End (done functions state sound old new w mode text held written known same quiet is)
+  pub done_paced : (group : Bool) (same : new ≡ old) (quiet : written ≡ held) (is : empty ≡ read_in functions w mode text) (pace : Pace)
+      → ServesInPace functions state pace old new w mode text held written End (done functions state sound old new w mode text held written known group same quiet is)
   unfolding done nothing
-  done_paced same quiet is pace = (pace, (refl, same_fill same))
+  done_paced group same quiet is pace = (pace, (refl, same_fill same))

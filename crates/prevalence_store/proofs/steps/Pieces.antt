@@ -11,14 +11,13 @@ use Rattle.form_reader.specs.Reader.{fed}
 use Rattle.lisp_reading.specs.Reading.{form}
 use Rattle.prevalence_store.specs.declared.session.input.Pending.{Pending}
 use Rattle.prevalence_store.specs.declared.mode.Mode.{Mode}
-use Rattle.prevalence_store.specs.declared.outcome.Ending.{Ending}
 use Rattle.prevalence_store.specs.declared.outcome.Ending.TheVariants.{End}
 use Rattle.prevalence_store.specs.meaning.Acceptance.{between, read_in, setting_in}
 use Rattle.user_macros.specs.Functions.{Functions}
 use Rattle.prevalence_store.specs.meaning.Answers.{Progress, after_forms, evaluated, one_form}
+use Rattle.prevalence_store.specs.steps.Gather.{BeginsWhole}
 use Rattle.prevalence_store.specs.steps.Input.{HasForm, IsLastForm, IsPending}
-use Rattle.prevalence_store.specs.calls.Pace.{Pace}
-use Rattle.prevalence_store.specs.calls.Serve.{Advances, Serves, ServesInPace}
+use Rattle.prevalence_store.specs.calls.Serve.{Advances}
 use Rattle.prevalence_store.specs.calls.Store.{StoreView}
 use Rattle.prevalence_store.specs.steps.Serve.{GoesOn, MovesOn, ServesStrict}
 use Rattle.prevalence_store.specs.declared.outcome.Wanted.{Wanted}
@@ -34,24 +33,18 @@ abbrev pub longer : Progress → List ℕ → Progress
 longer far more = record far { rest = far.rest ++ more }
 
 -- the places of a form are the same in a text that goes on
-between_more : (start stop : ℕ) (text more : List ℕ) → start ≤ stop → stop ≤ length text → between start stop (text ++ more) ≡ between start stop text
+pub between_more : (start stop : ℕ) (text more : List ℕ) → start ≤ stop → stop ≤ length text → between start stop (text ++ more) ≡ between start stop text
 between_more start stop text more order within =
     let room : stop - start ≤ length (drop start text) = rw (length-drop start text) (omega arith) in
     ap (take (stop - start)) (drop-append-le start text more (omega arith)) ∙ take-append-le (stop - start) (drop start text) more room
 
-longer_evaluated : (w : WorldState) (mode : Mode) (own rest more : List ℕ) (given : Evaluation Object) → evaluated w mode own (rest ++ more) given ≡ longer (evaluated w mode own rest given) more
+pub longer_evaluated : (w : WorldState) (mode : Mode) (own rest more : List ℕ) (given : Evaluation Object) → evaluated w mode own (rest ++ more) given ≡ longer (evaluated w mode own rest given) more
 longer_evaluated w mode own rest more (Ok done) = refl
 longer_evaluated w mode own rest more (Err number) = refl
 
 rest_evaluated : (w : WorldState) (mode : Mode) (own rest : List ℕ) (given : Evaluation Object) → (evaluated w mode own rest given).rest ≡ rest
 rest_evaluated w mode own rest (Ok done) = refl
 rest_evaluated w mode own rest (Err number) = refl
-
--- a session, and how far its snapshots have come
-abbrev pub InPace : (functions : Functions) {D R : Type 0} (state : D → State) (pace : Pace) (old new : StoreView D R) (world : WorldState) (mode : Mode) (text : List ℕ)
-    (held written : Option (List ℕ)) (ending : Ending) → Type 0
-InPace functions state pace old new world mode text held written ending =
-    (served : Serves functions state old new world mode text held written ending) × ServesInPace functions state pace old new world mode text held written ending served
 
 -- ---- a piece, and what of it was fed
 
@@ -72,6 +65,13 @@ piece_left bytes piece n next count is some within =
 abbrev pub to_take : (before many : ℕ) → ℕ
 to_take zero many = many + many
 to_take (suc n) many = suc (many + many)
+
+-- more of them were taken
+pub moves_further : (before after many count more : ℕ) → MovesOn before after many (Ok count) → count + more ≤ many → MovesOn before after many (Ok (count + more))
+moves_further before after many count more moves within = (within, omega (arith, moves.1), by_first moves.2) where
+  by_first : (0 < count) ⊎ ((0 < before) × (after ≡ 0)) → (0 < count + more) ⊎ ((0 < before) × (after ≡ 0))
+  by_first (inl some) = inl (omega (arith, some))
+  by_first (inr first) = inr first
 
 -- the own text of a form, as a slice of the same bytes
 pub begins_as : (functions : Functions) (w : WorldState) (mode : Mode) (text : List ℕ) (x : Object) (own slice : List ℕ) (next : ℕ) (begins : BeginsWith functions w mode text x own next) → slice ≡ own → BeginsWith functions w mode text x slice next
@@ -141,6 +141,24 @@ module _ (functions : Functions) (w : WorldState) (mode : Mode) (pending : Pendi
         let all = has.next_is in
         omega arith
 
+    -- a form that the piece begins with, whatever follows it
+    pub whole_begins : (to : ℕ) → has.next ≡ to → BeginsWhole functions w mode (bytes ++ piece) x own to × (drop to (bytes ++ piece) ≡ drop count piece)
+    whole_begins to to_is =
+        let places = stop_within in
+        let cut : (bytes ++ take n piece) ++ drop n piece ≡ bytes ++ piece = piece_whole bytes piece n in
+        let next : to ≡ length bytes + count = sym to_is ∙ next_is in (
+          record {
+            start = has.start;
+            stop = has.stop;
+            reads = λ more.
+                ap (read_in functions w mode) (ap (λ t. t ++ more) (sym cut) ∙ append_assoc (bytes ++ take n piece) (drop n piece) more ∙ ap (λ t. t ++ (drop n piece ++ more)) (sym fed_is))
+                ∙ has.reads (drop n piece ++ more) ∙ ap (λ m. form x has.start has.stop m) to_is;
+            is_own = has.is_own ∙ sym (own_again (drop n piece)) ∙ ap (λ t. between has.start has.stop (t ++ drop n piece)) fed_is ∙ ap (between has.start has.stop) cut;
+            within = omega (arith, next, length-append bytes piece, taken, within);
+          },
+          ap (λ m. drop m (bytes ++ piece)) next ∙ drop-append-add bytes piece count,
+        )
+
     pub form_takes : (old : Pending) → IsPending functions w mode old bytes → MovesOn (fed old.reader) (fed pending.reader) (length piece) (Ok count)
     form_takes old before = (omega arith, rw none (omega arith), by_count count next_is) where
       none : fed pending.reader ≡ 0
@@ -191,7 +209,7 @@ module _ (functions : Functions) (w : WorldState) (mode : Mode) (text : List ℕ
 
   -- it was answered, and nothing is left
   pub ended_form : {D R : Type 0} (state : D → State) (wanted : Wanted) → wanted.mode ≡ mode → (course later : Course) (old new : StoreView D R) (a b : Option (List ℕ)) (start next : ℕ) (refusals : List ℕ)
-      → PassesForm functions state course later old new w wanted text a b start next refusals → (wanted.strict ≡ true → refusals ≡ []) → ServesStrict functions state wanted.strict course old new w mode text a b End
+      → PassesForm functions state course later old new w wanted text a b start next refusals → (wanted.strict ≡ true → refusals ≡ []) → ServesStrict functions state wanted course old new w mode text a b End
   ended_form state wanted same_mode course later old new a b start next refusals passes accepted =
       let far : Progress = passes.far in
       let advances = subst (λ (m : Mode). Advances functions state old new w m text a b 1 far) same_mode passes.advances in (
@@ -203,7 +221,7 @@ module _ (functions : Functions) (w : WorldState) (mode : Mode) (text : List ℕ
           answered = far;
           answered_is = advances.far_is;
           at_most = omega arith;
-          in_turn = omega arith;
+          in_turn = λ none. omega arith;
           part = [];
           output = subst (Writes a b) (sym (append-nil far.lines)) advances.lines;
           survives = advances.survives;

@@ -133,10 +133,10 @@ module _ (functions : Functions) (limit : ℕ) where
         pub made : HasMadeRoom mode far now
         pub why : (number ≡ LOG_FULL) ⊎ (number ≡ NO_MEMORY)
 
-      -- the device failed as the last of them was logged; those before it were answered
+      -- the device failed as the last of them were logged; those before these were answered
       pub record EndsInRecord (number : ℕ) : Type 0 where
         pub device : number ≡ DEVICE
-        pub one_open : forms ≡ lines + 1
+        pub some_open : lines < forms
         pub before : IsPaced answered.taken now ⊎ HasMadeRoom mode answered now
 
       abbrev pub EndsInPace : Ending → Type 0

@@ -1,10 +1,10 @@
 -- How a session goes, and how it ends: one relation, with a case for each ending.
-use Rattle.std.specs.Prelude.{◌≡◌, ◌≢◌, ◌⊎◌, ℕ, zero, suc, ◌+◌, ◌-◌, ◌≤◌, max, List, [], ◌∷◌, ◌++◌, length, take, drop, Option, Some, Err, true, false}
+use Rattle.std.specs.Prelude.{◌≡◌, ◌≢◌, ◌⊎◌, ℕ, zero, suc, ◌+◌, ◌-◌, ◌<◌, ◌≤◌, max, List, [], ◌∷◌, ◌++◌, length, take, drop, Option, Some, Err, Bool, true, false}
 use Rattle.std.specs.List.{sum_by}
 use Rattle.disk_trait.specs.Disk.{State, IsHonest}
 use Rattle.disk_trait.specs.Half.{opposite_of}
 use Rattle.disk_trait.specs.declared.half.Half.{Half}
-use Rattle.gate_log.specs.Layout.{Contents, LogRecord, written_version}
+use Rattle.gate_log.specs.Layout.{Contents, LogRecord, with_records, written_version}
 use Rattle.lisp_object.specs.declared.refusal.TheConstants.{DEVICE, LOG_FULL, SNAPSHOT_TOO_LARGE, INPUT, OUTPUT, NO_MEMORY}
 use Rattle.prevalence_store.specs.declared.mode.Mode.{Mode}
 use Rattle.prevalence_store.specs.declared.outcome.Ended.{Ended}
@@ -28,10 +28,6 @@ use Rattle.prevalence_store.specs.calls.Streams.{Writes}
 use Rattle.plist_state.specs.State.{WorldState}
 use Rattle.world_text.specs.Snapshot.{snapshot}
 use Rattle.user_macros.specs.Functions.{Functions}
-
--- the contents with these records more
-abbrev pub with_entries : Contents → List LogRecord → Contents
-with_entries k entries = record k { entries = k.entries ++ entries }
 
 -- the bytes that these records take in a half
 abbrev pub room_of : List LogRecord → ℕ
@@ -57,7 +53,7 @@ module _ {D R : Type 0} (state : D → State) (old new : StoreView D R) where
     -- each record had room
     pub fits : new.size ≤ max old.size old.limit
     pub described : (k : Contents) → IsHonest (state old.disk) → Describes old k (state old.disk).reads
-        → Describes new (with_entries k taken) (state new.disk).reads
+        → Describes new (with_records k taken) (state new.disk).reads
     -- the half that is not in use is left alone
     pub other : IsHonest (state old.disk) → LeavesAlone (opposite_of old.half) (state old.disk) (state new.disk)
     -- forms that leave no record leave all as it was, the disk too
@@ -125,18 +121,20 @@ module _ (functions : Functions) {D R : Type 0} (state : D → State) (old new :
         pub line : part ≡ refusal_line number
         pub after : IsAfter functions state old new world far
 
-      -- The device failed in the last form, which was accepted and had room for its record; it was not answered, and nothing is
-      -- known of the world.
-      pub record IsStopped (number : ℕ) : Type 0 where
+      -- The device failed as the last forms were logged, which had room for their records; they were not answered, and nothing is
+      -- known of the world. It is one form, if the session has no groups.
+      pub record IsStopped (group : Bool) (number : ℕ) : Type 0 where
         pub device : number ≡ DEVICE
-        pub one_open : forms ≡ lines + 1
+        pub some_open : lines < forms
         pub no_part : part ≡ []
-        -- the store as that form was taken
+        -- the store as the first of them was taken
         pub mid : StoreView D R
         pub before : IsAfter functions state old mid world answered
-        pub record_ : LogRecord
-        pub was_accepted : far.taken ≡ answered.taken ++ record_ ∷ []
-        pub fits : mid.size + (6 + length record_.text) ≤ mid.limit
+        pub entries : List LogRecord
+        pub some : 0 < length entries
+        pub one_open : group ≡ false → (forms ≡ lines + 1) × (length entries ≡ 1)
+        pub were_accepted : far.taken ≡ answered.taken ++ entries
+        pub fits : mid.size + room_of entries ≤ mid.limit
         pub failed : DeviceFails state mid new (opposite_of mid.half)
 
       -- The device failed in a snapshot, for which there was a half; all forms were answered, and nothing is known of the world.
@@ -181,13 +179,14 @@ module _ (functions : Functions) {D R : Type 0} (state : D → State) (old new :
         pub after : IsAfter functions state old new world far
 
       -- A write failed, or took nothing: the lines so far are the first part of what was to be written. The line that was begun is
-      -- that of the last form, if it was not answered, and else that of a refusal of the reader.
+      -- that of the next form, if one was not answered, and else that of a refusal of the reader.
       pub record IsUnwritten (number : ℕ) : Type 0 where
         pub output : number ≡ OUTPUT
         pub unwritten : List ℕ
         pub some_left : unwritten ≢ []
         pub front : far.lines ++ last_line (read_in functions far.world mode far.rest) ≡ answered.lines ++ part ++ unwritten
-        pub in_form : forms ≡ lines + 1 → (rest : List ℕ) × (rest ≢ []) × (far.lines ≡ answered.lines ++ part ++ rest)
+        pub in_form : lines < forms → (next : Progress) × (after_forms functions (lines + 1) world mode text ≡ Some next)
+            × ((rest : List ℕ) × (rest ≢ []) × (next.lines ≡ answered.lines ++ part ++ rest))
         pub after : IsAfter functions state old new world far
 
       -- a growth was refused
@@ -196,16 +195,16 @@ module _ (functions : Functions) {D R : Type 0} (state : D → State) (old new :
         pub no_part : part ≡ []
         pub after : IsAfter functions state old new world far
 
-      abbrev pub Ends : Ending → Type 0
-      Ends End = IsDone
-      Ends (Reader number) = IsRefused number
-      Ends (Store number) =
-          IsStopped number ⊎ (IsStoppedInSnapshot number ⊎ (IsFull number ⊎ (IsTooLargeToRenew number
+      abbrev pub Ends : Bool → Ending → Type 0
+      Ends group End = IsDone
+      Ends group (Reader number) = IsRefused number
+      Ends group (Store number) =
+          IsStopped group number ⊎ (IsStoppedInSnapshot number ⊎ (IsFull number ⊎ (IsTooLargeToRenew number
           ⊎ (IsUnread number ⊎ (IsUnwritten number ⊎ IsOutOfMemory number)))))
 
     -- A session over this text: its first forms were taken, each read in the world that the ones before it left, in this mode,
-    -- and logged by its own text if it was accepted. Each was answered before the next was taken.
-    pub record Serves (ending : Ending) : Type 0 where
+    -- and logged by its own text if it was accepted. If the session has no groups, each was answered before the next was taken.
+    pub record Serves (group : Bool) (ending : Ending) : Type 0 where
       pub forms : ℕ
       pub far : Progress
       pub far_is : after_forms functions forms world mode text ≡ Some far
@@ -214,12 +213,12 @@ module _ (functions : Functions) {D R : Type 0} (state : D → State) (old new :
       pub answered : Progress
       pub answered_is : after_forms functions lines world mode text ≡ Some answered
       pub at_most : lines ≤ forms
-      pub in_turn : forms ≤ lines + 1
+      pub in_turn : group ≡ false → forms ≤ lines + 1
       -- and a part of the next line was written
       pub part : List ℕ
       pub output : Writes held written (answered.lines ++ part)
       pub survives : SurvivesAs functions state old new world far.taken (length answered.taken)
-      pub ends : Ends forms far lines answered part ending
+      pub ends : Ends forms far lines answered part group ending
 
 -- After these forms the reader refuses what is left of the text with this number, and with more after it too; and the forms are
 -- the same then.
@@ -231,8 +230,8 @@ StaysRefused functions world mode text forms far number = (more : List ℕ)
 -- How much a session has read when it ends: at the end of the input all of it; at a refusal of the reader, also if the output
 -- failed in the line of it, all of it, or so much that what follows makes no difference; else what the reader has left is what
 -- was not read.
-abbrev pub HasRead : (functions : Functions) {D R : Type 0} (state : D → State) (old new : StoreView D R) (world : WorldState) (mode : Mode) (text : List ℕ)
-    (held written : Option (List ℕ)) (ending : Ending) → Serves functions state old new world mode text held written ending → List ℕ → Option (List ℕ) → Type 0
+abbrev pub HasRead : (functions : Functions) {D R : Type 0} {group : Bool} (state : D → State) (old new : StoreView D R) (world : WorldState) (mode : Mode) (text : List ℕ)
+    (held written : Option (List ℕ)) (ending : Ending) → Serves functions state old new world mode text held written group ending → List ℕ → Option (List ℕ) → Type 0
 HasRead functions state old new world mode text held written End served left reader = (left ≡ []) × (reader ≡ Some left)
 HasRead functions state old new world mode text held written (Reader number) served left reader =
     ((left ≡ []) ⊎ StaysRefused functions world mode text served.forms served.far number) × (reader ≡ Some left)
@@ -241,16 +240,16 @@ HasRead functions state old new world mode text held written (Store number) serv
     × (reader ≡ Some left)
 
 -- how far the snapshots had come as a session ended that began at this pace
-abbrev pub ServesInPace : (functions : Functions) {D R : Type 0} (state : D → State) (pace : Pace) (old new : StoreView D R) (world : WorldState) (mode : Mode) (text : List ℕ)
-    (held written : Option (List ℕ)) (ending : Ending) → Serves functions state old new world mode text held written ending → Type 0
+abbrev pub ServesInPace : (functions : Functions) {D R : Type 0} {group : Bool} (state : D → State) (pace : Pace) (old new : StoreView D R) (world : WorldState) (mode : Mode) (text : List ℕ)
+    (held written : Option (List ℕ)) (ending : Ending) → Serves functions state old new world mode text held written group ending → Type 0
 ServesInPace functions state pace old new world mode text held written ending served =
     EndsInPace functions old.limit world pace (fill_of old) mode served.forms served.far served.lines served.answered (fill_of new) ending
 
--- A session over what a reader gives, with a snapshot after every so many forms that were logged: what the reader had is what was
--- read and what is left.
-pub record ServesInput (functions : Functions) {D R : Type 0} (state : D → State) (every : ℕ) (old new : StoreView D R) (world : WorldState) (mode : Mode) (had has held written : Option (List ℕ)) (ending : Ending) : Type 0 where
+-- A session over what a reader gives, with a snapshot after every so many forms that were logged, with groups or without: what the reader
+-- had is what was read and what is left.
+pub record ServesInput (functions : Functions) {D R : Type 0} (state : D → State) (group : Bool) (every : ℕ) (old new : StoreView D R) (world : WorldState) (mode : Mode) (had has held written : Option (List ℕ)) (ending : Ending) : Type 0 where
   pub text : List ℕ
-  pub serves : Serves functions state old new world mode text held written ending
+  pub serves : Serves functions state old new world mode text held written group ending
   pub paced : ServesInPace functions state (first_pace every) old new world mode text held written ending serves
   pub reads : (all : List ℕ) → had ≡ Some all
       → (left : List ℕ) × (all ≡ text ++ left) × HasRead functions state old new world mode text held written ending serves left has
@@ -308,7 +307,7 @@ module _ (functions : Functions) {D R : Type 0} (state : D → State) (old new :
     pub begins : place.start ≡ place.at
 
   -- The reader refused what was left, at this place, and what it refused begins just where the place says.
-  abbrev pub RefusesAt : (forms_before bytes_before number : ℕ) → Serves functions state old new world mode text held written (Reader number) → Place → Type 0
+  abbrev pub RefusesAt : {group : Bool} (forms_before bytes_before number : ℕ) → Serves functions state old new world mode text held written group (Reader number) → Place → Type 0
   RefusesAt forms_before bytes_before number served place =
       (at : ℕ) × (read_in functions served.far.world mode served.far.rest ≡ refused number at) × IsPlace forms_before bytes_before served.forms text served.far.rest at place
       × (place.start + length served.far.rest ≡ bytes_before + length text + refused_from functions served.far.world mode served.far.rest)
@@ -318,10 +317,10 @@ module _ (functions : Functions) {D R : Type 0} (state : D → State) (old new :
 -- and if it is strict all forms whose lines were written whole were accepted, but the one at which it ended.
 abbrev pub ServesWanted : (functions : Functions) {D R : Type 0} (state : D → State) (wanted : Wanted) (old new : StoreView D R) (world : WorldState) (had has held written : Option (List ℕ)) → Ended → Type 0
 ServesWanted functions state wanted old new world had has held written ways.End =
-    (served : ServesInput functions state wanted.snapshot_every old new world wanted.mode had has held written End)
+    (served : ServesInput functions state wanted.group wanted.snapshot_every old new world wanted.mode had has held written End)
     × (wanted.strict ≡ true → served.serves.answered.refused ≡ [])
 ServesWanted functions state wanted old new world had has held written (ways.Unreadable number place) =
-    (served : ServesInput functions state wanted.snapshot_every old new world wanted.mode had has held written (Reader number))
+    (served : ServesInput functions state wanted.group wanted.snapshot_every old new world wanted.mode had has held written (Reader number))
     × (wanted.strict ≡ true → served.serves.answered.refused ≡ [])
     × RefusesAt functions state old new world wanted.mode served.text held written (first_pace wanted.snapshot_every) 0 0 number served.serves place
 ServesWanted functions state wanted old new world had has held written (ways.Unaccepted number place) =
@@ -329,5 +328,5 @@ ServesWanted functions state wanted old new world had has held written (ways.Una
     × StopsStrict functions state old new world wanted.mode text held written (first_pace wanted.snapshot_every) 0 0 number place
     × ((all : List ℕ) → had ≡ Some all → (left : List ℕ) × (all ≡ text ++ left) × (has ≡ Some left))
 ServesWanted functions state wanted old new world had has held written (ways.Store number) =
-    (served : ServesInput functions state wanted.snapshot_every old new world wanted.mode had has held written (Store number))
+    (served : ServesInput functions state wanted.group wanted.snapshot_every old new world wanted.mode had has held written (Store number))
     × (wanted.strict ≡ true → served.serves.answered.refused ≡ [])

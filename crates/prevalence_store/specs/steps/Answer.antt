@@ -71,7 +71,7 @@ TellsForm functions world mode text far (Refused number) = (far.refused ≡ numb
 module _ (functions : Functions) {D R : Type 0} (state : D → State) (old new : StoreView D R) (world : WorldState) (mode : Mode) where
   -- The session has ended in a form, with this number: if the output failed, in the line of that form.
   pub record StopsInForm (text : List ℕ) (held written : Option (List ℕ)) (number : ℕ) : Type 0 where
-    pub serves : Serves functions state old new world mode text held written (Store number)
+    pub serves : Serves functions state old new world mode text held written false (Store number)
     pub in_form : number ≡ OUTPUT → serves.forms ≡ serves.lines + 1
     -- what was answered whole was accepted
     pub accepted : serves.answered.refused ≡ []

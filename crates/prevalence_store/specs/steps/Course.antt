@@ -21,6 +21,10 @@ first_course every = record { pace = first_pace every; forms = 0; bytes = 0 }
 abbrev pub pass : ℕ → Course → Course
 pass bytes course = record { pace = course.pace; forms = course.forms + 1; bytes = course.bytes + bytes }
 
+-- so many forms more, which took so many bytes
+abbrev pub pass_all : ℕ → ℕ → Course → Course
+pass_all forms bytes course = record { pace = course.pace; forms = course.forms + forms; bytes = course.bytes + bytes }
+
 -- from one to the other so many forms of this text were answered, and this is left of it
 pub record Comes (from to : Course) (forms : ℕ) (text left : List ℕ) : Type 0 where
   pub forms_are : to.forms ≡ forms + from.forms

@@ -12,6 +12,13 @@ failure_number Full = LOG_FULL
 failure_number DeviceFault = DEVICE
 failure_number OutOfMemory = NO_MEMORY
 
+-- evaluation refused it
+abbrev pub is_refusal : Failure → Bool
+is_refusal (Refused number) = true
+is_refusal Full = false
+is_refusal DeviceFault = false
+is_refusal OutOfMemory = false
+
 abbrev pub is_device : Failure → Bool
 is_device (Refused number) = false
 is_device Full = false

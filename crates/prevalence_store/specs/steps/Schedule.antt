@@ -1,5 +1,5 @@
 -- The snapshots of a session, by its schedule.
-use Rattle.std.specs.Prelude.{◌≡◌, ◌⊎◌, ℕ, Bool, true, false, Option, None, Some, Ok, Err, Result}
+use Rattle.std.specs.Prelude.{◌≡◌, ◌⊎◌, ℕ, zero, suc, ◌<◌, ◌≤◌, Bool, true, false, Option, None, Some, Ok, Err, Result}
 use Rattle.disk_trait.specs.Disk.{State}
 use Rattle.prevalence_store.specs.declared.session.schedule.Schedule.{Schedule}
 use Rattle.prevalence_store.specs.calls.Pace.{Counts, IsDue, Pace}
@@ -11,6 +11,17 @@ use Rattle.user_macros.specs.Functions.{Functions}
 -- the pace that a session is at
 abbrev pub pace_of : Schedule → Pace
 pace_of schedule = record { every = schedule.every; left = schedule.left }
+
+-- ---- many forms at once
+
+-- so many forms may be logged one after the other, and no snapshot is due after any of them
+abbrev pub IsBeforeDue : Pace → ℕ → Type 0
+IsBeforeDue pace count = (count < pace.left) ⊎ ((count ≡ 0) ⊎ ((pace.left ≤ 1) × (pace.every ≡ 0)))
+
+-- they were counted
+abbrev pub CountsAll : ℕ → Pace → Pace → Type 0
+CountsAll zero pace later = later ≡ pace
+CountsAll (suc count) pace later = (counted : Pace) × Counts pace counted × (IsDue pace → ⊥) × CountsAll count counted later
 
 -- ---- a snapshot in a session
 

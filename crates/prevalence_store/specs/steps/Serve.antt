@@ -7,6 +7,7 @@ use Rattle.prevalence_store.specs.declared.mode.Mode.{Mode}
 use Rattle.prevalence_store.specs.declared.outcome.Ended.{Ended}
 use Rattle.prevalence_store.specs.declared.outcome.Ended.TheVariants as ways
 use Rattle.prevalence_store.specs.declared.outcome.Place.{Place}
+use Rattle.prevalence_store.specs.declared.outcome.Wanted.{Wanted}
 use Rattle.prevalence_store.specs.declared.outcome.Ending.{Ending}
 use Rattle.prevalence_store.specs.declared.outcome.Ending.TheVariants.{End, Reader, Store}
 use Rattle.prevalence_store.specs.meaning.Answers.{Progress, after_forms}
@@ -49,25 +50,25 @@ pub record GoesOn (functions : Functions) {D R : Type 0} (state : D → State) (
 module _ (functions : Functions) {D R : Type 0} (state : D → State) (pace : Pace) (old new : StoreView D R) (world : WorldState) (mode : Mode) (text : List ℕ) (held written : Option (List ℕ)) where
   -- a refusal of the reader stays one, whatever follows the text, also if the output failed in the line of it; the end of the
   -- input is not told by a text that may go on
-  abbrev pub StaysEnded : (ending : Ending) → Serves functions state old new world mode text held written ending → Type 0
+  abbrev pub StaysEnded : {group : Bool} (ending : Ending) → Serves functions state old new world mode text held written group ending → Type 0
   StaysEnded End served = ⊥
   StaysEnded (Reader number) served = StaysRefused functions world mode text served.forms served.far number
   StaysEnded (Store number) served =
       number ≡ OUTPUT → served.lines ≡ served.forms → (refusal : ℕ) × StaysRefused functions world mode text served.forms served.far refusal
 
   -- the session has ended
-  pub record HasEnded (ending : Ending) : Type 0 where
-    pub serves : Serves functions state old new world mode text held written ending
+  pub record HasEnded (group : Bool) (ending : Ending) : Type 0 where
+    pub serves : Serves functions state old new world mode text held written group ending
     pub paced : ServesInPace functions state pace old new world mode text held written ending serves
     pub stays : StaysEnded ending serves
 
-module _ (functions : Functions) {D R : Type 0} (state : D → State) (strict : Bool) (course : Course) (old new : StoreView D R) (world : WorldState) (mode : Mode) (text : List ℕ) (held written : Option (List ℕ)) where
+module _ (functions : Functions) {D R : Type 0} (state : D → State) (wanted : Wanted) (course : Course) (old new : StoreView D R) (world : WorldState) (mode : Mode) (text : List ℕ) (held written : Option (List ℕ)) where
   -- a session over the text, and how far its snapshots have come; if it is strict, what was answered was accepted
   abbrev pub ServesStrict : Ending → Type 0
   ServesStrict ending =
-      (served : Serves functions state old new world mode text held written ending)
+      (served : Serves functions state old new world mode text held written wanted.group ending)
       × ServesInPace functions state course.pace old new world mode text held written ending served
-      × (strict ≡ true → served.answered.refused ≡ [])
+      × (wanted.strict ≡ true → served.answered.refused ≡ [])
 
   -- the same, with the place of a refusal
   abbrev pub EndsAt : Ended → Type 0
@@ -75,31 +76,31 @@ module _ (functions : Functions) {D R : Type 0} (state : D → State) (strict : 
   EndsAt (ways.Unreadable number place) =
       (is : ServesStrict (Reader number)) × RefusesAt functions state old new world mode text held written course.pace course.forms course.bytes number is.0 place
   EndsAt (ways.Unaccepted number place) =
-      (strict ≡ true) × StopsStrict functions state old new world mode text held written course.pace course.forms course.bytes number place
+      (wanted.strict ≡ true) × StopsStrict functions state old new world mode text held written course.pace course.forms course.bytes number place
   EndsAt (ways.Store number) = ServesStrict (Store number)
 
   -- the session has ended, before the end of the text
   abbrev pub HasEndedAt : Ended → Type 0
   HasEndedAt ways.End = ⊥
   HasEndedAt (ways.Unreadable number place) =
-      (is : HasEnded functions state course.pace old new world mode text held written (Reader number))
-      × (strict ≡ true → is.serves.answered.refused ≡ [])
+      (is : HasEnded functions state course.pace old new world mode text held written wanted.group (Reader number))
+      × (wanted.strict ≡ true → is.serves.answered.refused ≡ [])
       × RefusesAt functions state old new world mode text held written course.pace course.forms course.bytes number is.serves place
   HasEndedAt (ways.Unaccepted number place) =
-      (strict ≡ true) × StopsStrict functions state old new world mode text held written course.pace course.forms course.bytes number place
+      (wanted.strict ≡ true) × StopsStrict functions state old new world mode text held written course.pace course.forms course.bytes number place
   HasEndedAt (ways.Store number) =
-      (is : HasEnded functions state course.pace old new world mode text held written (Store number)) × (strict ≡ true → is.serves.answered.refused ≡ [])
+      (is : HasEnded functions state course.pace old new world mode text held written wanted.group (Store number)) × (wanted.strict ≡ true → is.serves.answered.refused ≡ [])
 
-module _ (functions : Functions) {D R : Type 0} (state : D → State) (strict : Bool) (course later : Course) (old new : StoreView D R) (world : WorldState) (mode : Mode) (text : List ℕ) (held written : Option (List ℕ)) (pending : Pending) where
+module _ (functions : Functions) {D R : Type 0} (state : D → State) (wanted : Wanted) (course later : Course) (old new : StoreView D R) (world : WorldState) (mode : Mode) (text : List ℕ) (held written : Option (List ℕ)) (pending : Pending) where
   -- The session goes on; or it has ended, whatever follows the text.
   abbrev pub Answers : Option Ended → Type 0
-  Answers None = GoesOn functions state strict course later old new world mode text held written pending []
-  Answers (Some ended) = (more : List ℕ) → HasEndedAt functions state strict course old new world mode (text ++ more) held written ended
+  Answers None = GoesOn functions state wanted.strict course later old new world mode text held written pending []
+  Answers (Some ended) = (more : List ℕ) → HasEndedAt functions state wanted course old new world mode (text ++ more) held written ended
 
   -- What a piece comes to, if the text ends with it: so many bytes of it are done with, and those after them are left; or the
   -- session has ended.
   abbrev pub ComesTo : List ℕ → Result ℕ Ended → Type 0
-  ComesTo piece (Ok count) = GoesOn functions state strict course later old new world mode text held written pending (drop count piece)
+  ComesTo piece (Ok count) = GoesOn functions state wanted.strict course later old new world mode text held written pending (drop count piece)
   ComesTo piece (Err ended) = Answers (Some ended)
 
 -- Of so many bytes some are done with; or none, if what was pending before them is a form, and the first of them follows it. Before

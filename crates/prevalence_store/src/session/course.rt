@@ -1,6 +1,6 @@
 // How far a session has come.
 ghost use Rattle.std.specs.Prelude.{◌≡◌, ◌+◌, ◌<◌, ◌≤◌, ◌^◌};
-ghost use Rattle.prevalence_store.specs.steps.Course.{course_of, first_course, pass};
+ghost use Rattle.prevalence_store.specs.steps.Course.{course_of, first_course, pass, pass_all};
 
 use crate::outcome::Place;
 use crate::session::schedule::Schedule;
@@ -37,6 +37,17 @@ impl Course {
             start: self.bytes + start as u64,
             at: self.bytes + at as u64,
         }
+    }
+
+    /// So many forms that took so many bytes were answered.
+    pub(crate) fn pass_all(&mut self, forms: usize, bytes: usize)
+        requires forms { self.old.forms ≤ self.old.bytes }
+        requires order { forms ≤ bytes }
+        requires room { self.old.bytes + bytes < 2 ^ 63 }
+        ensures { course_of self.new ≡ pass_all forms bytes (course_of self.old) }
+    {
+        self.forms += forms as u64;
+        self.bytes += bytes as u64;
     }
 
     /// A form that took so many bytes was answered.

@@ -2,7 +2,7 @@
 ghost use Rattle.std.specs.Prelude.{◌≡◌, ◌↔◌, Some, IsSome, IsTrue};
 ghost use Rattle.plist_state.specs.State.{WorldState};
 ghost use Rattle.prevalence_store.specs.calls.Pace.{Counts, IsDue, first_pace};
-ghost use Rattle.prevalence_store.specs.steps.Schedule.{Renewing, RenewsAfterForm, pace_of};
+ghost use Rattle.prevalence_store.specs.steps.Schedule.{CountsAll, IsBeforeDue, Renewing, RenewsAfterForm, pace_of};
 
 use crate::outcome::Outcome;
 use crate::store::Store;
@@ -23,6 +23,30 @@ impl Schedule {
         ensures { pace_of result ≡ first_pace every }
     {
         Schedule { every, left: every }
+    }
+
+    /// How many forms may be logged before a snapshot is due.
+    pub(crate) fn before_due(&self) -> u64
+        ensures { IsBeforeDue (pace_of self.now) result }
+    {
+        if self.left > 1 {
+            return self.left - 1;
+        }
+        if self.every == 0 { u64::MAX } else { 0 }
+    }
+
+    /// Counts so many forms that were logged, before a snapshot is due.
+    pub(crate) fn pass(&mut self, logged: u64)
+        requires { IsBeforeDue (pace_of self.old) logged }
+        ensures { CountsAll logged (pace_of self.old) (pace_of self.new) }
+    {
+        if self.left > 1 {
+            self.left -= logged;
+            return;
+        }
+        if logged > 0 {
+            self.left = self.every;
+        }
     }
 
     /// Counts a form that was logged, and says whether a snapshot is due.

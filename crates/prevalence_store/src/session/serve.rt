@@ -1,5 +1,5 @@
 // A session: forms from a reader, answers to a writer.
-ghost use Rattle.std.specs.Prelude.{◌≡◌, ◌≤◌, ◌<◌, ◌+◌, ◌^◌, ℕ, List, ◌++◌, None, Some, IfOk, true, length, take};
+ghost use Rattle.std.specs.Prelude.{◌≡◌, ◌≤◌, ◌<◌, ◌+◌, ◌^◌, ℕ, List, ◌++◌, None, Some, IfOk, true, cond, length, take};
 ghost use Rattle.lisp_object.specs.declared.refusal.TheConstants.{REOPEN};
 ghost use Rattle.plist_state.specs.State.{WorldState};
 ghost use Rattle.form_reader.specs.Reader.{fed};
@@ -13,6 +13,7 @@ use crate::mode::Mode;
 use crate::outcome::{Ended, Ending, Wanted};
 use crate::session::course::Course;
 use crate::session::input::{Fed, FedPiece, Pending};
+use crate::session::together::Grouped;
 use crate::store::Store;
 use disk_trait::Disk;
 use lisp_object::refusal::{INPUT, NO_MEMORY, REOPEN};
@@ -52,7 +53,7 @@ impl<D: Disk, R: MacroFunctions> Store<D, R> {
             → (result ≡ Ending.Store REOPEN) × (self.new ≡ self.old)
             × (reader.new ≡ reader.old) × (writer.new ≡ writer.old) }
         ensures serves { (world : WorldState) → self.old.world ≡ Some world
-            → ServesInput R.Meaning.functions D.state snapshot_every self.old self.new world mode
+            → ServesInput R.Meaning.functions D.state false snapshot_every self.old self.new world mode
             (I.remaining reader.old) (I.remaining reader.new) (W.contents writer.old) (W.contents writer.new) result }
         ensures honest { (D.state self.new.disk).honest ≡ (D.state self.old.disk).honest }
         ensures macros { self.new.macros ≡ self.old.macros }
@@ -61,6 +62,7 @@ impl<D: Disk, R: MacroFunctions> Store<D, R> {
             mode,
             snapshot_every,
             strict: false,
+            group: false,
         };
         match self.serve_wanted(reader, writer, wanted) {
             Ended::End => Ending::End,
@@ -73,6 +75,13 @@ impl<D: Disk, R: MacroFunctions> Store<D, R> {
     /// The same, as it is wanted: with the place of a refusal of the reader, counted in the input; and, if it is strict, the
     /// first form whose evaluation is refused ends the session once it is answered. What the session has read after that form is
     /// let go.
+    ///
+    /// If it has groups, the forms that are whole in the bytes that were read are evaluated one after the other, and those that
+    /// write are appended to the log together, for the device calls of one; their lines are written then, before the next
+    /// read. What is written and what the files hold at the end is what a session without groups gives. A group ends before a
+    /// form that is not whole or is refused by the reader, before one that is refused if the session is strict, before the form after
+    /// which a snapshot may be due, and once 65,536 bytes of lines are held back. Where the half has no room for a group, or
+    /// memory runs out in it, its first form is answered by itself.
     pub fn serve_wanted<I: Read, W: Write>(
         &mut self,
         reader: &mut I,
@@ -131,7 +140,7 @@ impl<D: Disk, R: MacroFunctions> Store<D, R> {
         requires count { (course_of course.old).bytes + fed pending.old.reader + length piece.now < 2 ^ 63 }
         ensures answers { (w : WorldState) → self.old.world ≡ Some w → (bytes : List ℕ)
             → IsPending R.Meaning.functions w wanted.mode pending.old bytes
-            → Answers R.Meaning.functions D.state wanted.strict (course_of course.old) (course_of course.new) self.old self.new w wanted.mode
+            → Answers R.Meaning.functions D.state wanted (course_of course.old) (course_of course.new) self.old self.new w wanted.mode
             (bytes ++ piece.now) (W.contents writer.old) (W.contents writer.new) pending.new result }
         ensures forms { (course_of course.new).forms ≤ (course_of course.new).bytes }
         ensures count { (course_of course.new).bytes + fed pending.new.reader
@@ -167,7 +176,7 @@ impl<D: Disk, R: MacroFunctions> Store<D, R> {
         requires count { (course_of course.old).bytes + fed pending.old.reader + length piece.now < 2 ^ 63 }
         ensures answers { (w : WorldState) → self.old.world ≡ Some w → (bytes : List ℕ)
             → IsPending R.Meaning.functions w wanted.mode pending.old bytes
-            → ComesTo R.Meaning.functions D.state wanted.strict (course_of course.old) (course_of course.new) self.old self.new w wanted.mode
+            → ComesTo R.Meaning.functions D.state wanted (course_of course.old) (course_of course.new) self.old self.new w wanted.mode
             (bytes ++ piece.now) (W.contents writer.old) (W.contents writer.new) pending.new piece.now result }
         ensures some { MovesOn (fed pending.old.reader) (fed pending.new.reader)
             (length piece.now) result }
@@ -190,10 +199,14 @@ impl<D: Disk, R: MacroFunctions> Store<D, R> {
                 Err(self.answer_fault(writer, number).at(place))
             }
             Fed::Form { form, left } => {
-                match self.answer_read(writer, wanted, course, &form) {
-                    // the byte after the form is read again, as the world is read that the form left
-                    Ok(()) => { if left { Ok(count - 1) } else { Ok(count) } }
-                    Err(ended) => Err(ended),
+                let count = before_left(count, left);
+                match self.answer_group(writer, wanted, course, &form, &piece[count..]) {
+                    Grouped::Answered(more) => Ok(count + more),
+                    Grouped::Ended(ended) => Err(ended),
+                    Grouped::Left => match self.answer_read(writer, wanted, course, &form) {
+                        Ok(()) => Ok(count),
+                        Err(ended) => Err(ended),
+                    },
                 }
             }
         }
@@ -232,7 +245,7 @@ impl<D: Disk, R: MacroFunctions> Store<D, R> {
         requires count { (course_of course.old).bytes + fed pending.reader < 2 ^ 63 }
         ensures ends { (w : WorldState) → self.old.world ≡ Some w → (bytes : List ℕ)
             → IsPending R.Meaning.functions w wanted.mode pending bytes
-            → EndsAt R.Meaning.functions D.state wanted.strict (course_of course.old) self.old self.new w wanted.mode
+            → EndsAt R.Meaning.functions D.state wanted (course_of course.old) self.old self.new w wanted.mode
             bytes (W.contents writer.old) (W.contents writer.new) result }
         ensures honest { (D.state self.new.disk).honest ≡ (D.state self.old.disk).honest }
         ensures macros { self.new.macros ≡ self.old.macros }
@@ -268,4 +281,12 @@ impl<D: Disk, R: MacroFunctions> Store<D, R> {
     {
         pending.finish(self.alloc, &self.world, &self.macros, mode)
     }
+}
+
+// How many of these bytes a form takes. The byte that is left is read again, as the world is read that the form left.
+fn before_left(count: usize, left: bool) -> usize
+    requires { 0 < count }
+    ensures { result + cond left 1 0 ≡ count }
+{
+    if left { count - 1 } else { count }
 }

@@ -11,12 +11,12 @@ use Rattle.prevalence_store.proofs.store.Store.answer_end.Goals as goal
 
 pub returns-in-Err-clause-ends : goal.returns-in-Err-clause-ends
 returns-in-Err-clause-ends g c = λ w known bytes p.
-    memory_at_end g.R.Meaning.Meaning.functions g.D.Disk.state g.met.D.Disk.sound c.args.wanted.strict (course_of c.args.course.now) c.args.self.now w c.args.wanted.mode bytes (g.W.Write.contents c.args.writer.now) known
+    memory_at_end g.R.Meaning.Meaning.functions g.D.Disk.state g.met.D.Disk.sound c.args.wanted (course_of c.args.course.now) c.args.self.now w c.args.wanted.mode bytes (g.W.Write.contents c.args.writer.now) known
 
 pub returns-in-Nothing-clause-ends : goal.returns-in-Nothing-clause-ends
 returns-in-Nothing-clause-ends g c = λ w known bytes p.
     let functions = g.R.Meaning.Meaning.functions in
-    done_at_end functions g.D.Disk.state g.met.D.Disk.sound c.args.wanted.strict (course_of c.args.course.now) c.args.self.now w c.args.wanted.mode bytes (g.W.Write.contents c.args.writer.now) known
+    done_at_end functions g.D.Disk.state g.met.D.Disk.sound c.args.wanted (course_of c.args.course.now) c.args.self.now w c.args.wanted.mode bytes (g.W.Write.contents c.args.writer.now) known
     (sym (subst (λ (f : Fed). Finishes functions w c.args.wanted.mode bytes f) c.in-Nothing.is (c.in-Ok.ensures.finishes w known bytes p)))
 
 pub place-place-requires-clause-start : goal.place-place-requires-clause-start
@@ -34,8 +34,8 @@ returns-in-Refused-clause-ends g c = λ w known bytes p.
     let course = course_of c.args.course.now in
     let told = subst (λ (fed : Fed). Finishes functions w c.args.wanted.mode bytes fed) f.is (c.in-Ok.ensures.finishes w known bytes p) in
     let place = c.place-place.ensures in
-    subst (λ ended. EndsAt functions g.D.Disk.state c.args.wanted.strict course c.args.self.now c.answer_fault.new.self w c.args.wanted.mode bytes held written ended) (sym c.at.ensures)
-    (fault_at_end functions g.D.Disk.state g.met.D.Disk.sound c.args.wanted.strict course c.args.self.now c.answer_fault.new.self w c.args.wanted.mode bytes held written f.number f.at known told.0
+    subst (λ ended. EndsAt functions g.D.Disk.state c.args.wanted course c.args.self.now c.answer_fault.new.self w c.args.wanted.mode bytes held written ended) (sym c.at.ensures)
+    (fault_at_end functions g.D.Disk.state g.met.D.Disk.sound c.args.wanted course c.args.self.now c.answer_fault.new.self w c.args.wanted.mode bytes held written f.number f.at known told.0
     c.answer_fault.ensures.same f.start c.place-place.result place.0 place.1 place.2 (told.1, told.2) c.answer_fault.result c.answer_fault.ensures.answers)
 
 pub answer_read-requires : goal.answer_read-requires

@@ -58,7 +58,7 @@ forms-preserved g c =
           let written = g.W.Write.contents c.answer_next.new.writer in
           let text = bytes ++ c.args.piece.now in
           subst (λ t. GoesOn functions g.D.Disk.state c.args.wanted.strict (course_of c.args.course.now) (course_of c.answer_next.new.course) c.args.self.now c.answer_next.new.self w c.args.wanted.mode text held written c.answer_next.new.pending t) (sym behind)
-          (next_both functions g.D.Disk.state g.met.D.Disk.sound c.args.wanted.strict (course_of c.args.course.now) (course_of c.forms.course) (course_of c.answer_next.new.course) c.args.self.now c.forms.self c.answer_next.new.self w c.args.wanted.mode
+          (next_both functions g.D.Disk.state g.met.D.Disk.sound c.args.wanted (course_of c.args.course.now) (course_of c.forms.course) (course_of c.answer_next.new.course) c.args.self.now c.forms.self c.answer_next.new.self w c.args.wanted.mode
           held (g.W.Write.contents c.forms.writer) written c.forms.pending c.forms.invariant.honest text rest first c.answer_next.new.pending (Ok n)
           (c.in-Ok.ensures.answers first.far.world first.advances.after.left first.bytes first.is_pending));
     }
@@ -67,7 +67,7 @@ pub returns-in-Err-clause-answers : goal.returns-in-Err-clause-answers
 returns-in-Err-clause-answers g c = λ w known bytes p.
     let functions = g.R.Meaning.Meaning.functions in
     let first = c.forms.invariant.goes w known bytes p in
-    next_both functions g.D.Disk.state g.met.D.Disk.sound c.args.wanted.strict (course_of c.args.course.now) (course_of c.forms.course) (course_of c.answer_next.new.course) c.args.self.now c.forms.self c.answer_next.new.self w c.args.wanted.mode
+    next_both functions g.D.Disk.state g.met.D.Disk.sound c.args.wanted (course_of c.args.course.now) (course_of c.forms.course) (course_of c.answer_next.new.course) c.args.self.now c.forms.self c.answer_next.new.self w c.args.wanted.mode
     (g.W.Write.contents c.args.writer.now) (g.W.Write.contents c.forms.writer) (g.W.Write.contents c.answer_next.new.writer) c.forms.pending c.forms.invariant.honest
     (bytes ++ c.args.piece.now) c.forms.rest.now first c.answer_next.new.pending (Err c.in-Err.ended)
     (c.in-Err.ensures.answers first.far.world first.advances.after.left first.bytes first.is_pending)

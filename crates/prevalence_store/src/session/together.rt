@@ -1,0 +1,92 @@
+// The answers to the forms of a group.
+ghost use Rattle.std.specs.Prelude.{◌≡◌, ◌+◌, ◌<◌, ◌≤◌, ◌^◌, List, ℕ, Some, true, drop, length};
+ghost use Rattle.lisp_object.specs.Datum.{object_of};
+ghost use Rattle.plist_state.specs.State.{WorldState};
+ghost use Rattle.prevalence_store.specs.declared.session.together.Grouped.TheVariants.{Answered, Left};
+ghost use Rattle.prevalence_store.specs.steps.Answer.{IsFormOf};
+ghost use Rattle.prevalence_store.specs.steps.Course.{course_of};
+ghost use Rattle.prevalence_store.specs.steps.Gather.{AnswersGroup, BeginsWhole};
+ghost use Rattle.user_macros.specs.Functions.{are_registered};
+
+use crate::outcome::{Ended, Wanted};
+use crate::session::course::Course;
+use crate::session::input::ReadForm;
+use crate::session::output::write_line;
+use crate::store::Store;
+use disk_trait::Disk;
+use lisp_object::refusal::{DEVICE, OUTPUT};
+use std::io::Write;
+use user_macros::MacroFunctions;
+
+/// What became of a group.
+#[derive(Clone, Copy)]
+pub(crate) enum Grouped {
+    /// Its forms were answered; those after the first take so many bytes.
+    Answered(usize),
+    /// The session has ended in it.
+    Ended(Ended),
+    /// Nothing was done: its forms are to be answered one by one.
+    Left,
+}
+
+impl<D: Disk, R: MacroFunctions> Store<D, R> {
+    // Answers a form that was read, and those that stand whole after it in a piece, once they are logged together. They are left if
+    // the session has no groups, if a snapshot is due after the first if it writes, if the half has no room for them, if memory
+    // runs out, or if the first is refused and the session is strict.
+    pub(crate) fn answer_group<W: Write>(
+        &mut self,
+        writer: &mut W,
+        wanted: Wanted,
+        course: &mut Course,
+        first: &ReadForm,
+        rest: &[u8],
+    ) -> Grouped
+        requires answers { R.answers self.old.macros }
+        requires whole { are_registered R.Meaning.functions (R.functions self.old.macros) ≡ true }
+        requires form { IsFormOf R.Meaning.functions self.old.world wanted.mode first.now.datum first.now.own.items }
+        requires begins { (world : WorldState) → self.old.world ≡ Some world
+            → (text : List ℕ) × (BeginsWhole R.Meaning.functions world wanted.mode text
+            (object_of first.now.datum) first.now.own.items first.now.next × (drop first.now.next text ≡ rest.now)) }
+        requires some { 0 < first.now.next }
+        requires forms { (course_of course.old).forms ≤ (course_of course.old).bytes }
+        requires room { (course_of course.old).bytes + first.now.next + length rest.now < 2 ^ 63 }
+        ensures answers { (world : WorldState) → self.old.world ≡ Some world
+            → (text : List ℕ) → BeginsWhole R.Meaning.functions world wanted.mode text
+            (object_of first.now.datum) first.now.own.items first.now.next → drop first.now.next text ≡ rest.now
+            → AnswersGroup R.Meaning.functions wanted D.state (course_of course.old) (course_of course.new)
+            self.old self.new world text rest.now (W.contents writer.old) (W.contents writer.new) result }
+        ensures left { result ≡ Left
+            → (self.new ≡ self.old) × (writer.new ≡ writer.old) × (course.new ≡ course.old) }
+        ensures within { (count : ℕ) → result ≡ Answered count → count ≤ length rest.now }
+        ensures forms { (course_of course.new).forms ≤ (course_of course.new).bytes }
+        ensures bytes { (count : ℕ) → result ≡ Answered count
+            → (course_of course.new).bytes ≤ (course_of course.old).bytes + first.now.next + count }
+        ensures most { (course_of course.new).bytes
+            ≤ (course_of course.old).bytes + first.now.next + length rest.now }
+        ensures honest { (D.state self.new.disk).honest ≡ (D.state self.old.disk).honest }
+        ensures macros { self.new.macros ≡ self.old.macros }
+    {
+        let most = course.schedule.before_due();
+        if !wanted.group || most == 0 {
+            return Grouped::Left;
+        }
+        let gathered = match self.take_group(wanted, most, first, rest) {
+            Ok(gathered) => gathered,
+            Err(failure) => {
+                if failure.is_device() {
+                    return Grouped::Ended(Ended::Store(DEVICE));
+                }
+                return Grouped::Left;
+            }
+        };
+        // what is answered is stored: the lines come after the records
+        match write_line(writer, gathered.lines.as_slice()) {
+            Ok(()) => {
+                course.schedule.pass(gathered.texts.len() as u64);
+                course.pass_all(gathered.forms, gathered.bytes);
+                Grouped::Answered(gathered.bytes - first.next)
+            }
+            Err(_) => Grouped::Ended(Ended::Store(OUTPUT)),
+        }
+    }
+}
