@@ -93,6 +93,10 @@ not_more AdvanceMore e more = cc
 not_more (AdvanceForm datum start «end» next) e more = cc
 not_more (AdvanceRefused number offset) e more = cc
 
+-- a step that refuses again does not go on
+pub refused_not_more : (number offset : ℕ) (step : Advance) → step ≡ AdvanceMore → ◌≡◌ {A = Result Advance AllocError} (Ok step) (Ok (AdvanceRefused number offset)) → ⊥
+refused_not_more number offset step more e = cc
+
 pub ok_more : (step : Advance) → ◌≡◌ {A = Result Advance AllocError} (Ok step) (Ok AdvanceMore) → step ≡ AdvanceMore
 ok_more step e = cc
 

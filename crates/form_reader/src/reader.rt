@@ -139,6 +139,7 @@ impl FormReader {
         ensures sound { IfOk result IsSoundStep }
         ensures refused { (number offset : ℕ) → HasRefused self.old number offset
             → (result ≡ Ok (AdvanceRefused number offset)) × HasRefused self.new number offset }
+        ensures unchanged { (number offset : ℕ) → HasRefused self.old number offset → self.new ≡ self.old }
         ensures memory { OnErr result (HasNoMemory self.new) }
         ensures spent { HasNoMemory self.old → IsErr result }
         ensures stays { (number offset : ℕ)

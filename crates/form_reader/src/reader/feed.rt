@@ -4,8 +4,8 @@ ghost use Rattle.std.specs.List.{list_all};
 ghost use Rattle.package_table.specs.Table.{IsPackage};
 ghost use Rattle.lisp_reading.specs.Setting.{setting_of};
 ghost use Rattle.lisp_reading.specs.Reading.{is_whitespace};
-ghost use Rattle.form_reader.specs.declared.reader.Advance.TheVariants.{More as AdvanceMore};
-ghost use Rattle.form_reader.specs.Reader.{limits_of, fed, begun, HasNoMemory, IsBetween, LeavesBetween, IsAfter, HasBegun, StepsBegun, IsSoundStep, Feeds, Advances, is_more};
+ghost use Rattle.form_reader.specs.declared.reader.Advance.TheVariants.{More as AdvanceMore, Refused as AdvanceRefused};
+ghost use Rattle.form_reader.specs.Reader.{limits_of, fed, begun, HasNoMemory, HasRefused, IsBetween, LeavesBetween, IsAfter, HasBegun, StepsBegun, IsSoundStep, Feeds, Advances, is_more};
 
 use crate::reader::{Advance, FormReader};
 use package_table::Packages;
@@ -28,7 +28,8 @@ impl Advance {
 
 impl FormReader {
     /// Bytes of the text, of which there are some, under what the bytes before them were read under: as many steps, one after the
-    /// other, up to the first that does not answer `More`. Gives how many steps those are, and what the last of them answers.
+    /// other, up to the first that does not answer `More`. Gives how many steps those are, and what the last of them answers. After a
+    /// refusal it answers the same again, whatever it is read under.
     pub fn feed<R: MacroFunctions>(
         &mut self,
         bytes: &[u8],
@@ -58,6 +59,8 @@ impl FormReader {
         ensures fed { fed self.new ≤ fed self.old + length bytes.now }
         ensures advances { IfOk result (λ got. Advances self.old self.new got.0 got.1) }
         ensures sound { IfOk result (λ got. IsSoundStep got.1) }
+        ensures refused { (number offset : ℕ) → HasRefused self.old number offset
+            → (result ≡ Ok (1, AdvanceRefused number offset)) × (self.new ≡ self.old) }
         ensures memory { OnErr result (HasNoMemory self.new) }
         ensures spent { HasNoMemory self.old → IsErr result }
         ensures between { IsBetween self.old → list_all (is_whitespace readtable.now) bytes.now ≡ true

@@ -4,9 +4,10 @@ use Rattle.std.proofs.lemmas.List.{take_more, drop_more}
 use Rattle.lisp_reading.specs.declared.limits.Limits.{Limits}
 use Rattle.lisp_reading.specs.Setting.{Setting, setting_of}
 use Rattle.lisp_reading.specs.Reading.{is_whitespace}
+use Rattle.form_reader.specs.declared.reader.FormReader.{FormReader}
 use Rattle.form_reader.specs.declared.reader.Advance.TheVariants.{More as AdvanceMore}
-use Rattle.form_reader.specs.Reader.{IsAfter, HasBegun, Steps, StepsBegun}
-use Rattle.form_reader.proofs.Feeds.{more_is, counts_more, begins_more, advances_last, none_taken, none_begun, steps_on, begun_on, begun_last, feeds_last, feeds_whole, not_more, ok_more}
+use Rattle.form_reader.specs.Reader.{IsAfter, HasBegun, HasRefused, Steps, StepsBegun}
+use Rattle.form_reader.proofs.Feeds.{more_is, counts_more, begins_more, advances_last, none_taken, none_begun, steps_on, begun_on, begun_last, feeds_last, feeds_whole, not_more, ok_more, refused_not_more}
 use Rattle.form_reader.proofs.Feeds.{each_holds}
 use Rattle.form_reader.proofs.reader.FormReader.feed.Goals as goal
 
@@ -24,6 +25,7 @@ loop-byte-init g c =
       has_begun = λ before a has. none_begun setting c.args.self.now before c.args.bytes.now has;
       steps = λ before a some. absurd (omega (arith, some));
       later = λ some. absurd (omega (arith, some));
+      refused = λ number offset refused. (refl, refl);
       spent = λ spent. (refl, spent);
       between = λ between all room. between;
       nothing_open = λ some here. absurd (omega (arith, some));
@@ -55,6 +57,9 @@ loop-byte-preserved g c =
           c.loop-byte.invariant.after steps c.loop-byte.invariant.has_begun begun more;
       steps = λ before a some. on before a;
       later = λ some. begins.1;
+      refused = λ number offset refused.
+          let told = c.in_ok-advance.ensures.refused number offset (subst (λ (r : FormReader). HasRefused r number offset) (sym (c.loop-byte.invariant.refused number offset refused).1) refused) in
+          absurd (refused_not_more number offset c.in_ok-advance.advance more told.0);
       spent = λ spent. absurd (false≢true (c.in_ok-advance.ensures.spent (c.loop-byte.invariant.spent spent).1));
       between = λ old all room. (c.step.ensures.between (c.loop-byte.invariant.between old all room)
           (each_holds (is_whitespace c.args.readtable.now) c.args.bytes.now c.loop-byte.byte-index _ _ all (drop_more c.args.bytes.now c.loop-byte.byte-index 0 c.loop-byte-test.true))

@@ -1,9 +1,8 @@
-use Rattle.std.proofs.Common.{◌≡◌, ◌<◌, ◌-◌, Bool, true, false, not, length, ℕ, Ok, Err, refl, sym, ap, subst, ◌∙◌, arith}
+use Rattle.std.proofs.Common.{◌≡◌, ◌-◌, Bool, true, false, not, length, refl, sym, ap, subst, ◌∙◌, arith}
 use Rattle.prevalence_store.specs.calls.Pace.{Pace}
-use Rattle.prevalence_store.specs.calls.Store.{StoreView}
 use Rattle.prevalence_store.specs.calls.Streams.{Writes, WritesPart}
 use Rattle.prevalence_store.specs.steps.Course.{Course, course_of}
-use Rattle.prevalence_store.specs.steps.Schedule.{CountsAll, IsBeforeDue, pace_of}
+use Rattle.prevalence_store.specs.steps.Schedule.{CountsAll, pace_of}
 use Rattle.prevalence_store.proofs.calls.Executing.{known_world}
 use Rattle.prevalence_store.proofs.steps.Counting.{fewer_before_due}
 use Rattle.prevalence_store.proofs.steps.Gathered.{group_answered, group_stopped, group_unwritten}
