@@ -2,6 +2,7 @@
 use Rattle.std.specs.Prelude.{◌≡◌, ℕ, ◌+◌, ◌<◌, ◌≤◌, Bool, true, cond, List, [], ◌++◌, length, drop, Option, Some, IsSome}
 use Rattle.lisp_object.specs.Object.{Object, IsSound}
 use Rattle.lisp_object.specs.Datum.{object_of, is_proper}
+use Rattle.package_table.specs.Symbols.{are_there}
 use Rattle.plist_state.specs.State.{WorldState}
 use Rattle.form_reader.specs.Reader.{begun, fed, limits_of, BeginsAt, HasBegun, IsAfter, IsDecidedFrom, MayGoOn}
 use Rattle.lisp_reading.specs.Deciding.{decided_from}
@@ -76,6 +77,12 @@ abbrev pub IsSoundFed : Fed → Type 0
 IsSoundFed Nothing = Unit {0}
 IsSoundFed (Form it left) = (is_proper it.datum ≡ true) × IsSound (object_of it.datum)
 IsSoundFed (Refused number start at) = Unit {0}
+
+-- where they are known to be, the symbols of a form are all in the packages of this world
+abbrev pub AreKnownFed : WorldState → Fed → Type 0
+AreKnownFed world Nothing = Unit {0}
+AreKnownFed world (Form it left) = it.known ≡ true → are_there world.packages (object_of it.datum) ≡ true
+AreKnownFed world (Refused number start at) = Unit {0}
 
 -- the places are among so many bytes
 abbrev pub IsWithin : ℕ → Fed → Type 0

@@ -4,6 +4,7 @@ ghost use Rattle.lisp_object.specs.Datum.{object_of, is_proper};
 ghost use Rattle.lisp_object.specs.declared.refusal.TheConstants.{LOG_FULL};
 ghost use Rattle.plist_state.specs.State.{WorldState};
 ghost use Rattle.prevalence_store.specs.steps.Answer.{AnswersFault, AnswersForm, AnswersRead, BeginsWith, FitsForm, IsFormOf, TriesForm, answered_of, was_logged};
+ghost use Rattle.prevalence_store.specs.steps.Commit.{AreKnownIn};
 ghost use Rattle.prevalence_store.specs.steps.Output.{IsLine, IsStop};
 ghost use Rattle.prevalence_store.specs.steps.Course.{course_of};
 ghost use Rattle.prevalence_store.specs.steps.Schedule.{pace_of};
@@ -69,6 +70,7 @@ impl<D: Disk, R: MacroFunctions> Store<D, R> {
         form: &ReadForm,
     ) -> Result<(), Ended>
         requires form { IsFormOf R.Meaning.functions self.old.world wanted.mode form.now.datum form.now.own.items }
+        requires known { AreKnownIn self.old.world form.now.known form.now.datum }
         requires order { form.now.start < form.now.next }
         requires forms { (course_of course.old).forms ≤ (course_of course.old).bytes }
         requires room { (course_of course.old).bytes + form.now.next < 2 ^ 63 }
@@ -82,8 +84,9 @@ impl<D: Disk, R: MacroFunctions> Store<D, R> {
         ensures honest { (D.state self.new.disk).honest ≡ (D.state self.old.disk).honest }
         ensures macros { self.new.macros ≡ self.old.macros }
     {
-        let own = form.own.as_slice();
-        match self.answer_form(writer, wanted.mode, &mut course.schedule, &form.datum, own) {
+        let (known, own) = (form.known, form.own.as_slice());
+        let schedule = &mut course.schedule;
+        match self.answer_form(writer, wanted.mode, schedule, &form.datum, known, own) {
             Err(number) => Err(Ended::Store(number)),
             Ok(answered) => {
                 let place = course.place(form.start, form.start);
@@ -106,9 +109,11 @@ impl<D: Disk, R: MacroFunctions> Store<D, R> {
         mode: Mode,
         schedule: &mut Schedule,
         datum: &Datum,
+        known: bool,
         own: &[u8],
     ) -> Result<Answered, u16>
         requires form { IsFormOf R.Meaning.functions self.old.world mode datum.now own.now }
+        requires known { AreKnownIn self.old.world known datum.now }
         ensures answers { (w : WorldState) → self.old.world ≡ Some w → (text : List ℕ) (next : ℕ)
             → BeginsWith R.Meaning.functions w mode text (object_of datum.now) own.now next
             → AnswersForm R.Meaning.functions D.state self.old self.new w mode (pace_of schedule.old) (pace_of schedule.new)
@@ -116,7 +121,7 @@ impl<D: Disk, R: MacroFunctions> Store<D, R> {
         ensures honest { (D.state self.new.disk).honest ≡ (D.state self.old.disk).honest }
         ensures macros { self.new.macros ≡ self.old.macros }
     {
-        match self.fit_form(writer, mode, datum, own) {
+        match self.fit_form(writer, mode, datum, known, own) {
             Ok(answered) => match self.renew_after_form(schedule, answered.is_logged()) {
                 None => Ok(answered),
                 Some(number) => Err(number),
@@ -132,9 +137,11 @@ impl<D: Disk, R: MacroFunctions> Store<D, R> {
         writer: &mut W,
         mode: Mode,
         datum: &Datum,
+        known: bool,
         own: &[u8],
     ) -> Result<Answered, u16>
         requires form { IsFormOf R.Meaning.functions self.old.world mode datum.now own.now }
+        requires known { AreKnownIn self.old.world known datum.now }
         ensures fits { (w : WorldState) → self.old.world ≡ Some w → (text : List ℕ) (next : ℕ)
             → BeginsWith R.Meaning.functions w mode text (object_of datum.now) own.now next
             → FitsForm R.Meaning.functions D.state self.old self.new w mode
@@ -143,7 +150,7 @@ impl<D: Disk, R: MacroFunctions> Store<D, R> {
         ensures honest { (D.state self.new.disk).honest ≡ (D.state self.old.disk).honest }
         ensures macros { self.new.macros ≡ self.old.macros }
     {
-        match self.try_form(writer, mode, datum, own) {
+        match self.try_form(writer, mode, datum, known, own) {
             Ok(answered) => Ok(answered),
             Err(number) => {
                 if number != LOG_FULL {
@@ -153,7 +160,7 @@ impl<D: Disk, R: MacroFunctions> Store<D, R> {
                 if let Err(number) = self.renew() {
                     return Err(number);
                 }
-                self.try_form(writer, mode, datum, own)
+                self.try_form(writer, mode, datum, known, own)
             }
         }
     }
@@ -165,9 +172,11 @@ impl<D: Disk, R: MacroFunctions> Store<D, R> {
         writer: &mut W,
         mode: Mode,
         datum: &Datum,
+        known: bool,
         own: &[u8],
     ) -> Result<Answered, u16>
         requires form { IsFormOf R.Meaning.functions self.old.world mode datum.now own.now }
+        requires known { AreKnownIn self.old.world known datum.now }
         ensures tries { (w : WorldState) → self.old.world ≡ Some w → (text : List ℕ) (next : ℕ)
             → BeginsWith R.Meaning.functions w mode text (object_of datum.now) own.now next
             → TriesForm R.Meaning.functions D.state self.old self.new w mode
@@ -180,7 +189,7 @@ impl<D: Disk, R: MacroFunctions> Store<D, R> {
         ensures macros { self.new.macros ≡ self.old.macros }
     {
         self.world.soundness();
-        let answer = self.take_form(mode, datum, own);
+        let answer = self.take_form(mode, datum, known, own);
         let line = match self.line(&answer) {
             Ok(line) => line,
             Err(number) => return Err(number),

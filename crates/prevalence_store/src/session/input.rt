@@ -4,7 +4,7 @@ ghost use Rattle.plist_state.specs.State.{WorldState};
 ghost use Rattle.form_reader.specs.Reader.{fed, begun, limits_of, HasBegun, IsAfter, Steps, StepsBegun, BeginsLater, RefusesFrom, IsOutcome, IsSoundStep};
 ghost use Rattle.prevalence_store.specs.meaning.Acceptance.{between, form_limits, read_in, setting_in, table_in};
 ghost use Rattle.user_macros.specs.Functions.{Functions, are_registered};
-ghost use Rattle.prevalence_store.specs.steps.Input.{IsPending, IsSoundFed, IsWithin, Feeds, Finishes, FeedsPart};
+ghost use Rattle.prevalence_store.specs.steps.Input.{AreKnownFed, IsPending, IsSoundFed, IsWithin, Feeds, Finishes, FeedsPart};
 
 use crate::mode::Mode;
 use crate::setting::{base_in, package_in, readtable_in};
@@ -36,6 +36,8 @@ pub(crate) struct ReadForm {
     pub(crate) start: usize,
     /// Where what follows it begins.
     pub(crate) next: usize,
+    /// Whether each of its symbols is known to be there.
+    pub(crate) known: bool,
 }
 
 /// What bytes more, or the end of the input, are to what is pending.
@@ -99,6 +101,7 @@ impl Pending {
             → IfOk result (λ part. Feeds R.Meaning.functions world.now.0 mode self.new
             (bytes ++ take part.count piece.now) part.fed) }
         ensures part { IfOk result (FeedsPart piece.now (fed self.old.reader) (fed self.new.reader)) }
+        ensures known { IfOk result (λ part. AreKnownFed world.now.0 part.fed) }
         ensures count { fed self.new.reader ≤ fed self.old.reader + length piece.now }
     {
         let readtable = readtable_in(world, mode);
@@ -145,6 +148,7 @@ impl Pending {
             → IfOk result (Feeds R.Meaning.functions world.now.0 mode self.new
             (bytes ++ byte ∷ [])) }
         ensures sound { IfOk result IsSoundFed }
+        ensures known { IfOk result (AreKnownFed world.now.0) }
         ensures within { IfOk result (IsWithin (fed self.old.reader + 1)) }
         ensures count { fed self.new.reader ≤ fed self.old.reader + 1 }
     {
@@ -174,6 +178,7 @@ impl Pending {
                     own,
                     start,
                     next,
+                    known: false,
                 };
                 Ok(Fed::Form { form, left })
             }
@@ -223,6 +228,7 @@ impl Pending {
             → IsPending R.Meaning.functions world.now.0 mode self bytes
             → IfOk result (Finishes R.Meaning.functions world.now.0 mode bytes) }
         ensures sound { IfOk result IsSoundFed }
+        ensures known { IfOk result (AreKnownFed world.now.0) }
         ensures within { IfOk result (IsWithin (fed self.reader)) }
     {
         let Pending {
@@ -249,6 +255,7 @@ impl Pending {
                     own,
                     start,
                     next,
+                    known: false,
                 };
                 Ok(Fed::Form { form, left: false })
             }

@@ -4,6 +4,7 @@ ghost use Rattle.lisp_object.specs.Datum.{object_of};
 ghost use Rattle.plist_state.specs.State.{WorldState};
 ghost use Rattle.prevalence_store.specs.declared.session.together.Grouped.TheVariants.{Answered, Left};
 ghost use Rattle.prevalence_store.specs.steps.Answer.{IsFormOf};
+ghost use Rattle.prevalence_store.specs.steps.Commit.{AreKnownIn};
 ghost use Rattle.prevalence_store.specs.steps.Course.{course_of};
 ghost use Rattle.prevalence_store.specs.steps.Gather.{AnswersGroup, BeginsWhole};
 ghost use Rattle.user_macros.specs.Functions.{are_registered};
@@ -44,6 +45,7 @@ impl<D: Disk, R: MacroFunctions> Store<D, R> {
         requires answers { R.answers self.old.macros }
         requires whole { are_registered R.Meaning.functions (R.functions self.old.macros) ≡ true }
         requires form { IsFormOf R.Meaning.functions self.old.world wanted.mode first.now.datum first.now.own.items }
+        requires known { AreKnownIn self.old.world first.now.known first.now.datum }
         requires begins { (world : WorldState) → self.old.world ≡ Some world
             → (text : List ℕ) × (BeginsWhole R.Meaning.functions world wanted.mode text
             (object_of first.now.datum) first.now.own.items first.now.next × (drop first.now.next text ≡ rest.now)) }

@@ -3,6 +3,7 @@ ghost use Rattle.std.specs.Prelude.{◌≡◌, ◌+◌, ◌<◌, ◌≤◌, ◌^
 ghost use Rattle.lisp_object.specs.Object.{IsSound};
 ghost use Rattle.lisp_object.specs.Datum.{is_proper, object_of};
 ghost use Rattle.form_reader.specs.Reader.{fed};
+ghost use Rattle.package_table.specs.Symbols.{are_there};
 ghost use Rattle.prevalence_store.specs.declared.session.input.Fed.{Fed};
 ghost use Rattle.prevalence_store.specs.meaning.Acceptance.{table_in};
 ghost use Rattle.prevalence_store.specs.steps.Input.{Feeds, IsPending};
@@ -36,6 +37,8 @@ impl Pending {
             (bytes ++ take (length form.own.items) piece.now) (Fed.Form form false))) }
         ensures sound { IfOk result (λ found. IfSome found
             (λ form. (is_proper form.datum ≡ true) × IsSound (object_of form.datum))) }
+        ensures known { IfOk result (λ found. IfSome found (λ form.
+            form.known ≡ true → are_there world.now.0.packages (object_of form.datum) ≡ true)) }
         ensures places { IfOk result (λ found. IfSome found
             (λ form. (form.start ≡ self.old.dropped) × (form.next ≡ form.start + length form.own.items))) }
         ensures some { IfOk result (λ found. IfSome found
@@ -74,6 +77,7 @@ impl Pending {
             own,
             start,
             next: start + front.len(),
+            known: plain.known,
         }))
     }
 }

@@ -3,7 +3,7 @@ use Rattle.form_reader.specs.Reader.{fed}
 use Rattle.lisp_object.specs.Datum.{object_of}
 use Rattle.prevalence_store.specs.declared.session.input.Fed.{Fed}
 use Rattle.prevalence_store.specs.steps.Course.{course_of}
-use Rattle.prevalence_store.specs.steps.Input.{Finishes, IsSoundFed, IsWithin}
+use Rattle.prevalence_store.specs.steps.Input.{AreKnownFed, Finishes, IsSoundFed, IsWithin}
 use Rattle.prevalence_store.specs.steps.Serve.{EndsAt}
 use Rattle.prevalence_store.proofs.steps.EndedAt.{done_at_end, fault_at_end, memory_at_end, read_at_end}
 use Rattle.prevalence_store.proofs.steps.Pieces.{ended_form, last_begins, last_start}
@@ -52,6 +52,7 @@ answer_read-requires g c =
         proper = (subst IsSoundFed f.is c.in-Ok.ensures.sound).0;
         sound = (subst IsSoundFed f.is c.in-Ok.ensures.sound).1;
       };
+      known = λ w here. subst (AreKnownFed w) f.is (c.in-Ok.ensures.known w here);
       order = within.0;
       forms = c.requires.forms;
       room = omega (arith, within.1, c.requires.count);

@@ -5,7 +5,7 @@ use Rattle.form_reader.specs.Reader.{fed}
 use Rattle.lisp_object.specs.Datum.{object_of}
 use Rattle.prevalence_store.specs.declared.session.input.Fed.{Fed}
 use Rattle.prevalence_store.specs.steps.Course.{course_of}
-use Rattle.prevalence_store.specs.steps.Input.{Feeds, IsSoundFed, IsWithin}
+use Rattle.prevalence_store.specs.steps.Input.{AreKnownFed, Feeds, IsSoundFed, IsWithin}
 use Rattle.prevalence_store.specs.declared.session.together.Grouped.{Grouped}
 use Rattle.prevalence_store.specs.calls.Store.{StoreView}
 use Rattle.prevalence_store.specs.steps.Answer.{IsFormOf}
@@ -74,6 +74,9 @@ answer_group-requires-clause-form g c =
       proper = (subst IsSoundFed f.is c.in-Ok.ensures.part.sound).0;
       sound = (subst IsSoundFed f.is c.in-Ok.ensures.part.sound).1;
     }
+
+pub answer_group-requires-clause-known : goal.answer_group-requires-clause-known
+answer_group-requires-clause-known g c = λ w here. subst (AreKnownFed w) c.in-Form.is (c.in-Ok.ensures.known w here)
 
 pub answer_group-requires-clause-begins : goal.answer_group-requires-clause-begins
 answer_group-requires-clause-begins g c = λ w known.
@@ -144,6 +147,7 @@ answer_read-requires g c =
         proper = (subst IsSoundFed f.is c.in-Ok.ensures.part.sound).0;
         sound = (subst IsSoundFed f.is c.in-Ok.ensures.part.sound).1;
       });
+      known = λ w here. subst (AreKnownFed w) f.is (c.in-Ok.ensures.known w (sym (ap (λ (s : StoreView g.row.D.Denot g.row.R.Denot). s.world) left.0) ∙ here));
       order = within.0;
       forms = c.answer_group.ensures.forms;
       room = subst (λ k. (course_of k).bytes + f.form.next < 9223372036854775808) (sym left.2) (omega (arith, within.1, c.requires.count, c.in-Ok.ensures.part.within));

@@ -1,5 +1,6 @@
 use Rattle.std.proofs.Common.{◌≡◌, true, List, ℕ, drop, length, Some, Ok, Err, subst, sym, ◌∙◌, arith}
 use Rattle.lisp_object.specs.Datum.{object_of}
+use Rattle.package_table.specs.Symbols.{are_there}
 use Rattle.plist_state.specs.Sound.{IsSound}
 use Rattle.plist_state.specs.State.{WorldState}
 use Rattle.lisp_reading.specs.Fitting.{IsFitting}
@@ -29,6 +30,13 @@ commit_group-result-requires-clause-form g c =
           let below = form_below (setting_in functions here.0 c.args.wanted.mode) own object 0 (length own) (length own) (begins_whole functions here.0 c.args.wanted.mode b.0 object own b.1.0 b.1.1) in
           omega arith;
     }
+
+pub commit_group-result-requires-clause-known : goal.commit_group-result-requires-clause-known
+commit_group-result-requires-clause-known g c = λ known.
+    let inside = c.self.inside in
+    let here = known_world c.args.self.now.world c.requires.form.known in
+    let same = world_inside inside.failed inside.log inside.world.0 here.0 inside.macros c.args.self.now c.self.view_is here.1 in
+    subst (λ (w : WorldState). are_there w.packages (object_of c.args.first.now.datum) ≡ true) (sym same) (c.requires.known here.0 here.1 known)
 
 pub commit_group-result-requires-clause-ready : goal.commit_group-result-requires-clause-ready
 commit_group-result-requires-clause-ready g c =

@@ -24,6 +24,7 @@ take_form-answer-requires g c =
             let same = world_inside inside.failed inside.log inside.world.0 w inside.macros c.args.self.now c.self.view_is known in
             begins_fits functions w c.args.mode b.0 (object_of c.args.datum.now) c.args.own.now b.1.0 b.1.1 (subst (λ (v : WorldState). IsSound v) same c.soundness.ensures.present);
       };
+      known = c.requires.known;
     }
 
 pub line-requires : goal.line-requires

@@ -1,8 +1,11 @@
-use Rattle.std.proofs.Common.{◌≡◌, ◌++◌, sym, subst, ◌∙◌, arith}
+use Rattle.std.proofs.Common.{◌≡◌, ◌++◌, true, Option, IfSome, sym, subst, ◌∙◌, arith}
 use Rattle.std.specs.Prelude.{vec_len}
 use Rattle.std.proofs.lemmas.List.{nil_from_length}
 use Rattle.std.proofs.lemmas.Bool.{eqb-true}
 use Rattle.lisp_object.specs.Datum.{object_of}
+use Rattle.package_table.specs.Table.{Table}
+use Rattle.package_table.specs.Symbols.{are_there}
+use Rattle.plain_reader.specs.declared.plain.PlainForm.{PlainForm}
 use Rattle.lisp_reading.specs.Reading.{form, reads}
 use Rattle.prevalence_store.specs.meaning.Acceptance.{setting_in}
 use Rattle.prevalence_store.proofs.steps.PlainForms.{plain_form, plain_reads}
@@ -21,3 +24,8 @@ returns-clause-feeds c = λ functions bytes p.
     (plain_reads functions w c.args.mode _ _ _ _ _ front c.in_ok-plain.field-0 f c.form-limits.ensures c.requires.table c.base_in-base.ensures.base c.packages.ensures c.package_in-package.ensures.name c.in-Some-2.is
     c.in_ok-plain.ensures.form more))
     (λ later in_mode. c.new.ensures.none functions later in_mode)
+
+pub returns-clause-known : goal.returns-clause-known
+returns-clause-known c =
+    subst (λ (o : Option PlainForm). IfSome o (λ f. f.known ≡ true → are_there c.args.world.now.0.packages (object_of f.datum) ≡ true)) c.in-Some-2.is
+    (subst (λ (t : Table). IfSome c.in_ok-plain.field-0 (λ f. f.known ≡ true → are_there t (object_of f.datum) ≡ true)) c.packages.ensures c.in_ok-plain.ensures.known)
