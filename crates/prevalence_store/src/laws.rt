@@ -73,7 +73,7 @@ pub fn headline<D: Disk>()
 {}
 
 /// A session with groups that ends with its input, at a refusal of the reader, or at the first refused form if it is strict, is a session
-/// without groups: what was read, what was written, the world, and what both halves hold are the same.
+/// without groups: what was read, what was written, the world, the generation and the records of the half in use are the same.
 pub fn groups_change_nothing<D: Disk, R>()
     ensures end { (functions : Functions) (wanted : Wanted) (old new : StoreView D R) (world : WorldState)
         → (had has held written : Option (List ℕ))

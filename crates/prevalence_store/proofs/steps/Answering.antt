@@ -19,7 +19,7 @@ use Rattle.user_macros.specs.Functions.{Functions}
 use Rattle.prevalence_store.specs.meaning.Answers.{Progress, after_forms, begun, onward}
 use Rattle.prevalence_store.specs.steps.Input.{HasForm, IsPending}
 use Rattle.prevalence_store.specs.calls.Pace.{EndsInPace, Paces, fill_of}
-use Rattle.prevalence_store.specs.calls.Serve.{Advances, IsAfter, IsPlace, Serves, ServesInPace, StaysRefused, StopsStrict}
+use Rattle.prevalence_store.specs.calls.Serve.{Advances, AreAccepted, IsAfter, IsPlace, Serves, ServesInPace, StaysRefused, StopsStrict}
 use Rattle.prevalence_store.specs.calls.Store.{StoreView}
 use Rattle.prevalence_store.specs.steps.Serve.{Answers, ComesTo, EndsAt, GoesOn, HasEndedAt, ServesStrict}
 use Rattle.prevalence_store.specs.steps.Course.{Course}
@@ -124,6 +124,11 @@ module _ (functions : Functions) {D R : Type 0} (state : D → State) where
       none_of : (refusals : List ℕ) → (wanted.strict ≡ true → refusals ≡ []) → wanted.strict ≡ true → p.refused ++ refusals ≡ []
       none_of refusals second is = ap (λ l. l ++ refusals) (first.accepted is) ∙ second is
 
+      all_of : (forms lines : ℕ) (far answered : Progress) → (wanted.strict ≡ true → AreAccepted forms lines far answered) → wanted.strict ≡ true
+          → AreAccepted (forms + first.forms) (lines + first.forms) (onward p far) (onward p answered)
+      all_of forms lines far answered second is =
+          (none_of answered.refused (λ strict. (second strict).0) is, λ more. none_of far.refused (λ strict. (second strict).1 (omega (arith, more))) is)
+
       goes_on_both : (after : Pending) (others : List ℕ) → GoesOn functions state wanted.strict later last mid new p.world mode rest b c after others
           → GoesOn functions state wanted.strict course last old new w mode text a c after others
       goes_on_both after others second = record {
@@ -194,7 +199,7 @@ module _ (functions : Functions) {D R : Type 0} (state : D → State) where
       strict_both ending (served, paced, accepted) = (
         serve_both functions state sound old mid new w mode text a b c first.forms p first.advances honest wanted.group ending served,
         paced_both ending served paced,
-        none_of served.answered.refused accepted,
+        all_of served.forms served.lines served.far served.answered accepted,
       )
 
       ends_both_at : (ended : Ended) → EndsAt functions state wanted later mid new p.world mode p.rest b c ended → EndsAt functions state wanted course old new w mode text a c ended
@@ -223,7 +228,7 @@ module _ (functions : Functions) {D R : Type 0} (state : D → State) where
           paced = paced_both (Reader number) is.serves is.paced;
           stays = refused_both is.serves.forms is.serves.far number is.stays;
         },
-        none_of is.serves.answered.refused accepted,
+        all_of is.serves.forms is.serves.lines is.serves.far is.serves.answered accepted,
         (at.0, at.1, place_both is.serves.forms is.serves.far.rest at.0 place at.2, start_both is.serves.far.rest _ place.start at.3, at.4),
       )
       serves_both (ways.Unaccepted number place) (is, second) = (is, stops_both number place second is)
@@ -236,7 +241,7 @@ module _ (functions : Functions) {D R : Type 0} (state : D → State) where
               let decided = is.stays output (omega arith) in
               (decided.0, refused_both is.serves.forms is.serves.far decided.0 decided.1);
         },
-        none_of is.serves.answered.refused accepted,
+        all_of is.serves.forms is.serves.lines is.serves.far is.serves.answered accepted,
       )
 
       pub ended_both : (ended : Ended) → HasEndedAt functions state wanted later mid new p.world mode rest b c ended → HasEndedAt functions state wanted course old new w mode text a c ended
@@ -303,5 +308,5 @@ module _ (functions : Functions) {D R : Type 0} (state : D → State) where
           })))));
         },
         inl (record { paced = (later.pace, goes.paced); other = λ full. absurd (omega arith); fault = λ device. absurd (omega arith) }),
-        goes.accepted,
+        λ strict. (goes.accepted strict, λ _. goes.accepted strict),
       )

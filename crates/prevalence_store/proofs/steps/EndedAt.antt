@@ -43,7 +43,7 @@ module _ (functions : Functions) {D R : Type 0} (state : D → State) where
       → HasEndedAt functions state wanted course old new w mode text a b (ways.Store number)
   unfolding any_group
   ends_at_once wanted course old new w mode text a b number is =
-      (record { serves = any_group functions state old new w mode text a b wanted.group (Store number) is.0.serves; paced = is.1; stays = λ output all. let one = is.0.in_form output in absurd (omega arith) }, λ is_strict. is.0.accepted)
+      (record { serves = any_group functions state old new w mode text a b wanted.group (Store number) is.0.serves; paced = is.1; stays = λ output all. let one = is.0.in_form output in absurd (omega arith) }, λ is_strict. (is.0.accepted, λ more. let one = is.0.serves.in_turn refl in absurd (omega (arith, more, one))))
 
   -- the reader refused the text, whatever follows it
   pub fault_ended : (sound : (d : D) → IsHonest (state d) → IsSound (state d)) (wanted : Wanted) (course later : Course) (old new : StoreView D R) (w : WorldState) (mode : Mode) (text : List ℕ) (a b : Option (List ℕ)) (pending : Pending)
@@ -71,7 +71,7 @@ module _ (functions : Functions) {D R : Type 0} (state : D → State) where
         paced = fault_paced functions state sound old new w mode (text ++ more) a b known wanted.group number refuses.at (refuses.reads more) same (Reader code) is course.pace;
         stays = λ others. (refl, (refuses.at, still others ∙ ap (λ n. refused n refuses.at) (sym is.0)));
       },
-      λ is_strict. refl,
+      λ is_strict. (refl, λ more. absurd (omega (arith, more))),
       (
         refuses.at,
         refuses.reads more ∙ ap (λ n. refused n refuses.at) (sym is.0),
@@ -87,7 +87,7 @@ module _ (functions : Functions) {D R : Type 0} (state : D → State) where
         paced = fault_paced functions state sound old new w mode (text ++ more) a b known wanted.group number refuses.at (refuses.reads more) same (Store code) (inl full) course.pace;
         stays = λ output all. (number, λ others. (refl, (refuses.at, still others)));
       },
-      λ is_strict. refl,
+      λ is_strict. (refl, λ more. absurd (omega (arith, more))),
     )
     by_ending (Store code) (inr memory) = (
       record {
@@ -95,7 +95,7 @@ module _ (functions : Functions) {D R : Type 0} (state : D → State) where
         paced = fault_paced functions state sound old new w mode (text ++ more) a b known wanted.group number refuses.at (refuses.reads more) same (Store code) (inr memory) course.pace;
         stays = λ output all. (number, λ others. (refl, (refuses.at, still others)));
       },
-      λ is_strict. refl,
+      λ is_strict. (refl, λ more. absurd (omega (arith, more))),
     )
 
   -- there is no memory for what was read
@@ -108,7 +108,7 @@ module _ (functions : Functions) {D R : Type 0} (state : D → State) where
       paced = no_memory_paced functions state sound old old w mode text held held known wanted.group refl refl course.pace;
       stays = λ output. absurd (omega arith);
     },
-    λ is_strict. refl,
+    λ is_strict. (refl, λ more. absurd (omega (arith, more))),
   )
 
   pub memory_at_end : (sound : (d : D) → IsHonest (state d) → IsSound (state d)) (wanted : Wanted) (course : Course) (old : StoreView D R) (w : WorldState) (mode : Mode) (text : List ℕ) (held : Option (List ℕ)) → old.world ≡ Some w
@@ -117,7 +117,7 @@ module _ (functions : Functions) {D R : Type 0} (state : D → State) where
   memory_at_end sound wanted course old w mode text held known = (
     no_memory functions state sound old old w mode text held held known wanted.group refl refl,
     no_memory_paced functions state sound old old w mode text held held known wanted.group refl refl course.pace,
-    λ is_strict. refl,
+    λ is_strict. (refl, λ more. absurd (omega (arith, more))),
   )
 
   -- nothing is left at the end of the input
@@ -127,7 +127,7 @@ module _ (functions : Functions) {D R : Type 0} (state : D → State) where
   done_at_end sound wanted course old w mode text held known none = (
     done functions state sound old old w mode text held held known wanted.group refl refl none,
     done_paced functions state sound old old w mode text held held known wanted.group refl refl none course.pace,
-    λ is_strict. refl,
+    λ is_strict. (refl, λ more. absurd (omega (arith, more))),
   )
 
   -- the reader refuses the text at the end of the input
@@ -140,7 +140,7 @@ module _ (functions : Functions) {D R : Type 0} (state : D → State) where
     (
       fault_answered functions state sound old new w mode text a b known wanted.group number at reads same (Reader code) answers,
       fault_paced functions state sound old new w mode text a b known wanted.group number at reads same (Reader code) answers course.pace,
-      λ is_strict. refl,
+      λ is_strict. (refl, λ more. absurd (omega (arith, more))),
     ),
     (
       at,
@@ -154,12 +154,12 @@ module _ (functions : Functions) {D R : Type 0} (state : D → State) where
   fault_at_end sound wanted course old new w mode text a b number at known reads same start place forms_is start_is at_is begins (Store code) (inl full) = (
     fault_answered functions state sound old new w mode text a b known wanted.group number at reads same (Store code) (inl full),
     fault_paced functions state sound old new w mode text a b known wanted.group number at reads same (Store code) (inl full) course.pace,
-    λ is_strict. refl,
+    λ is_strict. (refl, λ more. absurd (omega (arith, more))),
   )
   fault_at_end sound wanted course old new w mode text a b number at known reads same start place forms_is start_is at_is begins (Store code) (inr memory) = (
     fault_answered functions state sound old new w mode text a b known wanted.group number at reads same (Store code) (inr memory),
     fault_paced functions state sound old new w mode text a b known wanted.group number at reads same (Store code) (inr memory) course.pace,
-    λ is_strict. refl,
+    λ is_strict. (refl, λ more. absurd (omega (arith, more))),
   )
 
   -- the form that the text begins with was refused, and the session is strict
@@ -198,7 +198,7 @@ module _ (functions : Functions) {D R : Type 0} (state : D → State) where
   read_at_end wanted course later old new w text a b start next (ways.Unreadable number place) is within = absurd is
   read_at_end wanted course later old new w text a b start next (ways.Unaccepted number place) is within = (is.0, strict_stops wanted course later old new w text a b start next number place is within)
   read_at_end wanted course later old new w text a b start next (ways.Store number) is within =
-      (any_group functions state old new w wanted.mode text a b wanted.group (Store number) is.0.serves, is.1, λ is_strict. is.0.accepted)
+      (any_group functions state old new w wanted.mode text a b wanted.group (Store number) is.0.serves, is.1, λ is_strict. (is.0.accepted, λ more. let one = is.0.serves.in_turn refl in absurd (omega (arith, more, one))))
 
   -- the same where nothing was done before
   pub read_from : (course mid later : Course) (old between new : StoreView D R) (w : WorldState) (wanted : Wanted) (text : List ℕ) (a b c : Option (List ℕ)) (start next : ℕ) (result : Result Unit Ended) → between ≡ old → b ≡ a → mid ≡ course

@@ -250,7 +250,7 @@ module _ (functions : Functions) where
             })));
             stays = λ output. absurd (omega arith);
           },
-          λ strict. refl,
+          λ strict. (refl, λ _. is.accepted strict),
         )
 
     -- the writer failed in their lines
@@ -311,5 +311,5 @@ module _ (functions : Functions) where
               });
               stays = λ output all. absurd (omega (arith, all, at.fewer));
             },
-            λ strict. at.accepted (is.accepted strict),
+            λ strict. (at.accepted (is.accepted strict), λ _. is.accepted strict),
           )

@@ -233,5 +233,5 @@ module _ (functions : Functions) (w : WorldState) (mode : Mode) (text : List ℕ
           };
         },
         (later.pace, passes.paced),
-        λ strict. passes.refused_are ∙ accepted strict,
+        λ strict. (passes.refused_are ∙ accepted strict, λ more. absurd (omega (arith, more))),
       )

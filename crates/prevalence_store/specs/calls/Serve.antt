@@ -313,15 +313,19 @@ module _ (functions : Functions) {D R : Type 0} (state : D → State) (old new :
       × (place.start + length served.far.rest ≡ bytes_before + length text + refused_from functions served.far.world mode served.far.rest)
       × IsRefusedFrom functions served.far.world mode served.far.rest number at (refused_from functions served.far.world mode served.far.rest)
 
+-- All that was answered was accepted; and if more than one form is open, all that was taken.
+abbrev pub AreAccepted : (forms lines : ℕ) (far answered : Progress) → Type 0
+AreAccepted forms lines far answered = (answered.refused ≡ []) × (lines + 1 < forms → far.refused ≡ [])
+
 -- A session over what a reader gives, as it is wanted: as `ServesInput`, with the place of a refusal of the reader counted in the input;
 -- and if it is strict all forms whose lines were written whole were accepted, but the one at which it ended.
 abbrev pub ServesWanted : (functions : Functions) {D R : Type 0} (state : D → State) (wanted : Wanted) (old new : StoreView D R) (world : WorldState) (had has held written : Option (List ℕ)) → Ended → Type 0
 ServesWanted functions state wanted old new world had has held written ways.End =
     (served : ServesInput functions state wanted.group wanted.snapshot_every old new world wanted.mode had has held written End)
-    × (wanted.strict ≡ true → served.serves.answered.refused ≡ [])
+    × (wanted.strict ≡ true → AreAccepted served.serves.forms served.serves.lines served.serves.far served.serves.answered)
 ServesWanted functions state wanted old new world had has held written (ways.Unreadable number place) =
     (served : ServesInput functions state wanted.group wanted.snapshot_every old new world wanted.mode had has held written (Reader number))
-    × (wanted.strict ≡ true → served.serves.answered.refused ≡ [])
+    × (wanted.strict ≡ true → AreAccepted served.serves.forms served.serves.lines served.serves.far served.serves.answered)
     × RefusesAt functions state old new world wanted.mode served.text held written (first_pace wanted.snapshot_every) 0 0 number served.serves place
 ServesWanted functions state wanted old new world had has held written (ways.Unaccepted number place) =
     (wanted.strict ≡ true) × (text : List ℕ)
@@ -329,4 +333,4 @@ ServesWanted functions state wanted old new world had has held written (ways.Una
     × ((all : List ℕ) → had ≡ Some all → (left : List ℕ) × (all ≡ text ++ left) × (has ≡ Some left))
 ServesWanted functions state wanted old new world had has held written (ways.Store number) =
     (served : ServesInput functions state wanted.group wanted.snapshot_every old new world wanted.mode had has held written (Store number))
-    × (wanted.strict ≡ true → served.serves.answered.refused ≡ [])
+    × (wanted.strict ≡ true → AreAccepted served.serves.forms served.serves.lines served.serves.far served.serves.answered)

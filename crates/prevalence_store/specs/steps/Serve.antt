@@ -14,7 +14,7 @@ use Rattle.prevalence_store.specs.meaning.Answers.{Progress, after_forms}
 use Rattle.prevalence_store.specs.calls.Pace.{Pace, Paces, fill_of}
 use Rattle.prevalence_store.specs.steps.Input.{IsPending}
 use Rattle.prevalence_store.specs.steps.Course.{Comes, Course}
-use Rattle.prevalence_store.specs.calls.Serve.{Advances, RefusesAt, Serves, ServesInPace, StaysRefused, StopsStrict}
+use Rattle.prevalence_store.specs.calls.Serve.{Advances, AreAccepted, RefusesAt, Serves, ServesInPace, StaysRefused, StopsStrict}
 use Rattle.prevalence_store.specs.calls.Store.{StoreView}
 use Rattle.plist_state.specs.State.{WorldState}
 use Rattle.user_macros.specs.Functions.{Functions}
@@ -68,7 +68,7 @@ module _ (functions : Functions) {D R : Type 0} (state : D → State) (wanted : 
   ServesStrict ending =
       (served : Serves functions state old new world mode text held written wanted.group ending)
       × ServesInPace functions state course.pace old new world mode text held written ending served
-      × (wanted.strict ≡ true → served.answered.refused ≡ [])
+      × (wanted.strict ≡ true → AreAccepted served.forms served.lines served.far served.answered)
 
   -- the same, with the place of a refusal
   abbrev pub EndsAt : Ended → Type 0
@@ -84,12 +84,13 @@ module _ (functions : Functions) {D R : Type 0} (state : D → State) (wanted : 
   HasEndedAt ways.End = ⊥
   HasEndedAt (ways.Unreadable number place) =
       (is : HasEnded functions state course.pace old new world mode text held written wanted.group (Reader number))
-      × (wanted.strict ≡ true → is.serves.answered.refused ≡ [])
+      × (wanted.strict ≡ true → AreAccepted is.serves.forms is.serves.lines is.serves.far is.serves.answered)
       × RefusesAt functions state old new world mode text held written course.pace course.forms course.bytes number is.serves place
   HasEndedAt (ways.Unaccepted number place) =
       (wanted.strict ≡ true) × StopsStrict functions state old new world mode text held written course.pace course.forms course.bytes number place
   HasEndedAt (ways.Store number) =
-      (is : HasEnded functions state course.pace old new world mode text held written wanted.group (Store number)) × (wanted.strict ≡ true → is.serves.answered.refused ≡ [])
+      (is : HasEnded functions state course.pace old new world mode text held written wanted.group (Store number))
+      × (wanted.strict ≡ true → AreAccepted is.serves.forms is.serves.lines is.serves.far is.serves.answered)
 
 module _ (functions : Functions) {D R : Type 0} (state : D → State) (wanted : Wanted) (course later : Course) (old new : StoreView D R) (world : WorldState) (mode : Mode) (text : List ℕ) (held written : Option (List ℕ)) (pending : Pending) where
   -- The session goes on; or it has ended, whatever follows the text.
