@@ -18,7 +18,7 @@ use Rattle.world_forms.specs.declared.export.Content.TheVariants.{Data, World}
 use Rattle.command_words.specs.declared.words.Task.{Task}
 use Rattle.command_words.specs.declared.words.Report.TheVariants.{Dump, Verify}
 use Rattle.command_words.specs.declared.words.Task.TheVariants.{Export, Run, Snapshot, Tell, Upgrade}
-use Rattle.command_words.specs.CommandLine.{AsksFor, IsLine, IsTaken, asked_in, asked_of, command_line, data_for, every_in, every_of_number, existing_for, faults_of, flag_for, is_set, missing_command, mode_of_flag, strict_for}
+use Rattle.command_words.specs.CommandLine.{AsksFor, IsLine, IsTaken, asked_in, asked_of, command_line, data_for, every_in, every_of_number, existing_for, faults_of, flag_for, group_for, is_set, missing_command, mode_of_flag, strict_for}
 
 pub simple_line : is_simple command_line ≡ true
 unfolding clap_on_literals
@@ -35,26 +35,28 @@ pub record IsRight (words : List Text) (folder : Text) (existing : Bool) (task :
   pub asked : asked_in words ≡ Some (folder, existing, task)
 
 -- what is wanted of a session
-abbrev wanting : Mode → ℕ → Bool → Wanted
-wanting mode every strict = record { mode = mode; snapshot_every = every; strict = strict }
+abbrev wanting : Mode → ℕ → Bool → Bool → Wanted
+wanting mode every strict group = record { mode = mode; snapshot_every = every; strict = strict; group = group }
 
-wanted_is : (wanted : Wanted) (every : ℕ) (strict : Bool) → wanted.snapshot_every ≡ every → wanted.strict ≡ strict → wanted ≡ wanting wanted.mode every strict
-wanted_is wanted every strict is same = ap₂ (λ n b. wanting wanted.mode n b) is same
+wanted_is : (wanted : Wanted) (every : ℕ) (strict group : Bool) → wanted.snapshot_every ≡ every → wanted.strict ≡ strict → wanted.group ≡ group → wanted ≡ wanting wanted.mode every strict group
+wanted_is wanted every strict group is same together = rw (← is, ← same, ← together) refl
 
 -- what is asked for, from the parts of what was found
-asked_from : (found : Option (Text × List Row)) (folder : Text) (existing : Bool) (mode : Mode) (every : ℕ) (strict : Bool) → option_map (λ (p : Text × List Row). p.0) found ≡ Some (codes "run")
+asked_from : (found : Option (Text × List Row)) (folder : Text) (existing : Bool) (mode : Mode) (every : ℕ) (strict group : Bool) → option_map (λ (p : Text × List Row). p.0) found ≡ Some (codes "run")
     → option_map (λ (p : Text × List Row). first_of (codes "DIR") p.1) found ≡ Some (Some folder) → option_map (λ (p : Text × List Row). is_set (first_of (codes "existing") p.1)) found ≡ Some existing
     → option_map (λ (p : Text × List Row). mode_of_flag (first_of (codes "rescue") p.1)) found ≡ Some mode → option_map (λ (p : Text × List Row). every_in p.1) found ≡ Some every
-    → option_map (λ (p : Text × List Row). is_set (first_of (codes "strict") p.1)) found ≡ Some strict → option_and_then asked_of found ≡ Some (folder, existing, Run (wanting mode every strict))
-asked_from None folder existing mode every strict name at there way number ends = absurd (cc)
-asked_from (Some (is, rows)) folder existing mode every strict name at there way number ends =
+    → option_map (λ (p : Text × List Row). is_set (first_of (codes "strict") p.1)) found ≡ Some strict → option_map (λ (p : Text × List Row). is_set (first_of (codes "group") p.1)) found ≡ Some group
+    → option_and_then asked_of found ≡ Some (folder, existing, Run (wanting mode every strict group))
+asked_from None folder existing mode every strict group name at there way number ends together = absurd (cc)
+asked_from (Some (is, rows)) folder existing mode every strict group name at there way number ends together =
     let name_is : is ≡ codes "run" = cc in
     let folder_is : first_of (codes "DIR") rows ≡ Some folder = cc in
     let existing_is : is_set (first_of (codes "existing") rows) ≡ existing = cc in
     let mode_is : mode_of_flag (first_of (codes "rescue") rows) ≡ mode = cc in
     let every_is : every_in rows ≡ every = cc in
     let strict_is : is_set (first_of (codes "strict") rows) ≡ strict = cc in
-    rw (name_is, folder_is, existing_is, mode_is, every_is, strict_is) refl
+    let group_is : is_set (first_of (codes "group") rows) ≡ group = cc in
+    rw (name_is, folder_is, existing_is, mode_is, every_is, strict_is, group_is) refl
 
 -- words that are written out but for the program's name, the folder and the number
 module _ (program : Text) (x : ℕ) (xs : Text) (e : (x == 45) ≡ false) where
@@ -129,47 +131,88 @@ module _ (program : Text) (x : ℕ) (xs : Text) (e : (x == 45) ≡ false) where
   right_verify false = right_verify_any
   right_verify true = right_verify_existing
 
-  right_current_any : IsRight (program ∷ codes "run" ∷ (x ∷ xs) ∷ []) (x ∷ xs) false (Run (wanting Current 0 false))
+  right_current_any : IsRight (program ∷ codes "run" ∷ (x ∷ xs) ∷ []) (x ∷ xs) false (Run (wanting Current 0 false false))
   unfolding clap_on_literals
   right_current_any = record { taken = simp e; faultless = simp e; asked = simp e }
 
-  right_current_existing : IsRight (program ∷ codes "run" ∷ (x ∷ xs) ∷ codes "--existing" ∷ []) (x ∷ xs) true (Run (wanting Current 0 false))
+  right_current_existing : IsRight (program ∷ codes "run" ∷ (x ∷ xs) ∷ codes "--existing" ∷ []) (x ∷ xs) true (Run (wanting Current 0 false false))
   unfolding clap_on_literals
   right_current_existing = record { taken = simp e; faultless = rw e (rw e refl); asked = rw e (rw e refl) }
 
-  right_current_strict_any : IsRight (program ∷ codes "run" ∷ (x ∷ xs) ∷ codes "--strict" ∷ []) (x ∷ xs) false (Run (wanting Current 0 true))
+  right_current_group_any : IsRight (program ∷ codes "run" ∷ (x ∷ xs) ∷ codes "--group" ∷ []) (x ∷ xs) false (Run (wanting Current 0 false true))
   unfolding clap_on_literals
-  right_current_strict_any = record { taken = simp e; faultless = rw e (rw e refl); asked = rw e (rw e refl) }
+  right_current_group_any = record { taken = rw e (rw e refl); faultless = rw e (rw e refl); asked = rw e (rw e refl) }
 
-  right_current_strict_existing : IsRight (program ∷ codes "run" ∷ (x ∷ xs) ∷ codes "--strict" ∷ codes "--existing" ∷ []) (x ∷ xs) true (Run (wanting Current 0 true))
+  right_current_group_existing : IsRight (program ∷ codes "run" ∷ (x ∷ xs) ∷ codes "--group" ∷ codes "--existing" ∷ []) (x ∷ xs) true (Run (wanting Current 0 false true))
+  unfolding clap_on_literals
+  right_current_group_existing = record { taken = rw e (rw e refl); faultless = rw e (rw e refl); asked = rw e (rw e refl) }
+
+  right_current_strict_any : IsRight (program ∷ codes "run" ∷ (x ∷ xs) ∷ codes "--strict" ∷ []) (x ∷ xs) false (Run (wanting Current 0 true false))
+  unfolding clap_on_literals
+  right_current_strict_any = record { taken = rw e (rw e refl); faultless = rw e (rw e refl); asked = rw e (rw e refl) }
+
+  right_current_strict_existing : IsRight (program ∷ codes "run" ∷ (x ∷ xs) ∷ codes "--strict" ∷ codes "--existing" ∷ []) (x ∷ xs) true (Run (wanting Current 0 true false))
   unfolding clap_on_literals
   right_current_strict_existing = record { taken = rw e (rw e refl); faultless = rw e (rw e refl); asked = rw e (rw e refl) }
 
-  right_rescue_any : IsRight (program ∷ codes "run" ∷ (x ∷ xs) ∷ codes "--rescue" ∷ []) (x ∷ xs) false (Run (wanting Rescue 0 false))
+  right_current_strict_group_any : IsRight (program ∷ codes "run" ∷ (x ∷ xs) ∷ codes "--strict" ∷ codes "--group" ∷ []) (x ∷ xs) false (Run (wanting Current 0 true true))
   unfolding clap_on_literals
-  right_rescue_any = record { taken = simp e; faultless = rw e (rw e refl); asked = rw e (rw e refl) }
+  right_current_strict_group_any = record { taken = rw e (rw e refl); faultless = rw e (rw e refl); asked = rw e (rw e refl) }
 
-  right_rescue_existing : IsRight (program ∷ codes "run" ∷ (x ∷ xs) ∷ codes "--rescue" ∷ codes "--existing" ∷ []) (x ∷ xs) true (Run (wanting Rescue 0 false))
+  right_current_strict_group_existing : IsRight (program ∷ codes "run" ∷ (x ∷ xs) ∷ codes "--strict" ∷ codes "--group" ∷ codes "--existing" ∷ []) (x ∷ xs) true (Run (wanting Current 0 true true))
+  unfolding clap_on_literals
+  right_current_strict_group_existing = record { taken = rw e (rw e refl); faultless = rw e (rw e refl); asked = rw e (rw e refl) }
+
+  right_rescue_any : IsRight (program ∷ codes "run" ∷ (x ∷ xs) ∷ codes "--rescue" ∷ []) (x ∷ xs) false (Run (wanting Rescue 0 false false))
+  unfolding clap_on_literals
+  right_rescue_any = record { taken = rw e (rw e refl); faultless = rw e (rw e refl); asked = rw e (rw e refl) }
+
+  right_rescue_existing : IsRight (program ∷ codes "run" ∷ (x ∷ xs) ∷ codes "--rescue" ∷ codes "--existing" ∷ []) (x ∷ xs) true (Run (wanting Rescue 0 false false))
   unfolding clap_on_literals
   right_rescue_existing = record { taken = rw e (rw e refl); faultless = rw e (rw e refl); asked = rw e (rw e refl) }
 
-  right_rescue_strict_any : IsRight (program ∷ codes "run" ∷ (x ∷ xs) ∷ codes "--rescue" ∷ codes "--strict" ∷ []) (x ∷ xs) false (Run (wanting Rescue 0 true))
+  right_rescue_group_any : IsRight (program ∷ codes "run" ∷ (x ∷ xs) ∷ codes "--rescue" ∷ codes "--group" ∷ []) (x ∷ xs) false (Run (wanting Rescue 0 false true))
+  unfolding clap_on_literals
+  right_rescue_group_any = record { taken = rw e (rw e refl); faultless = rw e (rw e refl); asked = rw e (rw e refl) }
+
+  right_rescue_group_existing : IsRight (program ∷ codes "run" ∷ (x ∷ xs) ∷ codes "--rescue" ∷ codes "--group" ∷ codes "--existing" ∷ []) (x ∷ xs) true (Run (wanting Rescue 0 false true))
+  unfolding clap_on_literals
+  right_rescue_group_existing = record { taken = rw e (rw e refl); faultless = rw e (rw e refl); asked = rw e (rw e refl) }
+
+  right_rescue_strict_any : IsRight (program ∷ codes "run" ∷ (x ∷ xs) ∷ codes "--rescue" ∷ codes "--strict" ∷ []) (x ∷ xs) false (Run (wanting Rescue 0 true false))
   unfolding clap_on_literals
   right_rescue_strict_any = record { taken = rw e (rw e refl); faultless = rw e (rw e refl); asked = rw e (rw e refl) }
 
-  right_rescue_strict_existing : IsRight (program ∷ codes "run" ∷ (x ∷ xs) ∷ codes "--rescue" ∷ codes "--strict" ∷ codes "--existing" ∷ []) (x ∷ xs) true (Run (wanting Rescue 0 true))
+  right_rescue_strict_existing : IsRight (program ∷ codes "run" ∷ (x ∷ xs) ∷ codes "--rescue" ∷ codes "--strict" ∷ codes "--existing" ∷ []) (x ∷ xs) true (Run (wanting Rescue 0 true false))
   unfolding clap_on_literals
   right_rescue_strict_existing = record { taken = rw e (rw e refl); faultless = rw e (rw e refl); asked = rw e (rw e refl) }
 
-  right_run : (mode : Mode) (strict existing : Bool) → IsRight (program ∷ codes "run" ∷ (x ∷ xs) ∷ (flag_for mode ++ (strict_for strict ++ existing_for existing))) (x ∷ xs) existing (Run (wanting mode 0 strict))
-  right_run Current false false = right_current_any
-  right_run Current false true = right_current_existing
-  right_run Current true false = right_current_strict_any
-  right_run Current true true = right_current_strict_existing
-  right_run Rescue false false = right_rescue_any
-  right_run Rescue false true = right_rescue_existing
-  right_run Rescue true false = right_rescue_strict_any
-  right_run Rescue true true = right_rescue_strict_existing
+  right_rescue_strict_group_any : IsRight (program ∷ codes "run" ∷ (x ∷ xs) ∷ codes "--rescue" ∷ codes "--strict" ∷ codes "--group" ∷ []) (x ∷ xs) false (Run (wanting Rescue 0 true true))
+  unfolding clap_on_literals
+  right_rescue_strict_group_any = record { taken = rw e (rw e refl); faultless = rw e (rw e refl); asked = rw e (rw e refl) }
+
+  right_rescue_strict_group_existing : IsRight (program ∷ codes "run" ∷ (x ∷ xs) ∷ codes "--rescue" ∷ codes "--strict" ∷ codes "--group" ∷ codes "--existing" ∷ []) (x ∷ xs) true (Run (wanting Rescue 0 true true))
+  unfolding clap_on_literals
+  right_rescue_strict_group_existing = record { taken = rw e (rw e refl); faultless = rw e (rw e refl); asked = rw e (rw e refl) }
+
+  right_run : (mode : Mode) (strict group existing : Bool)
+      → IsRight (program ∷ codes "run" ∷ (x ∷ xs) ∷ (flag_for mode ++ (strict_for strict ++ (group_for group ++ existing_for existing)))) (x ∷ xs) existing (Run (wanting mode 0 strict group))
+  right_run Current false false false = right_current_any
+  right_run Current false false true = right_current_existing
+  right_run Current false true false = right_current_group_any
+  right_run Current false true true = right_current_group_existing
+  right_run Current true false false = right_current_strict_any
+  right_run Current true false true = right_current_strict_existing
+  right_run Current true true false = right_current_strict_group_any
+  right_run Current true true true = right_current_strict_group_existing
+  right_run Rescue false false false = right_rescue_any
+  right_run Rescue false false true = right_rescue_existing
+  right_run Rescue false true false = right_rescue_group_any
+  right_run Rescue false true true = right_rescue_group_existing
+  right_run Rescue true false false = right_rescue_strict_any
+  right_run Rescue true false true = right_rescue_strict_existing
+  right_run Rescue true true false = right_rescue_strict_group_any
+  right_run Rescue true true true = right_rescue_strict_group_existing
 
   module _ (y : ℕ) (ys : Text) (d : (y == 45) ≡ false) (passes : is_unsigned_in 1 1000000 (y ∷ ys) ≡ true) where
     -- what is left of each of the next ones: the number passes
@@ -187,9 +230,9 @@ module _ (program : Text) (x : ℕ) (xs : Text) (e : (x == 45) ≡ false) where
     unfolding clap_on_literals
     current_every_faultless = simp e (rw (d, d) left_kinds)
 
-    current_every_asked : asked_in (program ∷ codes "run" ∷ (x ∷ xs) ∷ codes "--snapshot-every" ∷ (y ∷ ys) ∷ []) ≡ Some (x ∷ xs, false, Run (wanting Current (every_of_number (Some (y ∷ ys))) false))
+    current_every_asked : asked_in (program ∷ codes "run" ∷ (x ∷ xs) ∷ codes "--snapshot-every" ∷ (y ∷ ys) ∷ []) ≡ Some (x ∷ xs, false, Run (wanting Current (every_of_number (Some (y ∷ ys))) false false))
     unfolding clap_on_literals
-    current_every_asked = simp e (rw (d, d) (refl {a = Some (x ∷ xs, false, Run (wanting Current (every_of_number (Some (y ∷ ys))) false))}))
+    current_every_asked = simp e (rw (d, d) (refl {a = Some (x ∷ xs, false, Run (wanting Current (every_of_number (Some (y ∷ ys))) false false))}))
 
     rescue_every_taken : takes command_line (program ∷ codes "run" ∷ (x ∷ xs) ∷ codes "--rescue" ∷ codes "--snapshot-every" ∷ (y ∷ ys) ∷ []) ≡ true
     unfolding clap_on_literals
@@ -227,14 +270,18 @@ module _ (program : Text) (x : ℕ) (xs : Text) (e : (x == 45) ≡ false) where
     unfolding clap_on_literals
     rescue_every_strict = simp e (rw (d, d) (refl {a = Some (false)}))
 
-    rescue_every_asked : asked_in (program ∷ codes "run" ∷ (x ∷ xs) ∷ codes "--rescue" ∷ codes "--snapshot-every" ∷ (y ∷ ys) ∷ []) ≡ Some (x ∷ xs, false, Run (wanting Rescue (every_of_number (Some (y ∷ ys))) false))
+    rescue_every_group : option_map (λ (p : Text × List Row). is_set (first_of (codes "group") p.1)) rescue_every ≡ Some (false)
+    unfolding clap_on_literals
+    rescue_every_group = simp e (rw (d, d) (refl {a = Some (false)}))
+
+    rescue_every_asked : asked_in (program ∷ codes "run" ∷ (x ∷ xs) ∷ codes "--rescue" ∷ codes "--snapshot-every" ∷ (y ∷ ys) ∷ []) ≡ Some (x ∷ xs, false, Run (wanting Rescue (every_of_number (Some (y ∷ ys))) false false))
     rescue_every_asked =
-        asked_from rescue_every (x ∷ xs) false Rescue (every_of_number (Some (y ∷ ys))) false rescue_every_name rescue_every_folder rescue_every_existing rescue_every_mode
-        rescue_every_number rescue_every_strict
+        asked_from rescue_every (x ∷ xs) false Rescue (every_of_number (Some (y ∷ ys))) false false rescue_every_name rescue_every_folder rescue_every_existing rescue_every_mode
+        rescue_every_number rescue_every_strict rescue_every_group
 
     right_every : (mode : Mode)
         → IsRight (program ∷ codes "run" ∷ (x ∷ xs) ∷ (flag_for mode ++ codes "--snapshot-every" ∷ (y ∷ ys) ∷ [])) (x ∷ xs) false
-        (Run (wanting mode (every_of_number (Some (y ∷ ys))) false))
+        (Run (wanting mode (every_of_number (Some (y ∷ ys))) false false))
     right_every Current = record { taken = current_every_taken; faultless = current_every_faultless; asked = current_every_asked }
     right_every Rescue = record { taken = rescue_every_taken; faultless = rescue_every_faultless; asked = rescue_every_asked }
 
@@ -263,10 +310,10 @@ module _ (y : ℕ) (ys : Text) (numeral : IsNumeral 10 (y ∷ ys)) where
 
 module _ (program : Text) (x : ℕ) (xs : Text) (e : (x == 45) ≡ false) where
   right_number : (mode : Mode) (number : Text) (every : ℕ) → IsNumeral 10 number → digits_value 10 number ≡ every → 1 ≤ every → every ≤ 1000000
-      → IsRight (program ∷ codes "run" ∷ (x ∷ xs) ∷ (flag_for mode ++ codes "--snapshot-every" ∷ number ∷ [])) (x ∷ xs) false (Run (wanting mode every false))
+      → IsRight (program ∷ codes "run" ∷ (x ∷ xs) ∷ (flag_for mode ++ codes "--snapshot-every" ∷ number ∷ [])) (x ∷ xs) false (Run (wanting mode every false false))
   right_number mode [] every numeral is above below = let none : 0 < 0 = numeral.0 in absurd (omega arith)
   right_number mode (y ∷ ys) every numeral is above below =
-      subst (λ n. IsRight (program ∷ codes "run" ∷ (x ∷ xs) ∷ (flag_for mode ++ codes "--snapshot-every" ∷ (y ∷ ys) ∷ [])) (x ∷ xs) false (Run (wanting mode n false)))
+      subst (λ n. IsRight (program ∷ codes "run" ∷ (x ∷ xs) ∷ (flag_for mode ++ codes "--snapshot-every" ∷ (y ∷ ys) ∷ [])) (x ∷ xs) false (Run (wanting mode n false false)))
       (number_is y ys numeral every is above below)
       (right_every program x xs e y ys (differs y 45 (no_hyphen y ys numeral)) (in_range y ys numeral 1 1000000 every is above below (omega arith)) mode)
 
@@ -277,14 +324,14 @@ module _ (program : Text) (x : ℕ) (xs : Text) (e : (x == 45) ≡ false) where
   right_plain line existing (Tell Dump) is = rw is (right_dump program x xs e existing)
   right_plain line existing (Tell Verify) is = rw is (right_verify program x xs e existing)
   right_plain line false (Run wanted) (inl (none, line_is)) =
-      rw line_is (subst (λ (w : Wanted). IsRight (program ∷ codes "run" ∷ (x ∷ xs) ∷ (flag_for wanted.mode ++ (strict_for wanted.strict ++ []))) (x ∷ xs) false (Run w))
-      (sym (wanted_is wanted 0 wanted.strict none refl)) (right_run program x xs e wanted.mode wanted.strict false))
-  right_plain line false (Run wanted) (inr (lax, number, line_is, (numeral, value, above, below))) =
+      rw line_is (subst (λ (w : Wanted). IsRight (program ∷ codes "run" ∷ (x ∷ xs) ∷ (flag_for wanted.mode ++ (strict_for wanted.strict ++ (group_for wanted.group ++ [])))) (x ∷ xs) false (Run w))
+      (sym (wanted_is wanted 0 wanted.strict wanted.group none refl refl)) (right_run program x xs e wanted.mode wanted.strict wanted.group false))
+  right_plain line false (Run wanted) (inr (lax, alone, number, line_is, (numeral, value, above, below))) =
       rw line_is (subst (λ (w : Wanted). IsRight (program ∷ codes "run" ∷ (x ∷ xs) ∷ (flag_for wanted.mode ++ codes "--snapshot-every" ∷ number ∷ [])) (x ∷ xs) false (Run w))
-      (sym (wanted_is wanted wanted.snapshot_every false refl lax)) (right_number wanted.mode number wanted.snapshot_every numeral value above below))
+      (sym (wanted_is wanted wanted.snapshot_every false false refl lax alone)) (right_number wanted.mode number wanted.snapshot_every numeral value above below))
   right_plain line true (Run wanted) (none, line_is) =
-      rw line_is (subst (λ (w : Wanted). IsRight (program ∷ codes "run" ∷ (x ∷ xs) ∷ (flag_for wanted.mode ++ (strict_for wanted.strict ++ existing_for true))) (x ∷ xs) true (Run w))
-      (sym (wanted_is wanted 0 wanted.strict none refl)) (right_run program x xs e wanted.mode wanted.strict true))
+      rw line_is (subst (λ (w : Wanted). IsRight (program ∷ codes "run" ∷ (x ∷ xs) ∷ (flag_for wanted.mode ++ (strict_for wanted.strict ++ (group_for wanted.group ++ existing_for true)))) (x ∷ xs) true (Run w))
+      (sym (wanted_is wanted 0 wanted.strict wanted.group none refl refl)) (right_run program x xs e wanted.mode wanted.strict wanted.group true))
 
 pub right_line : (words : List Text) (folder : Text) (existing : Bool) (task : Task) → AsksFor words folder existing task → IsRight words folder existing task
 right_line words [] existing task asks = absurd asks.4
