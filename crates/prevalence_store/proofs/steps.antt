@@ -20,4 +20,5 @@ pub mod Inputs
 pub mod Gathering
 pub mod Counting
 pub mod Gathered
+pub mod CommittingGroups
 pub mod TakingGroups

@@ -1,5 +1,5 @@
 -- The forms of a group that were answered, or in which the session has ended.
-use Rattle.std.proofs.Common.{◌≡◌, ◌≢◌, ◌⊎◌, ℕ, zero, suc, ◌+◌, ◌-◌, ◌<◌, ◌≤◌, max, Bool, true, false, List, [], ◌∷◌, ◌++◌, length, drop, Option, None, Some, Ok, Err, refl, sym, ap, subst, ◌∙◌, inl, inr, append_assoc, append-nil, length-append, length-drop, arith}
+use Rattle.std.proofs.Common.{◌≡◌, ◌≢◌, ◌⊎◌, ℕ, zero, suc, ◌+◌, ◌<◌, ◌≤◌, max, true, List, [], ◌∷◌, ◌++◌, length, drop, Option, None, Some, Ok, Err, refl, sym, ap, subst, ◌∙◌, inl, inr, append_assoc, append-nil, length-append, length-drop, arith}
 use Rattle.std.specs.Option.{option_map}
 use Rattle.std.specs.List.{flat_map}
 use Rattle.std.proofs.lemmas.List.{drop-drop}
@@ -18,10 +18,10 @@ use Rattle.prevalence_store.specs.declared.outcome.Wanted.{Wanted}
 use Rattle.prevalence_store.specs.declared.session.gather.Gathered.{Gathered}
 use Rattle.prevalence_store.specs.declared.session.together.Grouped.TheVariants as grouped
 use Rattle.prevalence_store.specs.meaning.Acceptance.{after, between, read_in}
-use Rattle.prevalence_store.specs.meaning.Answers.{Progress, after_forms, begun, evaluated, last_line, one_form, one_form_more, onward}
+use Rattle.prevalence_store.specs.meaning.Answers.{Progress, after_forms, begun, evaluated, last_line, one_form, onward}
 use Rattle.prevalence_store.specs.calls.ExecuteAll.{LogsAll}
 use Rattle.prevalence_store.specs.calls.Pace.{Paces, fill_of}
-use Rattle.prevalence_store.specs.calls.Serve.{IsAfter, room_of}
+use Rattle.prevalence_store.specs.calls.Serve.{IsAfter}
 use Rattle.prevalence_store.specs.calls.Store.{StoreView}
 use Rattle.prevalence_store.specs.calls.Streams.{Writes, WritesPart}
 use Rattle.prevalence_store.specs.steps.Course.{Course}

@@ -1,5 +1,5 @@
 // A session: forms from a reader, answers to a writer.
-ghost use Rattle.std.specs.Prelude.{◌≡◌, ◌≤◌, ◌<◌, ◌+◌, ◌^◌, ℕ, List, ◌++◌, None, Some, IfOk, true, cond, length, take};
+ghost use Rattle.std.specs.Prelude.{◌≡◌, ◌≤◌, ◌<◌, ◌+◌, ◌^◌, ℕ, List, ◌++◌, None, Some, IfOk, true, false, cond, length, take};
 ghost use Rattle.lisp_object.specs.declared.refusal.TheConstants.{REOPEN};
 ghost use Rattle.plist_state.specs.State.{WorldState};
 ghost use Rattle.form_reader.specs.Reader.{fed};

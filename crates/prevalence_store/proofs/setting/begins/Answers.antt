@@ -1,4 +1,4 @@
-use Rattle.std.proofs.Common.{◌≡◌, ℕ, true, List, [], Option, IfOk, IfSome, append-nil, subst}
+use Rattle.std.proofs.Common.{◌≡◌, ℕ, true, List, [], Option, IfSome, append-nil, subst}
 use Rattle.lisp_object.specs.Object.{IsSound}
 use Rattle.lisp_object.specs.Datum.{is_proper, object_of}
 use Rattle.form_reader.specs.Reader.{IsOutcome}
