@@ -5,6 +5,9 @@ use Rattle.std.specs.Str.Parse.{IsNumeral, digits_value, without_leading_plus}
 use Rattle.clap.specs.ValueTests.{is_unsigned_in}
 use Rattle.clap.specs.declared.builder.value_parser.ValueParser.TheVariants.{Unsigned}
 use Rattle.clap.specs.Kinds.{Kinds, or_else}
+use Rattle.clap.specs.declared.builder.value_parser.Reading.TheVariants.{AsWritten}
+use Rattle.clap.specs.declared.parser.matches.ValueSource.{ValueSource}
+use Rattle.clap.specs.declared.parser.matches.ValueSource.TheVariants.{CommandLine, DefaultValue}
 use Rattle.clap.specs.Words.{IsAmong, Row, Text, fault_of, first_of, is_simple, is_simple_and_free, subcommand_of, takes}
 use Rattle.clap.specs.declared.error.kind.ErrorKind.{ErrorKind}
 use Rattle.clap.specs.declared.error.kind.ErrorKind.TheVariants.{MissingRequiredArgument, OutOfMemory, ValueValidation}
@@ -18,7 +21,7 @@ use Rattle.world_forms.specs.declared.export.Content.TheVariants.{Data, World}
 use Rattle.command_words.specs.declared.words.Task.{Task}
 use Rattle.command_words.specs.declared.words.Report.TheVariants.{Dump, Verify}
 use Rattle.command_words.specs.declared.words.Task.TheVariants.{Export, Run, Snapshot, Tell, Upgrade}
-use Rattle.command_words.specs.CommandLine.{AsksFor, IsLine, IsTaken, asked_in, asked_of, command_line, data_for, every_in, every_of_number, existing_for, faults_of, flag_for, is_set, missing_command, mode_of_flag, strict_for}
+use Rattle.command_words.specs.CommandLine.{AsksFor, IsLine, IsTaken, asked_in, asked_of, command_line, data_for, every_in, every_of_number, existing_for, faults_of, flag_for, group_for, is_set, missing_command, mode_of_flag, strict_for}
 
 pub simple_line : is_simple command_line ≡ true
 unfolding clap_on_literals
@@ -35,26 +38,62 @@ pub record IsRight (words : List Text) (folder : Text) (existing : Bool) (task :
   pub asked : asked_in words ≡ Some (folder, existing, task)
 
 -- what is wanted of a session
-abbrev wanting : Mode → ℕ → Bool → Wanted
-wanting mode every strict = record { mode = mode; snapshot_every = every; strict = strict }
+abbrev wanting : Mode → ℕ → Bool → Bool → Wanted
+wanting mode every strict group = record { mode = mode; snapshot_every = every; strict = strict; group = group }
 
-wanted_is : (wanted : Wanted) (every : ℕ) (strict : Bool) → wanted.snapshot_every ≡ every → wanted.strict ≡ strict → wanted ≡ wanting wanted.mode every strict
-wanted_is wanted every strict is same = ap₂ (λ n b. wanting wanted.mode n b) is same
+wanted_is : (wanted : Wanted) (every : ℕ) (strict group : Bool) → wanted.snapshot_every ≡ every → wanted.strict ≡ strict → wanted.group ≡ group → wanted ≡ wanting wanted.mode every strict group
+wanted_is wanted every strict group is same together = rw (← is, ← same, ← together) refl
 
--- what is asked for, from the parts of what was found
-asked_from : (found : Option (Text × List Row)) (folder : Text) (existing : Bool) (mode : Mode) (every : ℕ) (strict : Bool) → option_map (λ (p : Text × List Row). p.0) found ≡ Some (codes "run")
-    → option_map (λ (p : Text × List Row). first_of (codes "DIR") p.1) found ≡ Some (Some folder) → option_map (λ (p : Text × List Row). is_set (first_of (codes "existing") p.1)) found ≡ Some existing
-    → option_map (λ (p : Text × List Row). mode_of_flag (first_of (codes "rescue") p.1)) found ≡ Some mode → option_map (λ (p : Text × List Row). every_in p.1) found ≡ Some every
-    → option_map (λ (p : Text × List Row). is_set (first_of (codes "strict") p.1)) found ≡ Some strict → option_and_then asked_of found ≡ Some (folder, existing, Run (wanting mode every strict))
-asked_from None folder existing mode every strict name at there way number ends = absurd (cc)
-asked_from (Some (is, rows)) folder existing mode every strict name at there way number ends =
-    let name_is : is ≡ codes "run" = cc in
-    let folder_is : first_of (codes "DIR") rows ≡ Some folder = cc in
-    let existing_is : is_set (first_of (codes "existing") rows) ≡ existing = cc in
-    let mode_is : mode_of_flag (first_of (codes "rescue") rows) ≡ mode = cc in
-    let every_is : every_in rows ≡ every = cc in
-    let strict_is : is_set (first_of (codes "strict") rows) ≡ strict = cc in
-    rw (name_is, folder_is, existing_is, mode_is, every_is, strict_is) refl
+-- ---- what is found of a session
+
+-- of an option, its value, from the words or by default
+abbrev given : Text → Text → ValueSource → Row
+given id value source = record { id = id; values = value ∷ []; count = None; source = Some source; reading = AsWritten }
+
+-- of a flag, if it is there, and if it is not
+abbrev set_rows : Text → Bool → List Row
+set_rows id false = []
+set_rows id true = given id (codes "true") CommandLine ∷ []
+
+abbrev other_rows : Text → Bool → List Row
+other_rows id false = given id (codes "false") DefaultValue ∷ []
+other_rows id true = []
+
+abbrev is_rescue : Mode → Bool
+is_rescue Current = false
+is_rescue Rescue = true
+
+-- of its folder and its flags, with these rows of a number
+abbrev run_rows : Text → Mode → Bool → Bool → Bool → List Row → List Row
+run_rows folder mode strict group existing number =
+    given (codes "DIR") folder CommandLine ∷ (set_rows (codes "rescue") (is_rescue mode) ++ (set_rows (codes "strict") strict
+    ++ (set_rows (codes "group") group ++ (set_rows (codes "existing") existing ++ (number ++ (other_rows (codes "existing") existing
+    ++ (other_rows (codes "rescue") (is_rescue mode) ++ (other_rows (codes "strict") strict ++ other_rows (codes "group") group))))))))
+
+asked_of_rows : (folder : Text) (mode : Mode) (strict group existing : Bool)
+    → asked_of (codes "run", run_rows folder mode strict group existing []) ≡ Some (folder, existing, Run (wanting mode 0 strict group))
+asked_of_rows folder Current false false false = refl
+asked_of_rows folder Current false false true = refl
+asked_of_rows folder Current false true false = refl
+asked_of_rows folder Current false true true = refl
+asked_of_rows folder Current true false false = refl
+asked_of_rows folder Current true false true = refl
+asked_of_rows folder Current true true false = refl
+asked_of_rows folder Current true true true = refl
+asked_of_rows folder Rescue false false false = refl
+asked_of_rows folder Rescue false false true = refl
+asked_of_rows folder Rescue false true false = refl
+asked_of_rows folder Rescue false true true = refl
+asked_of_rows folder Rescue true false false = refl
+asked_of_rows folder Rescue true false true = refl
+asked_of_rows folder Rescue true true false = refl
+asked_of_rows folder Rescue true true true = refl
+
+asked_of_number : (folder number : Text) (mode : Mode)
+    → asked_of (codes "run", run_rows folder mode false false false (given (codes "snapshot-every") number CommandLine ∷ []))
+    ≡ Some (folder, false, Run (wanting mode (every_of_number (Some number)) false false))
+asked_of_number folder number Current = refl
+asked_of_number folder number Rescue = refl
 
 -- words that are written out but for the program's name, the folder and the number
 module _ (program : Text) (x : ℕ) (xs : Text) (e : (x == 45) ≡ false) where
@@ -129,47 +168,74 @@ module _ (program : Text) (x : ℕ) (xs : Text) (e : (x == 45) ≡ false) where
   right_verify false = right_verify_any
   right_verify true = right_verify_existing
 
-  right_current_any : IsRight (program ∷ codes "run" ∷ (x ∷ xs) ∷ []) (x ∷ xs) false (Run (wanting Current 0 false))
+  run_taken : (mode : Mode) (strict group existing : Bool)
+      → takes command_line (program ∷ codes "run" ∷ (x ∷ xs) ∷ (flag_for mode ++ (strict_for strict ++ (group_for group ++ existing_for existing)))) ≡ true
   unfolding clap_on_literals
-  right_current_any = record { taken = simp e; faultless = simp e; asked = simp e }
+  run_taken Current false false false = simp e
+  run_taken Current false false true = rw e (rw e refl)
+  run_taken Current false true false = rw e (rw e refl)
+  run_taken Current false true true = rw e (rw e refl)
+  run_taken Current true false false = rw e (rw e refl)
+  run_taken Current true false true = rw e (rw e refl)
+  run_taken Current true true false = rw e (rw e refl)
+  run_taken Current true true true = rw e (rw e refl)
+  run_taken Rescue false false false = rw e (rw e refl)
+  run_taken Rescue false false true = rw e (rw e refl)
+  run_taken Rescue false true false = rw e (rw e refl)
+  run_taken Rescue false true true = rw e (rw e refl)
+  run_taken Rescue true false false = rw e (rw e refl)
+  run_taken Rescue true false true = rw e (rw e refl)
+  run_taken Rescue true true false = rw e (rw e refl)
+  run_taken Rescue true true true = rw e (rw e refl)
 
-  right_current_existing : IsRight (program ∷ codes "run" ∷ (x ∷ xs) ∷ codes "--existing" ∷ []) (x ∷ xs) true (Run (wanting Current 0 false))
+  run_faultless : (mode : Mode) (strict group existing : Bool)
+      → fault_of command_line (program ∷ codes "run" ∷ (x ∷ xs) ∷ (flag_for mode ++ (strict_for strict ++ (group_for group ++ existing_for existing)))) ≡ []
   unfolding clap_on_literals
-  right_current_existing = record { taken = simp e; faultless = rw e (rw e refl); asked = rw e (rw e refl) }
+  run_faultless Current false false false = simp e
+  run_faultless Current false false true = rw e (rw e refl)
+  run_faultless Current false true false = rw e (rw e refl)
+  run_faultless Current false true true = rw e (rw e refl)
+  run_faultless Current true false false = rw e (rw e refl)
+  run_faultless Current true false true = rw e (rw e refl)
+  run_faultless Current true true false = rw e (rw e refl)
+  run_faultless Current true true true = rw e (rw e refl)
+  run_faultless Rescue false false false = rw e (rw e refl)
+  run_faultless Rescue false false true = rw e (rw e refl)
+  run_faultless Rescue false true false = rw e (rw e refl)
+  run_faultless Rescue false true true = rw e (rw e refl)
+  run_faultless Rescue true false false = rw e (rw e refl)
+  run_faultless Rescue true false true = rw e (rw e refl)
+  run_faultless Rescue true true false = rw e (rw e refl)
+  run_faultless Rescue true true true = rw e (rw e refl)
 
-  right_current_strict_any : IsRight (program ∷ codes "run" ∷ (x ∷ xs) ∷ codes "--strict" ∷ []) (x ∷ xs) false (Run (wanting Current 0 true))
+  run_found : (mode : Mode) (strict group existing : Bool)
+      → subcommand_of command_line (program ∷ codes "run" ∷ (x ∷ xs) ∷ (flag_for mode ++ (strict_for strict ++ (group_for group ++ existing_for existing))))
+      ≡ Some (codes "run", run_rows (x ∷ xs) mode strict group existing [])
   unfolding clap_on_literals
-  right_current_strict_any = record { taken = simp e; faultless = rw e (rw e refl); asked = rw e (rw e refl) }
+  run_found Current false false false = simp e
+  run_found Current false false true = rw e (rw e refl)
+  run_found Current false true false = rw e (rw e refl)
+  run_found Current false true true = rw e (rw e refl)
+  run_found Current true false false = rw e (rw e refl)
+  run_found Current true false true = rw e (rw e refl)
+  run_found Current true true false = rw e (rw e refl)
+  run_found Current true true true = rw e (rw e refl)
+  run_found Rescue false false false = rw e (rw e refl)
+  run_found Rescue false false true = rw e (rw e refl)
+  run_found Rescue false true false = rw e (rw e refl)
+  run_found Rescue false true true = rw e (rw e refl)
+  run_found Rescue true false false = rw e (rw e refl)
+  run_found Rescue true false true = rw e (rw e refl)
+  run_found Rescue true true false = rw e (rw e refl)
+  run_found Rescue true true true = rw e (rw e refl)
 
-  right_current_strict_existing : IsRight (program ∷ codes "run" ∷ (x ∷ xs) ∷ codes "--strict" ∷ codes "--existing" ∷ []) (x ∷ xs) true (Run (wanting Current 0 true))
-  unfolding clap_on_literals
-  right_current_strict_existing = record { taken = rw e (rw e refl); faultless = rw e (rw e refl); asked = rw e (rw e refl) }
-
-  right_rescue_any : IsRight (program ∷ codes "run" ∷ (x ∷ xs) ∷ codes "--rescue" ∷ []) (x ∷ xs) false (Run (wanting Rescue 0 false))
-  unfolding clap_on_literals
-  right_rescue_any = record { taken = simp e; faultless = rw e (rw e refl); asked = rw e (rw e refl) }
-
-  right_rescue_existing : IsRight (program ∷ codes "run" ∷ (x ∷ xs) ∷ codes "--rescue" ∷ codes "--existing" ∷ []) (x ∷ xs) true (Run (wanting Rescue 0 false))
-  unfolding clap_on_literals
-  right_rescue_existing = record { taken = rw e (rw e refl); faultless = rw e (rw e refl); asked = rw e (rw e refl) }
-
-  right_rescue_strict_any : IsRight (program ∷ codes "run" ∷ (x ∷ xs) ∷ codes "--rescue" ∷ codes "--strict" ∷ []) (x ∷ xs) false (Run (wanting Rescue 0 true))
-  unfolding clap_on_literals
-  right_rescue_strict_any = record { taken = rw e (rw e refl); faultless = rw e (rw e refl); asked = rw e (rw e refl) }
-
-  right_rescue_strict_existing : IsRight (program ∷ codes "run" ∷ (x ∷ xs) ∷ codes "--rescue" ∷ codes "--strict" ∷ codes "--existing" ∷ []) (x ∷ xs) true (Run (wanting Rescue 0 true))
-  unfolding clap_on_literals
-  right_rescue_strict_existing = record { taken = rw e (rw e refl); faultless = rw e (rw e refl); asked = rw e (rw e refl) }
-
-  right_run : (mode : Mode) (strict existing : Bool) → IsRight (program ∷ codes "run" ∷ (x ∷ xs) ∷ (flag_for mode ++ (strict_for strict ++ existing_for existing))) (x ∷ xs) existing (Run (wanting mode 0 strict))
-  right_run Current false false = right_current_any
-  right_run Current false true = right_current_existing
-  right_run Current true false = right_current_strict_any
-  right_run Current true true = right_current_strict_existing
-  right_run Rescue false false = right_rescue_any
-  right_run Rescue false true = right_rescue_existing
-  right_run Rescue true false = right_rescue_strict_any
-  right_run Rescue true true = right_rescue_strict_existing
+  right_run : (mode : Mode) (strict group existing : Bool)
+      → IsRight (program ∷ codes "run" ∷ (x ∷ xs) ∷ (flag_for mode ++ (strict_for strict ++ (group_for group ++ existing_for existing)))) (x ∷ xs) existing (Run (wanting mode 0 strict group))
+  right_run mode strict group existing = record {
+    taken = run_taken mode strict group existing;
+    faultless = run_faultless mode strict group existing;
+    asked = ap (option_and_then asked_of) (run_found mode strict group existing) ∙ asked_of_rows (x ∷ xs) mode strict group existing;
+  }
 
   module _ (y : ℕ) (ys : Text) (d : (y == 45) ≡ false) (passes : is_unsigned_in 1 1000000 (y ∷ ys) ≡ true) where
     -- what is left of each of the next ones: the number passes
@@ -179,64 +245,30 @@ module _ (program : Text) (x : ℕ) (xs : Text) (e : (x == 45) ≡ false) where
     left_kinds : or_else (or_else (or_else (if is_unsigned_in 1 1000000 (y ∷ ys) then [] else (ValueValidation ∷ [])) []) []) [] ≡ []
     left_kinds = rw passes refl
 
-    current_every_taken : takes command_line (program ∷ codes "run" ∷ (x ∷ xs) ∷ codes "--snapshot-every" ∷ (y ∷ ys) ∷ []) ≡ true
+    every_taken : (mode : Mode) → takes command_line (program ∷ codes "run" ∷ (x ∷ xs) ∷ (flag_for mode ++ codes "--snapshot-every" ∷ (y ∷ ys) ∷ [])) ≡ true
     unfolding clap_on_literals
-    current_every_taken = simp e (rw (d, d) left)
+    every_taken Current = simp e (rw (d, d) left)
+    every_taken Rescue = simp e (rw (d, d) left)
 
-    current_every_faultless : fault_of command_line (program ∷ codes "run" ∷ (x ∷ xs) ∷ codes "--snapshot-every" ∷ (y ∷ ys) ∷ []) ≡ []
+    every_faultless : (mode : Mode) → fault_of command_line (program ∷ codes "run" ∷ (x ∷ xs) ∷ (flag_for mode ++ codes "--snapshot-every" ∷ (y ∷ ys) ∷ [])) ≡ []
     unfolding clap_on_literals
-    current_every_faultless = simp e (rw (d, d) left_kinds)
+    every_faultless Current = simp e (rw (d, d) left_kinds)
+    every_faultless Rescue = simp e (rw (d, d) left_kinds)
 
-    current_every_asked : asked_in (program ∷ codes "run" ∷ (x ∷ xs) ∷ codes "--snapshot-every" ∷ (y ∷ ys) ∷ []) ≡ Some (x ∷ xs, false, Run (wanting Current (every_of_number (Some (y ∷ ys))) false))
+    every_found : (mode : Mode) → subcommand_of command_line (program ∷ codes "run" ∷ (x ∷ xs) ∷ (flag_for mode ++ codes "--snapshot-every" ∷ (y ∷ ys) ∷ []))
+        ≡ Some (codes "run", run_rows (x ∷ xs) mode false false false (given (codes "snapshot-every") (y ∷ ys) CommandLine ∷ []))
     unfolding clap_on_literals
-    current_every_asked = simp e (rw (d, d) (refl {a = Some (x ∷ xs, false, Run (wanting Current (every_of_number (Some (y ∷ ys))) false))}))
-
-    rescue_every_taken : takes command_line (program ∷ codes "run" ∷ (x ∷ xs) ∷ codes "--rescue" ∷ codes "--snapshot-every" ∷ (y ∷ ys) ∷ []) ≡ true
-    unfolding clap_on_literals
-    rescue_every_taken = simp e (rw (d, d) left)
-
-    rescue_every_faultless : fault_of command_line (program ∷ codes "run" ∷ (x ∷ xs) ∷ codes "--rescue" ∷ codes "--snapshot-every" ∷ (y ∷ ys) ∷ []) ≡ []
-    unfolding clap_on_literals
-    rescue_every_faultless = simp e (rw (d, d) left_kinds)
-
-    -- what is found of these words, one thing after the other
-    abbrev rescue_every : Option (Text × List Row)
-    rescue_every = subcommand_of command_line (program ∷ codes "run" ∷ (x ∷ xs) ∷ codes "--rescue" ∷ codes "--snapshot-every" ∷ (y ∷ ys) ∷ [])
-
-    rescue_every_name : option_map (λ (p : Text × List Row). p.0) rescue_every ≡ Some (codes "run")
-    unfolding clap_on_literals
-    rescue_every_name = refl
-
-    rescue_every_folder : option_map (λ (p : Text × List Row). first_of (codes "DIR") p.1) rescue_every ≡ Some (Some (x ∷ xs))
-    unfolding clap_on_literals
-    rescue_every_folder = simp e (rw (d, d) (refl {a = Some (Some (x ∷ xs))}))
-
-    rescue_every_existing : option_map (λ (p : Text × List Row). is_set (first_of (codes "existing") p.1)) rescue_every ≡ Some (false)
-    unfolding clap_on_literals
-    rescue_every_existing = simp e (rw (d, d) (refl {a = Some (false)}))
-
-    rescue_every_mode : option_map (λ (p : Text × List Row). mode_of_flag (first_of (codes "rescue") p.1)) rescue_every ≡ Some (Rescue)
-    unfolding clap_on_literals
-    rescue_every_mode = simp e (rw (d, d) (refl {a = Some (Rescue)}))
-
-    rescue_every_number : option_map (λ (p : Text × List Row). every_in p.1) rescue_every ≡ Some (every_of_number (Some (y ∷ ys)))
-    unfolding clap_on_literals
-    rescue_every_number = simp e (rw (d, d) (refl {a = Some (every_of_number (Some (y ∷ ys)))}))
-
-    rescue_every_strict : option_map (λ (p : Text × List Row). is_set (first_of (codes "strict") p.1)) rescue_every ≡ Some (false)
-    unfolding clap_on_literals
-    rescue_every_strict = simp e (rw (d, d) (refl {a = Some (false)}))
-
-    rescue_every_asked : asked_in (program ∷ codes "run" ∷ (x ∷ xs) ∷ codes "--rescue" ∷ codes "--snapshot-every" ∷ (y ∷ ys) ∷ []) ≡ Some (x ∷ xs, false, Run (wanting Rescue (every_of_number (Some (y ∷ ys))) false))
-    rescue_every_asked =
-        asked_from rescue_every (x ∷ xs) false Rescue (every_of_number (Some (y ∷ ys))) false rescue_every_name rescue_every_folder rescue_every_existing rescue_every_mode
-        rescue_every_number rescue_every_strict
+    every_found Current = simp e (rw (d, d) refl)
+    every_found Rescue = simp e (rw (d, d) refl)
 
     right_every : (mode : Mode)
         → IsRight (program ∷ codes "run" ∷ (x ∷ xs) ∷ (flag_for mode ++ codes "--snapshot-every" ∷ (y ∷ ys) ∷ [])) (x ∷ xs) false
-        (Run (wanting mode (every_of_number (Some (y ∷ ys))) false))
-    right_every Current = record { taken = current_every_taken; faultless = current_every_faultless; asked = current_every_asked }
-    right_every Rescue = record { taken = rescue_every_taken; faultless = rescue_every_faultless; asked = rescue_every_asked }
+        (Run (wanting mode (every_of_number (Some (y ∷ ys))) false false))
+    right_every mode = record {
+      taken = every_taken mode;
+      faultless = every_faultless mode;
+      asked = ap (option_and_then asked_of) (every_found mode) ∙ asked_of_number (x ∷ xs) (y ∷ ys) mode;
+    }
 
 differs : (x y : ℕ) → x ≢ y → (x == y) ≡ false
 differs x y apart = search rules
@@ -263,10 +295,10 @@ module _ (y : ℕ) (ys : Text) (numeral : IsNumeral 10 (y ∷ ys)) where
 
 module _ (program : Text) (x : ℕ) (xs : Text) (e : (x == 45) ≡ false) where
   right_number : (mode : Mode) (number : Text) (every : ℕ) → IsNumeral 10 number → digits_value 10 number ≡ every → 1 ≤ every → every ≤ 1000000
-      → IsRight (program ∷ codes "run" ∷ (x ∷ xs) ∷ (flag_for mode ++ codes "--snapshot-every" ∷ number ∷ [])) (x ∷ xs) false (Run (wanting mode every false))
+      → IsRight (program ∷ codes "run" ∷ (x ∷ xs) ∷ (flag_for mode ++ codes "--snapshot-every" ∷ number ∷ [])) (x ∷ xs) false (Run (wanting mode every false false))
   right_number mode [] every numeral is above below = let none : 0 < 0 = numeral.0 in absurd (omega arith)
   right_number mode (y ∷ ys) every numeral is above below =
-      subst (λ n. IsRight (program ∷ codes "run" ∷ (x ∷ xs) ∷ (flag_for mode ++ codes "--snapshot-every" ∷ (y ∷ ys) ∷ [])) (x ∷ xs) false (Run (wanting mode n false)))
+      subst (λ n. IsRight (program ∷ codes "run" ∷ (x ∷ xs) ∷ (flag_for mode ++ codes "--snapshot-every" ∷ (y ∷ ys) ∷ [])) (x ∷ xs) false (Run (wanting mode n false false)))
       (number_is y ys numeral every is above below)
       (right_every program x xs e y ys (differs y 45 (no_hyphen y ys numeral)) (in_range y ys numeral 1 1000000 every is above below (omega arith)) mode)
 
@@ -277,14 +309,14 @@ module _ (program : Text) (x : ℕ) (xs : Text) (e : (x == 45) ≡ false) where
   right_plain line existing (Tell Dump) is = rw is (right_dump program x xs e existing)
   right_plain line existing (Tell Verify) is = rw is (right_verify program x xs e existing)
   right_plain line false (Run wanted) (inl (none, line_is)) =
-      rw line_is (subst (λ (w : Wanted). IsRight (program ∷ codes "run" ∷ (x ∷ xs) ∷ (flag_for wanted.mode ++ (strict_for wanted.strict ++ []))) (x ∷ xs) false (Run w))
-      (sym (wanted_is wanted 0 wanted.strict none refl)) (right_run program x xs e wanted.mode wanted.strict false))
-  right_plain line false (Run wanted) (inr (lax, number, line_is, (numeral, value, above, below))) =
+      rw line_is (subst (λ (w : Wanted). IsRight (program ∷ codes "run" ∷ (x ∷ xs) ∷ (flag_for wanted.mode ++ (strict_for wanted.strict ++ (group_for wanted.group ++ [])))) (x ∷ xs) false (Run w))
+      (sym (wanted_is wanted 0 wanted.strict wanted.group none refl refl)) (right_run program x xs e wanted.mode wanted.strict wanted.group false))
+  right_plain line false (Run wanted) (inr (lax, alone, number, line_is, (numeral, value, above, below))) =
       rw line_is (subst (λ (w : Wanted). IsRight (program ∷ codes "run" ∷ (x ∷ xs) ∷ (flag_for wanted.mode ++ codes "--snapshot-every" ∷ number ∷ [])) (x ∷ xs) false (Run w))
-      (sym (wanted_is wanted wanted.snapshot_every false refl lax)) (right_number wanted.mode number wanted.snapshot_every numeral value above below))
+      (sym (wanted_is wanted wanted.snapshot_every false false refl lax alone)) (right_number wanted.mode number wanted.snapshot_every numeral value above below))
   right_plain line true (Run wanted) (none, line_is) =
-      rw line_is (subst (λ (w : Wanted). IsRight (program ∷ codes "run" ∷ (x ∷ xs) ∷ (flag_for wanted.mode ++ (strict_for wanted.strict ++ existing_for true))) (x ∷ xs) true (Run w))
-      (sym (wanted_is wanted 0 wanted.strict none refl)) (right_run program x xs e wanted.mode wanted.strict true))
+      rw line_is (subst (λ (w : Wanted). IsRight (program ∷ codes "run" ∷ (x ∷ xs) ∷ (flag_for wanted.mode ++ (strict_for wanted.strict ++ (group_for wanted.group ++ existing_for true)))) (x ∷ xs) true (Run w))
+      (sym (wanted_is wanted 0 wanted.strict wanted.group none refl refl)) (right_run program x xs e wanted.mode wanted.strict wanted.group true))
 
 pub right_line : (words : List Text) (folder : Text) (existing : Bool) (task : Task) → AsksFor words folder existing task → IsRight words folder existing task
 right_line words [] existing task asks = absurd asks.4

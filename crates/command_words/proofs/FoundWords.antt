@@ -52,11 +52,20 @@ pub run_found : (name : Text) (f : Found) (wanted : Wanted) → name ≡ codes "
 run_found name f wanted is wanted_is = rw (is, wanted_is) refl
 
 -- what is wanted of its session
-pub wanted_found : (f : Found) (flag other : Option Text) (mode : Mode) (every : ℕ) (strict : Bool) → mode ≡ mode_of_flag flag → flag ≡ first_value f (codes "rescue")
+pub wanted_found : (f : Found) (flag other third : Option Text) (mode : Mode) (every : ℕ) (strict group : Bool) → mode ≡ mode_of_flag flag → flag ≡ first_value f (codes "rescue")
     → every ≡ every_of_number (one_of (codes "snapshot-every") (rows_of f)) → strict ≡ is_set other → other ≡ first_value f (codes "strict")
-    → ◌≡◌ {A = Wanted} (record { mode = mode; snapshot_every = every; strict = strict }) (wanted_of (rows_of f))
-wanted_found f flag other mode every strict mode_is flag_is every_is strict_is other_is =
-    rw (mode_is, flag_is ∙ first_value-rows f (codes "rescue"), every_is, strict_is, other_is ∙ first_value-rows f (codes "strict")) refl
+    → group ≡ is_set third → third ≡ first_value f (codes "group")
+    → ◌≡◌ {A = Wanted} (record { mode = mode; snapshot_every = every; strict = strict; group = group }) (wanted_of (rows_of f))
+wanted_found f flag other third mode every strict group mode_is flag_is every_is strict_is other_is group_is third_is =
+    rw (
+      mode_is,
+      flag_is ∙ first_value-rows f (codes "rescue"),
+      every_is,
+      strict_is,
+      other_is ∙ first_value-rows f (codes "strict"),
+      group_is,
+      third_is ∙ first_value-rows f (codes "group"),
+    ) refl
 
 -- the command `export` that was found
 pub export_found : (name : Text) (f : Found) (flag : Option Text) (content : Content) → name ≡ codes "export" → content ≡ content_of_flag flag

@@ -1,4 +1,4 @@
--- The command line of the program, as clap reads it: `run DIR [--rescue] [--strict] [--snapshot-every N]`, `snapshot DIR`, `upgrade DIR`,
+-- The command line of the program, as clap reads it: `run DIR [--rescue] [--strict] [--group] [--snapshot-every N]`, `snapshot DIR`, `upgrade DIR`,
 -- `export DIR [--data]`, `dump DIR` and `verify DIR`, each with `--existing`.
 use Rattle.std.specs.Prelude.{◌≡◌, ◌≢◌, ◌≤◌, ◌^◌, ◌-◌, ◌⊎◌, ℕ, Bool, true, false, if◌then◌else◌, List, [], ◌∷◌, ◌++◌, Option, Some, None, codes, option_map, option_and_then}
 use Rattle.std.specs.Option.{option_map_or}
@@ -41,6 +41,13 @@ strict_rule = record (new_rule (codes "strict")) {
   action = Some SetTrue;
 }
 
+-- --group: a flag
+abbrev pub group_rule : Rule
+group_rule = record (new_rule (codes "group")) {
+  long = Some (codes "group");
+  action = Some SetTrue;
+}
+
 -- --snapshot-every N: one value, a number from 1 to 1,000,000
 abbrev pub every_rule : Rule
 every_rule = record (new_rule (codes "snapshot-every")) {
@@ -62,7 +69,7 @@ abbrev pub folder_line : Text → App
 folder_line name = with_rule (with_rule (new_app name) directory_rule) existing_rule
 
 abbrev pub run_line : App
-run_line = with_rule (with_rule (with_rule (folder_line (codes "run")) rescue_rule) strict_rule) every_rule
+run_line = with_rule (with_rule (with_rule (with_rule (folder_line (codes "run")) rescue_rule) strict_rule) group_rule) every_rule
 
 -- --data: a flag
 abbrev pub data_rule : Rule
@@ -111,6 +118,7 @@ wanted_of rows = record {
   mode = mode_of_flag (first_of (codes "rescue") rows);
   snapshot_every = every_in rows;
   strict = is_set (first_of (codes "strict") rows);
+  group = is_set (first_of (codes "group") rows);
 }
 
 -- what a command is to do
@@ -167,6 +175,11 @@ abbrev pub strict_for : Bool → List Text
 strict_for false = []
 strict_for true = codes "--strict" ∷ []
 
+-- the flag of a session with groups
+abbrev pub group_for : Bool → List Text
+group_for false = []
+group_for true = codes "--group" ∷ []
+
 -- the flag of what is exported
 abbrev pub data_for : Content → List Text
 data_for World = []
@@ -181,14 +194,15 @@ existing_for true = codes "--existing" ∷ []
 abbrev pub IsEvery : ℕ → Text → Type 0
 IsEvery every number = IsNumeral 10 number × (digits_value 10 number ≡ every) × (1 ≤ every) × (every ≤ 1000000)
 
--- The words of a command on this folder that asks for this. A number of snapshots beside `--existing` or `--strict` is not among them.
+-- The words of a command on this folder that asks for this. A number of snapshots beside `--existing`, `--strict` or `--group` is not
+-- among them.
 abbrev pub IsLine : List Text → Text → Bool → Task → Type 0
 IsLine words folder false (Run wanted) =
-    ((wanted.snapshot_every ≡ 0) × (words ≡ codes "run" ∷ folder ∷ (flag_for wanted.mode ++ (strict_for wanted.strict ++ []))))
-    ⊎ ((wanted.strict ≡ false) × (number : Text) × (words ≡ codes "run" ∷ folder ∷ (flag_for wanted.mode ++ codes "--snapshot-every" ∷ number ∷ []))
+    ((wanted.snapshot_every ≡ 0) × (words ≡ codes "run" ∷ folder ∷ (flag_for wanted.mode ++ (strict_for wanted.strict ++ (group_for wanted.group ++ [])))))
+    ⊎ ((wanted.strict ≡ false) × (wanted.group ≡ false) × (number : Text) × (words ≡ codes "run" ∷ folder ∷ (flag_for wanted.mode ++ codes "--snapshot-every" ∷ number ∷ []))
     × IsEvery wanted.snapshot_every number)
 IsLine words folder true (Run wanted) =
-    (wanted.snapshot_every ≡ 0) × (words ≡ codes "run" ∷ folder ∷ (flag_for wanted.mode ++ (strict_for wanted.strict ++ existing_for true)))
+    (wanted.snapshot_every ≡ 0) × (words ≡ codes "run" ∷ folder ∷ (flag_for wanted.mode ++ (strict_for wanted.strict ++ (group_for wanted.group ++ existing_for true))))
 IsLine words folder existing Snapshot = words ≡ codes "snapshot" ∷ folder ∷ existing_for existing
 IsLine words folder existing Upgrade = words ≡ codes "upgrade" ∷ folder ∷ existing_for existing
 IsLine words folder existing (Export content) = words ≡ codes "export" ∷ folder ∷ (data_for content ++ existing_for existing)

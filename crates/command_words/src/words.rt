@@ -4,7 +4,7 @@ ghost use Rattle.clap.specs.Words.{FailsBy, Text, app_of, found_of, kind_of, row
 ghost use Rattle.clap.specs.declared.builder.command.Command.TheViews.{out-Command as fields_of};
 ghost use Rattle.clap.specs.declared.error.kind.ErrorKind.TheVariants.{MissingRequiredArgument, OutOfMemory};
 ghost use Rattle.command_words.specs.declared.words.Task.{Task};
-ghost use Rattle.command_words.specs.CommandLine.{asked_in, asked_of, command_line, content_of_flag, data_rule, every_in, every_rule, existing_rule, export_line, faults_of, folder_line, is_set, mode_of_flag, program_line, rescue_rule, run_line, strict_rule, task_of, wanted_of, AsksFor};
+ghost use Rattle.command_words.specs.CommandLine.{asked_in, asked_of, command_line, content_of_flag, data_rule, every_in, every_rule, existing_rule, export_line, faults_of, folder_line, group_rule, is_set, mode_of_flag, program_line, rescue_rule, run_line, strict_rule, task_of, wanted_of, AsksFor};
 
 use crate::help::{
     DUMP_HELP, DUMP_USAGE, EXPORT_HELP, EXPORT_USAGE, PROGRAM_HELP, RUN_HELP, RUN_USAGE,
@@ -42,6 +42,8 @@ const DATA: &str = "data";
 const RESCUE: &str = "rescue";
 
 const STRICT: &str = "strict";
+
+const GROUP: &str = "group";
 
 const EVERY: &str = "snapshot-every";
 
@@ -130,6 +132,15 @@ fn strict_option<'a>(alloc: Global) -> Arg<'a>
         .action(ArgAction::SetTrue)
 }
 
+fn group_option<'a>(alloc: Global) -> Arg<'a>
+    ensures { (rule_of result ≡ group_rule) × (result.global ≡ false) }
+{
+    Arg::new(alloc, GROUP)
+        .long(GROUP)
+        .help("Log the forms that are whole in what was read together, then answer them")
+        .action(ArgAction::SetTrue)
+}
+
 fn every_option<'a>(alloc: Global) -> Arg<'a>
     ensures { (rule_of result ≡ every_rule) × (result.global ≡ false) }
 {
@@ -167,6 +178,7 @@ fn run_command<'a>(alloc: Global) -> Result<Command<'a>, AllocError>
     let command = folder_command(alloc, RUN, about, RUN_USAGE, RUN_HELP)?;
     let command = command.arg(rescue_option(alloc))?;
     let command = command.arg(strict_option(alloc))?;
+    let command = command.arg(group_option(alloc))?;
     command.arg(every_option(alloc))
 }
 
@@ -277,6 +289,7 @@ fn wanted_in(found: &ArgMatches<'_>) -> Wanted
         mode: mode_for(found.get_str(RESCUE)),
         snapshot_every: every_in(found),
         strict: flag_is_set(found.get_str(STRICT)),
+        group: flag_is_set(found.get_str(GROUP)),
     }
 }
 

@@ -15,7 +15,7 @@
 //!   left of one form or snapshot; `altered`: files that were altered; `memory`: a macro function that finds no memory; `growth`:
 //!   calls that find none and are made again
 //! - Want of memory ends a test with an error, wherever it comes: an assertion that fails is an answer that has changed.
-//! - `groups`: forms that are executed together
+//! - `groups`: forms that are executed together, sessions with groups, and `run --group`
 //! - `versions`: files of version 1; `upgrades`: the command that makes files of version 2 of them
 //! - `macros`: the macro functions of the program
 //! - `words`: the words of the program; `commands`, by scripts of `runs`: its statuses, and real files; `exports`: the forms that

@@ -96,7 +96,7 @@ fn text_of(
 /// Words, what is typed, and the text that is wanted.
 type Row = (&'static str, &'static [u8], &'static [u8]);
 
-const ROWS: [Row; 10] = [
+const ROWS: [Row; 11] = [
     (
         "run DIR",
         b"(SETF (GET 'A 'B) 7)\n12\n\n",
@@ -131,6 +131,11 @@ const ROWS: [Row; 10] = [
         "run DIR --rescue",
         b"(GET 'A 'B)\n",
         b"0\n7\n--\nType a form and Enter; Ctrl-D ends.\n> > \n",
+    ),
+    (
+        "run DIR --group",
+        b"12 (GET 'A 'B) (LIST 1\n)\n",
+        b"0\n12\n7\n(1)\n--\nType a form and Enter; Ctrl-D ends.\n> . > \n",
     ),
     (
         "verify DIR",

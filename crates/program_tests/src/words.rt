@@ -10,7 +10,7 @@ const HELPS: &str = r#"
 $ --help
 A store for Lisp forms that keeps what it has answered
 
-Usage: ./pazturrok run DIR [--existing] [--rescue] [--strict] [--snapshot-every N]
+Usage: ./pazturrok run DIR [--existing] [--rescue] [--strict] [--group] [--snapshot-every N]
        ./pazturrok snapshot DIR [--existing]
        ./pazturrok upgrade DIR [--existing]
        ./pazturrok export DIR [--existing] [--data]
@@ -36,7 +36,7 @@ A first form, in a new folder:
 $ run --help
 Serves the forms of standard input to standard output
 
-Usage: ./pazturrok run DIR [--existing] [--rescue] [--strict] [--snapshot-every N]
+Usage: ./pazturrok run DIR [--existing] [--rescue] [--strict] [--group] [--snapshot-every N]
 
 Arguments:
   <DIR>  The folder of the store, made where it is missing
@@ -45,6 +45,7 @@ Options:
       --existing            Refuse a folder that holds no store, and make nothing
       --rescue              Read each form under the standard readtable in COMMON-LISP-USER
       --strict              End at the first form that is refused, with status 1
+      --group               Log the forms that are whole in what was read together, then answer them
       --snapshot-every <N>  Take a snapshot after each N forms that write, N from 1 to 1,000,000
   -h, --help                Print help
 
@@ -100,6 +101,8 @@ const JUDGED: &str = "\
 2 run /dev/null --existing --existing
 2 run /dev/null --strict=no
 2 run /dev/null --strict --strict
+2 run /dev/null --group=yes
+2 run /dev/null --group --group
 2 run /dev/null --data
 2 run /dev/null --every 5
 2 run /dev/null more
@@ -113,6 +116,7 @@ const JUDGED: &str = "\
 2 snapshot /dev/null more
 2 snapshot /dev/null --snapshot-every 1
 2 snapshot /dev/null --strict
+2 snapshot /dev/null --group
 2 upgrade
 2 upgrade /dev/null --rescue
 2 export
@@ -131,6 +135,8 @@ const JUDGED: &str = "\
 3 run /dev/null --snapshot-every 1
 3 run /dev/null --snapshot-every 1000000
 3 run /dev/null --strict
+3 run /dev/null --group
+3 run --snapshot-every=5 --group --rescue --strict --existing /dev/null
 3 run --snapshot-every=5 --rescue --strict --existing /dev/null
 3 snapshot /dev/null
 3 snapshot --existing /dev/null

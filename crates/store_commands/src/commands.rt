@@ -36,11 +36,11 @@ use user_macros::MacroFunctions;
 /// Does what the words ask for, with these macro functions; the first word is the program's name.
 ///
 /// Each command is over the store in the folder DIR. `run DIR` serves `input` to `output` in the mode Current; with `--rescue`
-/// in the mode Rescue, with `--strict` the first form that is refused ends it, and with `--snapshot-every N` it takes a snapshot
-/// after each N forms that were logged. `snapshot DIR` takes
-/// a snapshot and writes the line on the half in use to `output`, `upgrade DIR` the version after it has taken one of files of
-/// version 1, `export DIR` the forms that make the world, `dump DIR` its text, and `verify DIR` the line on
-/// the half in use; they read nothing. A folder without a store gets one, or is a fault with `--existing`, and so is one of whose files
+/// in the mode Rescue, with `--strict` the first form that is refused ends it, with `--group` the forms that are whole in a piece of
+/// the input are logged together and answered then, and with `--snapshot-every N` it takes a snapshot after each N forms that were
+/// logged. `snapshot DIR` takes a snapshot and writes the line on the half in use to `output`, `upgrade DIR` the version after it has
+/// taken one of files of version 1, `export DIR` the forms that make the world, `dump DIR` its text, and `verify DIR` the line on the
+/// half in use; they read nothing. A folder without a store gets one, or is a fault with `--existing`, and so is one of whose files
 /// neither is in use.
 ///
 /// Names are hashed by a seed that is drawn from `rt`; if it has no random bytes, the status is that of a fault of the input.
@@ -99,7 +99,8 @@ where
 }
 
 /// Does what the words ask for, as `program`, where the input is a terminal. `run` is sessions in a row on one open store then: after
-/// a refusal of the reader the rest of the line is dropped, and the next session begins; the status is that of the last one.
+/// a refusal of the reader the rest of the line is dropped, and the next session begins; the status is that of the last one. A terminal
+/// gives a byte at a time, so that with `--group` each form is a group of its own there.
 pub fn program_at_terminal<R, M, S, I, O, F>(
     rt: &R,
     macros: M,
