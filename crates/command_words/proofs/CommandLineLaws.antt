@@ -1,5 +1,5 @@
 -- What clap makes of the words of a command.
-use Rattle.std.proofs.Common.{if◌then◌else◌, ◌≡◌, ◌≢◌, ◌==◌, ◌∙◌, ◌&&◌, ◌⊎◌, ◌<◌, ◌≤◌, ◌++◌, ◌^◌, ◌-◌, ℕ, Bool, List, [], ◌∷◌, Option, None, Some, option_map, option_and_then, codes, true, false, refl, rules, ap, ap₂, sym, subst, inl, inr, arith}
+use Rattle.std.proofs.Common.{if◌then◌else◌, ◌≡◌, ◌≢◌, ◌==◌, ◌∙◌, ◌&&◌, ◌⊎◌, ◌<◌, ◌≤◌, ◌++◌, ◌^◌, ◌-◌, ℕ, Bool, List, [], ◌∷◌, None, Some, option_and_then, codes, true, false, refl, rules, ap, sym, subst, inl, inr, arith}
 use Rattle.std.proofs.lemmas.Str.Parse.{digit_from_value}
 use Rattle.std.specs.Str.Parse.{IsNumeral, digits_value, without_leading_plus}
 use Rattle.clap.specs.ValueTests.{is_unsigned_in}
@@ -8,7 +8,7 @@ use Rattle.clap.specs.Kinds.{Kinds, or_else}
 use Rattle.clap.specs.declared.builder.value_parser.Reading.TheVariants.{AsWritten}
 use Rattle.clap.specs.declared.parser.matches.ValueSource.{ValueSource}
 use Rattle.clap.specs.declared.parser.matches.ValueSource.TheVariants.{CommandLine, DefaultValue}
-use Rattle.clap.specs.Words.{IsAmong, Row, Text, fault_of, first_of, is_simple, is_simple_and_free, subcommand_of, takes}
+use Rattle.clap.specs.Words.{IsAmong, Row, Text, fault_of, is_simple, is_simple_and_free, subcommand_of, takes}
 use Rattle.clap.specs.declared.error.kind.ErrorKind.{ErrorKind}
 use Rattle.clap.specs.declared.error.kind.ErrorKind.TheVariants.{MissingRequiredArgument, OutOfMemory, ValueValidation}
 use Rattle.clap.proofs.OnLiterals.{clap_on_literals}
@@ -21,7 +21,7 @@ use Rattle.world_forms.specs.declared.export.Content.TheVariants.{Data, World}
 use Rattle.command_words.specs.declared.words.Task.{Task}
 use Rattle.command_words.specs.declared.words.Report.TheVariants.{Dump, Verify}
 use Rattle.command_words.specs.declared.words.Task.TheVariants.{Export, Run, Snapshot, Tell, Upgrade}
-use Rattle.command_words.specs.CommandLine.{AsksFor, IsLine, IsTaken, asked_in, asked_of, command_line, data_for, every_in, every_of_number, existing_for, faults_of, flag_for, group_for, is_set, missing_command, mode_of_flag, strict_for}
+use Rattle.command_words.specs.CommandLine.{AsksFor, IsLine, IsTaken, asked_in, asked_of, command_line, data_for, every_of_number, existing_for, faults_of, flag_for, group_for, missing_command, strict_for}
 
 pub simple_line : is_simple command_line ≡ true
 unfolding clap_on_literals
