@@ -248,7 +248,7 @@ module _ (functions : Functions) (wanted : Wanted) {D R : Type 0} (state : D →
           at = served.2.0;
           is_refused = served.2.1;
           is_place = served.2.2;
-          accepted = λ strict. sym (ap (λ (p : Progress). p.refused) (answered_all functions wanted.mode state old new w had has held_now written served.0.text number s)) ∙ served.1 strict;
+          accepted = λ strict. sym (ap (λ (p : Progress). p.refused) (answered_all functions wanted.mode state old new w had has held_now written served.0.text number s)) ∙ (served.1 strict).0;
         },
       ))
 
@@ -279,7 +279,7 @@ module _ (functions : Functions) (wanted : Wanted) {D R : Type 0} (state : D →
   unfolding done_input
   answers_input ways.End told none served input held left holds =
       let done = done_input functions wanted.mode state old new w had has held_now written served.0 input held left holds in
-      (w, done.0, done.1, λ strict. sym (ap (λ (p : Progress). p.refused) (answered_done functions wanted.mode state old new w had has held_now written served.0.text served.0.serves)) ∙ served.1 strict)
+      (w, done.0, done.1, λ strict. sym (ap (λ (p : Progress). p.refused) (answered_done functions wanted.mode state old new w had has held_now written served.0.text served.0.serves)) ∙ (served.1 strict).0)
   answers_input (Unreadable number place) told (refusal, is, same_number, same_place) served input held left holds =
       (w, refusal, is, unreadable_answers number place served input held left holds refusal same_number same_place)
   answers_input (Unaccepted number place) told (refusal, is, same_number, same_place) served input held left holds =
