@@ -1,5 +1,7 @@
 // A session: forms from a reader, answers to a writer.
 ghost use Rattle.std.specs.Prelude.{◌≡◌, ◌≤◌, ◌<◌, ◌+◌, ◌^◌, ℕ, List, ◌++◌, None, Some, IfOk, true, false, cond, length, take};
+ghost use Rattle.std.specs.Io.{ReadsAtMost};
+ghost use Rattle.std.specs.Io.KnownBytes.{ReadConsumes};
 ghost use Rattle.lisp_object.specs.declared.refusal.TheConstants.{REOPEN};
 ghost use Rattle.plist_state.specs.State.{WorldState};
 ghost use Rattle.form_reader.specs.Reader.{fed};
@@ -18,11 +20,15 @@ use crate::store::Store;
 use disk_trait::Disk;
 use lisp_object::refusal::{INPUT, NO_MEMORY, REOPEN};
 use std::alloc::AllocError;
+use std::io;
 use std::io::{Read, Write};
 use user_macros::MacroFunctions;
 
 /// The most reads of a session.
 const MOST_READS: u64 = 1 << 40;
+
+/// The most bytes of a read, but in a session with groups, whose reads are as large as a pipe.
+const MOST_ALONE: usize = 4096;
 
 impl<D: Disk, R: MacroFunctions> Store<D, R> {
     /// Reads forms to the end of the input, and answers each with a line: its value, or the number and the name of its
@@ -76,7 +82,7 @@ impl<D: Disk, R: MacroFunctions> Store<D, R> {
     /// first form whose evaluation is refused ends the session once it is answered. What the session has read after that form is
     /// let go.
     ///
-    /// If it has groups, the forms that are whole in the bytes that were read are evaluated one after the other, and those that
+    /// If it has groups, it is read in pieces of at most 65,536 bytes, and the forms that are whole in one of them are evaluated one after the other, and those that
     /// write are appended to the log together, for the device calls of one; their lines are written then, before the next
     /// read. What is written and what the files hold at the end is what a session without groups gives. A group ends before a
     /// form that is not whole or is refused by the reader, before one that is refused if the session is strict, before the form after
@@ -104,11 +110,11 @@ impl<D: Disk, R: MacroFunctions> Store<D, R> {
         }
         let mut pending = Pending::new(self.alloc);
         let mut course = Course::new(wanted.snapshot_every);
-        let mut buffer = [0u8; 4096];
+        let mut buffer = [0u8; 65536];
         let mut reads = 0;
         'reads: while reads < MOST_READS {
             reads += 1;
-            let count = match reader.read(&mut buffer) {
+            let count = match read_piece(reader, &mut buffer, wanted.group) {
                 Ok(count) => count,
                 Err(_) => return Ended::Store(INPUT),
             };
@@ -284,6 +290,20 @@ impl<D: Disk, R: MacroFunctions> Store<D, R> {
         ensures within { IfOk result (IsWithin (fed pending.reader)) }
     {
         pending.finish(self.alloc, &self.world, &self.macros, mode)
+    }
+}
+
+// Reads a piece of the input into the front of a buffer. One for groups may take the whole of it.
+fn read_piece<I: Read>(reader: &mut I, buffer: &mut [u8], group: bool) -> io::Result<usize>
+    requires { 4096 ≤ length buffer.old }
+    ensures bound { ReadsAtMost result buffer.new }
+    ensures bytes { ReadConsumes (I.remaining reader.old) (I.remaining reader.new) result buffer.new }
+    ensures same { length buffer.new ≡ length buffer.old }
+{
+    if group {
+        reader.read(buffer)
+    } else {
+        reader.read(&mut buffer[..MOST_ALONE])
     }
 }
 

@@ -56,7 +56,7 @@ returns-in-Err-clause-serves g c = λ w known.
     let functions = g.R.Meaning.Meaning.functions in
     let far = c.reads.invariant.far w known in
     unread_input functions g.D.Disk.state c.args.wanted c.args.self.now c.reads.self w (g.W.Write.contents c.args.writer.now) (g.W.Write.contents c.reads.writer)
-    (g.I.Read.remaining c.args.reader.now) (g.I.Read.remaining c.reads.reader) (g.I.Read.remaining c.read.new.self) far.0
+    (g.I.Read.remaining c.args.reader.now) (g.I.Read.remaining c.reads.reader) (g.I.Read.remaining c.read_piece.new.reader) far.0
     (unread_after functions g.D.Disk.state c.args.wanted (first_course c.args.wanted.snapshot_every) (course_of c.reads.course) c.args.self.now c.reads.self w c.args.wanted.mode far.0 _ _ c.reads.pending far.1.0) far.1.1 c.in-Err.ensures.bytes
 
 pub returns-clause-serves : goal.returns-clause-serves
@@ -73,11 +73,11 @@ returns-then-count-eq0-clause-serves g c = λ w known.
     let far = c.reads.invariant.far w known in
     let goes = far.1.0 in
     ended_input functions g.D.Disk.state c.args.wanted c.args.self.now c.answer_end.new.self w (g.W.Write.contents c.args.writer.now) (g.W.Write.contents c.answer_end.new.writer)
-    (g.I.Read.remaining c.args.reader.now) (g.I.Read.remaining c.reads.reader) (g.I.Read.remaining c.read.new.self) far.0 c.answer_end.result
+    (g.I.Read.remaining c.args.reader.now) (g.I.Read.remaining c.reads.reader) (g.I.Read.remaining c.read_piece.new.reader) far.0 c.answer_end.result
     (end_both functions g.D.Disk.state g.met.D.Disk.sound c.args.wanted (first_course c.args.wanted.snapshot_every) (course_of c.reads.course) (course_of c.reads.course) c.args.self.now c.reads.self c.answer_end.new.self w c.args.wanted.mode
     (g.W.Write.contents c.args.writer.now) (g.W.Write.contents c.reads.writer) (g.W.Write.contents c.answer_end.new.writer) c.reads.pending c.reads.invariant.honest far.0 goes c.answer_end.result
     (c.answer_end.ensures.ends goes.far.world goes.advances.after.left goes.bytes goes.is_pending)) far.1.1
-    (subst (λ n. Consumes (g.I.Read.remaining c.reads.reader) (g.I.Read.remaining c.read.new.self) (take n c.read.new.buf)) c.if-count-eq0.true c.in-Ok.ensures.bytes.0)
+    (subst (λ n. Consumes (g.I.Read.remaining c.reads.reader) (g.I.Read.remaining c.read_piece.new.reader) (take n c.read_piece.new.buffer)) c.if-count-eq0.true c.in-Ok.ensures.bytes.0)
     (c.in-Ok.ensures.bytes.1 c.if-count-eq0.true (search rules))
 
 pub returns-in-Some-clause-serves : goal.returns-in-Some-clause-serves
@@ -85,19 +85,19 @@ returns-in-Some-clause-serves g c = λ w known.
     let functions = g.R.Meaning.Meaning.functions in
     let far = c.reads.invariant.far w known in
     let goes = far.1.0 in
-    let piece = take c.in-Ok.count c.read.new.buf in
+    let piece = take c.in-Ok.count c.read_piece.new.buffer in
     decided_input functions g.D.Disk.state c.args.wanted c.args.self.now c.answer_piece.new.self w (g.W.Write.contents c.args.writer.now) (g.W.Write.contents c.answer_piece.new.writer)
-    (g.I.Read.remaining c.args.reader.now) (g.I.Read.remaining c.reads.reader) (g.I.Read.remaining c.read.new.self) ((far.0 ++ piece) ++ []) c.in-Some.ended
+    (g.I.Read.remaining c.args.reader.now) (g.I.Read.remaining c.reads.reader) (g.I.Read.remaining c.read_piece.new.reader) ((far.0 ++ piece) ++ []) c.in-Some.ended
     (more_both functions g.D.Disk.state g.met.D.Disk.sound c.args.wanted (first_course c.args.wanted.snapshot_every) (course_of c.reads.course) (course_of c.answer_piece.new.course) c.args.self.now c.reads.self c.answer_piece.new.self w c.args.wanted.mode
     (g.W.Write.contents c.args.writer.now) (g.W.Write.contents c.reads.writer) (g.W.Write.contents c.answer_piece.new.writer) c.reads.pending c.reads.invariant.honest
     far.0 piece goes c.answer_piece.new.pending (Some c.in-Some.ended)
     (c.in-Some.ensures.answers goes.far.world goes.advances.after.left goes.bytes goes.is_pending) [])
-    (left_both _ _ _ (far.0 ++ piece) [] (left_both _ _ _ far.0 piece far.1.1 c.in-Ok.ensures.bytes.0) (consumes_none (g.I.Read.remaining c.read.new.self)))
+    (left_both _ _ _ (far.0 ++ piece) [] (left_both _ _ _ far.0 piece far.1.1 c.in-Ok.ensures.bytes.0) (consumes_none (g.I.Read.remaining c.read_piece.new.reader)))
 
 pub reads-preserved : goal.reads-preserved
 reads-preserved g c =
     let functions = g.R.Meaning.Meaning.functions in
-    let piece = take c.in-Ok.count c.read.new.buf in
+    let piece = take c.in-Ok.count c.read_piece.new.buffer in
     record {
       known = search rules;
       honest = c.answer_piece.ensures.honest ∙ c.reads.invariant.honest;

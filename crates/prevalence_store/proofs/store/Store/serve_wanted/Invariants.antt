@@ -13,7 +13,7 @@ invariant-reads g l = record {
   macros : l.self.macros ≡ l.fn.self.macros;
   most : l.reads ≤ 1099511627776;
   forms : (course_of l.course).forms ≤ (course_of l.course).bytes;
-  count : (course_of l.course).bytes + fed l.pending.reader ≤ 4096 * l.reads;
+  count : (course_of l.course).bytes + fed l.pending.reader ≤ 65536 * l.reads;
   far : (w : WorldState) → l.fn.self.world ≡ Some w → (text : List ℕ)
       × (GoesOn g.R.Meaning.Meaning.functions g.D.Disk.state l.wanted.strict (first_course l.wanted.snapshot_every) (course_of l.course) l.fn.self l.self w l.wanted.mode text
       (g.W.Write.contents l.fn.writer) (g.W.Write.contents l.writer) l.pending []
