@@ -4,7 +4,7 @@ import random
 
 from store import answers, check_world, courses, library, want
 
-NAMES = ("property", "brackets", "snapshots", "more snapshots", "a closed half", "operators", "snapshot", "upgrade")
+NAMES = ("property", "brackets", "snapshots", "together", "more snapshots", "a closed half", "operators", "snapshot", "upgrade")
 
 
 class File:
@@ -120,7 +120,7 @@ def crashed(room, one, files, answered, times, dice, moment):
     for kind in kinds:
         room.put([file.left(kind, dice) for file in files])
         try:
-            check_world(room, one, answered)
+            check_world(room, one, answered, apart=False)
         except Exception as deviation:
             raise type(deviation)(f"{one.session.name}, {moment}, {kind}: {deviation}") from deviation
     return len(kinds)

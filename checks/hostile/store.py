@@ -79,6 +79,8 @@ SESSIONS = [
     Session("rescued", ["run"], b"(GET 'A 'B)\n", "rescue"),
     Session("snapshots", ["run", "--snapshot-every", "1"],
             b"(SETF (GET 'A 'B) 7)\n(SETF (GET 'A 'B) 8)\n(SETF (GET 'A 'C) \"t\")\n", None),
+    Session("together", ["run", "--group"],
+            b"(SETF (GET 'A 'B) 7)\n(SETF (GET 'A 'B) 8)\n(CAR 'A)\n(GET 'A 'B)\n(SETF (GET 'A 'C) \"t\")\n", None),
     Session("more snapshots", ["run", "--snapshot-every", "2"],
             b"(SETF (GET 'A 'B) 9)\n(GET 'A 'B)\n(SETF (GET 'A 'C) 10)\n(INCF (GET 'A 'C))\n", "snapshots"),
     Session("sharp sign", ["run"], b"(LIST #xFF #36rZ #b-1/10 #\\space)\n'(#:a #'f #|x #|y|# z|# \"\")\n", None),
@@ -235,7 +237,9 @@ def answers(one, out):
     return out.count(b"\n") if one.session.words[0] == "run" else 0
 
 
-def check_world(room, one, answered):
+def check_world(room, one, answered, apart=True):
+    """A session with groups has one, of all its forms: all of them may be there, and not some, unless it was executed form by form (`apart`)
+    as memory ran out in it."""
     left = (*room.files(), answered)
     if left in one.looked:
         return
@@ -243,7 +247,9 @@ def check_world(room, one, answered):
     dump = room.run(["dump"])
     want(dump.status == 0, one.session.name, "no dump:", dump)
     prefixes = [count for count, text in one.dumps if text == dump.out]
-    want(any(answered <= count <= answered + 1 for count in prefixes), one.session.name, answered, "answered, and the world is that after", prefixes)
+    together = "--group" in one.session.words
+    may = {answered, len(one.dumps) - 1 if together else answered + 1, answered + 1 if apart else answered}
+    want(may & set(prefixes), one.session.name, answered, "answered, and the world is that after", prefixes)
     verified = room.run(["verify"])
     want(verified.status == 0, one.session.name, "not verified:", verified)
     more = room.run(["run", "--rescue"], ONE_MORE)

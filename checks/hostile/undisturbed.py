@@ -19,6 +19,7 @@ WANTED = {
     "no way in": (0, b'T\n'),
     "rescue": (0, b':USER\n'),
     "rescued": (0, b'NIL\n'),
+    "together": (0, b"7\n8\n! 31 UNKNOWN-OPERATOR\n8\n\"t\"\n"),
     "snapshots": (0, (
         b'7\n'
         b'8\n'
