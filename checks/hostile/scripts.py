@@ -1,0 +1,57 @@
+"""The sessions of checks/sessions, where a growth of memory is refused at some places of each run."""
+import collections
+import glob
+import importlib.machinery
+import importlib.util
+import os
+import shutil
+
+from store import Answer, NO_MEMORY, library, logged, want, without_cause
+
+FOLDER = os.path.join(os.path.dirname(os.path.dirname(os.path.abspath(__file__))), "sessions")
+
+
+def player():
+    """The module that plays these sessions."""
+    loader = importlib.machinery.SourceFileLoader("sessions", os.path.join(FOLDER, "run"))
+    module = importlib.util.module_from_spec(importlib.util.spec_from_loader("sessions", loader))
+    loader.exec_module(module)
+    return module
+
+
+def run(room, most):
+    """At most so many growths of each run. Gives how many runs there were, and what came of them."""
+    play, loaded, kinds = player(), library("growth", room), collections.Counter()
+    for path in sorted(glob.glob(os.path.join(FOLDER, "*.txt"))):
+        for name, steps in play.scripts_of(path):
+            folder = room.path("played")
+            os.mkdir(folder)
+            for step in steps:
+                if isinstance(step, play.Run):
+                    kinds.update(outcomes(room, folder, name, step, loaded, most))
+                found = step.difference(room.program, folder)
+                want(not found, os.path.basename(path), name, found)
+            shutil.rmtree(folder)
+    return sum(kinds.values()), dict(kinds)
+
+
+def outcomes(room, folder, name, step, loaded, most):
+    """What came of a run where one growth of it is refused. The folder is left as it was."""
+    before, log = room.path("before"), room.path("growths")
+    shutil.copytree(folder, before)
+
+    def tried(number):
+        status, out, err = step.answer(room.program, folder, {"LD_PRELOAD": loaded, "GROWTH_AT": str(number), "GROWTH_LOG": log})
+        shutil.rmtree(folder)
+        shutil.copytree(before, folder)
+        return Answer(status, out, without_cause(err)), logged(log)
+
+    ample, words = tried(0)
+    want(words is not None, name, "did not come to its end")
+    total = int(words[0])
+    for number in range(1, total + 1, max(1, -(-total // most))):
+        got, _ = tried(number)
+        is_short = got.status == 3 and got.err == NO_MEMORY and ample.out.startswith(got.out)
+        want(got == ample or is_short, name, step.words, "growth", number, got, "in place of", ample)
+        yield "absorbed" if got == ample else NO_MEMORY.decode().strip()
+    shutil.rmtree(before)
