@@ -3,7 +3,9 @@
 //! They are a crate of their own, so that the libraries are not proved again for the sake of their tests.
 //!
 //! - `disks`: disks in memory and files of the system
-//! - `logs`: records, crashes, files that were altered or are of an older version, and one caller's session
+//! - `logs`: records, crashes, and one caller's session
+//!
+//! Files that were altered or are of an older version are in `checks/sessions` (`halves.txt`, `cut_halves.txt`, `half_versions.txt`).
 #![tactic(auto)]
 
 #[cfg(test)]

@@ -4,17 +4,16 @@
 //!
 //! - `objects`: lisp_object
 //! - `packages`: package_table
-//! - `printing`: canon_printer
 //! - `worlds`: plist_state
 //! - `snapshots`: snapshot_text
+//!
+//! They are what only a call shows: what forms and commands of the program show is in `checks/sessions`.
 #![tactic(auto)]
 
 #[cfg(test)]
 mod objects;
 #[cfg(test)]
 mod packages;
-#[cfg(test)]
-mod printing;
 #[cfg(test)]
 mod snapshots;
 #[cfg(test)]
