@@ -3,7 +3,7 @@
 
 use crate::broken::{Kept, Pieces};
 use crate::by_name::ByName;
-use crate::files::{AMPLE, Trouble, asked_in_memory, trouble_of};
+use crate::files::{AMPLE, Trouble, asked_in_memory};
 use crate::lines::{ended_line, ending_line, is_short, number_line, outcome_line, outcome_lines};
 use disk_trait::{Disk, MemoryDisk};
 use prevalence_store::{Ended, Ending, Mode, Outcome, Step, Store, Wanted};
@@ -257,19 +257,6 @@ fn ask_all<D: Disk>(
 enum Opening<D: Disk> {
     Opened(Store<D, ByName>),
     Refused(u16, D),
-}
-
-/// Opens a store over a disk with all macro functions.
-pub fn open<D: Disk + Drop>(
-    alloc: Global,
-    disk: D,
-    limit: u64,
-) -> Result<Store<D, ByName>, Trouble> {
-    let macros = ByName::new(alloc, SixFunctions::new());
-    match open_with(alloc, disk, macros, limit)? {
-        Opening::Opened(store) => Ok(store),
-        Opening::Refused(number, _disk) => Err(trouble_of(number)),
-    }
 }
 
 /// Opens a store over a disk with these macro functions.

@@ -1,9 +1,8 @@
 //! Calls of the store: its refusals, and its limit.
 
-use crate::asked::{Ask, form, session_in, told};
-use crate::files::{AMPLE, Trouble, asked_in_memory, left_after};
+use crate::asked::{form, told};
+use crate::files::{Trouble, asked_in_memory};
 use disk_trait::MemoryDisk;
-use prevalence_store::Mode;
 use std::alloc::Global;
 use std::test::Fail;
 
@@ -20,25 +19,6 @@ fn three_texts(alloc: Global) -> Result<Vec<u8>, Trouble> {
 fn a_text_is_one_form(rt: HostRuntime) -> Result<(), Fail> {
     let text = three_texts(rt.alloc())?;
     assert!(rt; text.as_slice() == b"refused 26\nrefused 1\naccepted 1\n".as_slice());
-    Ok(())
-}
-
-/// The bytes of the mode in the records of two forms in this mode, the second of a session.
-fn mode_bytes(alloc: Global, mode: Mode) -> Result<[Option<u8>; 2], Trouble> {
-    let calls = [
-        Ask::Form(mode, b"(SETF (GET 'A 'B) 7)"),
-        session_in(mode, b"(SETF (GET 'A 'B) 8)"),
-    ];
-    let left = left_after(alloc, MemoryDisk::new(alloc), AMPLE, &calls)?;
-    let a = left.files.a.as_slice();
-    Ok([a.get(154).copied(), a.get(180).copied()])
-}
-
-#[test]
-fn a_record_tells_its_mode(rt: HostRuntime) -> Result<(), Fail> {
-    let alloc = rt.alloc();
-    assert_eq!(rt; mode_bytes(alloc, Mode::Current)?, [Some(0), Some(0)]);
-    assert_eq!(rt; mode_bytes(alloc, Mode::Rescue)?, [Some(1), Some(1)]);
     Ok(())
 }
 

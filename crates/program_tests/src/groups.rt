@@ -3,7 +3,6 @@
 use crate::asked::{Ask, Serving, form, session, told};
 use crate::campaign::{Stop, device_calls, stopped};
 use crate::files::{AMPLE, Files, Trouble, asked_in_memory, crashed, files_of, left_after};
-use crate::runs::difference_in;
 use disk_trait::{Crash, MemoryDisk};
 use prevalence_store::Mode;
 use std::alloc::Global;
@@ -244,67 +243,5 @@ fn a_writer_that_fails_in_a_group_has_its_first_lines(rt: HostRuntime) -> Result
     // both forms are in the store, and the second one is not acknowledged
     let wanted: &[u8] = b"8\n9store 68\naccepted\n";
     assert!(rt; text.as_slice() == wanted);
-    Ok(())
-}
-
-// ---- the program
-
-/// Sessions with groups: each is answered as one without.
-const GROUPED: &str = r"
-$ run DIR --group
-< (SETF (GET 'A 'B) 7)
-< (SETF (GET 'A 'C) 8) (FROB) (LIST (GET 'A 'B)
-< (GET 'A 'C))
-0
-7
-8
-! 31 UNKNOWN-OPERATOR
-(7 8)
-$ verify DIR
-0
-half A generation 1 records 2
-$ run DIR --group --strict
-< (SETF (GET 'A 'B) 9) (FROB) (SETF (GET 'A 'B) 10)
-1
-9
-! 31 UNKNOWN-OPERATOR
-standard error: line 1, column 22: refused with 31 UNKNOWN-OPERATOR in form 2, which began at line 1, column 22
-$ run --group DIR --snapshot-every 2
-< (SETF (GET 'A 'B) 1)
-< (SETF (GET 'A 'B) 2)
-< (SETF (GET 'A 'B) 3)
-0
-1
-2
-3
-$ verify DIR
-0
-half B generation 2 records 1
-$ run DIR --rescue --group --existing
-< (GET 'A 'B) (SETF (GET 'A 'B) 4)
-<  )
-1
-3
-4
-! 4 STRAY-CLOSE
-standard error: line 2, column 2: refused with 4 STRAY-CLOSE in form 3, which began at line 2, column 2
-$> run DIR --group
-< (SETF (GET 'A 'B) 5)
-< (SETF (GET 'A 'B) 6)
-3
-standard error: ! 68 OUTPUT
-$ run DIR --group
-< (GET 'A 'B)
-0
-6
-$< run DIR --group
-3
-standard error: ! 67 INPUT
-";
-
-#[test]
-fn groups_are_answered_form_by_form(rt: HostRuntime) -> Result<(), Fail> {
-    let run = difference_in(&rt, "groups", GROUPED)?;
-    assert!(rt; run.is_none(), "{run:?}");
     Ok(())
 }

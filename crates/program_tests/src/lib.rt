@@ -8,18 +8,16 @@
 //!
 //! - `asked` calls a store, `lines` has the lines of what its calls give, `by_name` the macro functions, `files` the bytes of disks,
 //!   `broken` streams that fail, `long` disks of a test
-//! - `rows`, `evaluation`, `read_base`, `sessions`, `refusals`: what forms are answered
-//! - `calls`, `silent`, `turns`, `snapshots`, `callers`: the calls of a store; `wanted`: a session that is strict, and tells where
-//!   it ended
+//! - `calls`, `silent`, `turns`, `snapshots`, `callers`: the calls of a store; `wanted`: a session that is strict and meets a fault
 //! - `campaign`: a device that stops at each of its calls in turn, and each kind of crash after that; `stopped`: what exactly is
-//!   left of one form or snapshot; `altered`: files that were altered; `memory`: a macro function that finds no memory; `growth`:
-//!   calls that find none and are made again
+//!   left of one form or snapshot; `altered`: files that are longer than a limit or than memory; `memory`: a macro function that
+//!   finds no memory; `growth`: calls that find none and are made again
 //! - Want of memory ends a test with an error, wherever it comes: an assertion that fails is an answer that has changed.
-//! - `groups`: forms that are executed together, sessions with groups, and `run --group`
-//! - `versions`: files of version 1; `upgrades`: the command that makes files of version 2 of them
-//! - `macros`: the macro functions of the program
-//! - `words`: the words of the program; `commands`, by scripts of `runs`: its statuses, and real files; `exports`: the forms that
-//!   make a world; `terminal`: sessions in a row; `places`: the line on the refusal that ended a session, and sessions that are strict
+//! - `groups`: forms that are executed together, and sessions with groups
+//! - `versions`: files of version 1 with little room; `upgrades`: the command that makes files of version 2 of them
+//! - `macros`: the macro functions of the program, and what is not registered
+//! - `terminal`: sessions in a row, over real files of `runs`
+//! - What a run of the built program can show is in `checks/sessions`: answers, refusals and their places, words, commands, files.
 #![tactic(auto)]
 
 #[cfg(test)]
@@ -37,12 +35,6 @@ mod calls;
 #[cfg(test)]
 mod campaign;
 #[cfg(test)]
-mod commands;
-#[cfg(test)]
-mod evaluation;
-#[cfg(test)]
-mod exports;
-#[cfg(test)]
 mod files;
 #[cfg(test)]
 mod groups;
@@ -57,17 +49,7 @@ mod macros;
 #[cfg(test)]
 mod memory;
 #[cfg(test)]
-mod places;
-#[cfg(test)]
-mod read_base;
-#[cfg(test)]
-mod refusals;
-#[cfg(test)]
-mod rows;
-#[cfg(test)]
 mod runs;
-#[cfg(test)]
-mod sessions;
 #[cfg(test)]
 mod silent;
 #[cfg(test)]
@@ -84,5 +66,3 @@ mod upgrades;
 mod versions;
 #[cfg(test)]
 mod wanted;
-#[cfg(test)]
-mod words;

@@ -27,25 +27,9 @@ fn is_full(alloc: Global) -> Result<bool, Trouble> {
     )
 }
 
-/// Whether a session leaves one record, and two more forms are accepted.
-fn is_roomy(alloc: Global) -> Result<bool, Trouble> {
-    is_told(
-        alloc,
-        1_000,
-        &[
-            session(b"'C 'C "),
-            Ask::Half,
-            form(b"'C"),
-            form(b"(LIST 1)"),
-        ],
-        b"C\nC\nend\nhalf A generation 1 records 1\naccepted\naccepted\n",
-    )
-}
-
 #[test]
 fn a_form_is_logged_where_it_writes(rt: HostRuntime) -> Result<(), Fail> {
     assert!(rt; is_full(rt.alloc())?);
-    assert!(rt; is_roomy(rt.alloc())?);
     Ok(())
 }
 

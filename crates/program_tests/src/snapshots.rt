@@ -1,7 +1,7 @@
 //! Snapshots: when a session takes them, what they leave, and steps one after the other.
 
-use crate::asked::{Ask, Serving, session_in};
-use crate::files::{AMPLE, Files, Left, Trouble, asked_in_memory, disk_with, left_after};
+use crate::asked::{Ask, Serving};
+use crate::files::{Trouble, asked_in_memory, left_after};
 use disk_trait::MemoryDisk;
 use prevalence_store::{Mode, Step};
 use std::alloc::Global;
@@ -16,26 +16,6 @@ struct Case {
 }
 
 const CASES: &[Case] = &[
-    // after each two forms
-    Case {
-        limit: AMPLE,
-        snapshot_every: 2,
-        input: b"(SETF (GET 'A 'B) 1)(SETF (GET 'A 'B) 2)(SETF (GET 'A 'B) 3)",
-        text: b"1\n2\n3\nend\nhalf B generation 2 records 1\n",
-    },
-    // forms that leave no record do not count
-    Case {
-        limit: AMPLE,
-        snapshot_every: 2,
-        input: b"(SETF (GET 'A 'B) 1)(GET 'A 'B)(FROB)(SETF (GET 'A 'B) 2)",
-        text: b"1\n1\n! 31 UNKNOWN-OPERATOR\n2\nend\nhalf B generation 2 records 0\n",
-    },
-    Case {
-        limit: AMPLE,
-        snapshot_every: 1,
-        input: b"(SETF (GET 'A 'B) 1)(SETF (GET 'A 'B) 2)(SETF (GET 'A 'B) 3)",
-        text: b"1\n2\n3\nend\nhalf B generation 4 records 0\n",
-    },
     // one for which there is no half is passed over
     Case {
         limit: 300,
@@ -127,44 +107,5 @@ fn snapshots_are_taken_in_turn_and_for_room(rt: HostRuntime) -> Result<(), Fail>
     for (count, wanted, sizes) in cases {
         assert!(rt; run_so(alloc, count, wanted, sizes)?, "{count}");
     }
-    Ok(())
-}
-
-/// What a form that makes `(` whitespace, and a snapshot leave.
-fn snapshotted(alloc: Global) -> Result<Left, Trouble> {
-    let form = Step::Form(Mode::Current, b"(SET-SYNTAX-FROM-CHAR #\\( #\\Space)");
-    left_after(
-        alloc,
-        MemoryDisk::new(alloc),
-        AMPLE,
-        &[Ask::Run(&[form, Step::Snapshot])],
-    )
-}
-
-/// What a session over these files leaves, in a mode.
-fn left_in(alloc: Global, files: &Files, mode: Mode, input: &[u8]) -> Result<Left, Trouble> {
-    left_after(
-        alloc,
-        disk_with(alloc, files)?,
-        AMPLE,
-        &[session_in(mode, input)],
-    )
-}
-
-#[test]
-fn a_snapshot_is_read_as_it_was_written(rt: HostRuntime) -> Result<(), Fail> {
-    let alloc = rt.alloc();
-    let first = snapshotted(alloc)?;
-    assert!(rt; first.text.as_slice() == b"accepted\nsnapshotted\n".as_slice());
-    let current = left_in(alloc, &first.files, Mode::Current, b"(GET 'A 'B)\n")?;
-    let wanted: &[u8] = b"! 30 NOT-A-FORM\nA\nB\n! 4 STRAY-CLOSE\nreader 4\n";
-    assert!(rt; current.text.as_slice() == wanted);
-    let rescue = left_in(
-        alloc,
-        &current.files,
-        Mode::Rescue,
-        b"(COPY-READTABLE NIL :USER)\n",
-    )?;
-    assert!(rt; rescue.text.as_slice() == b":USER\nend\n".as_slice());
     Ok(())
 }

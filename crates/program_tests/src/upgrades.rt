@@ -115,24 +115,3 @@ fn an_upgrade_that_stops_is_made_whole_by_the_next(rt: HostRuntime) -> Result<()
     assert!(rt; found.is_none(), "{found:?}");
     Ok(())
 }
-
-/// The texts of two upgrades of these files and of the half in use after each: the second takes no snapshot.
-fn upgraded_twice(alloc: Global, files: &Files) -> Result<Vec<u8>, Trouble> {
-    let (mut text, disk) = upgraded(alloc, disk_with(alloc, files)?)?;
-    let (half, disk) = asked_in_memory(alloc, disk, AMPLE, &[Ask::Half])?;
-    text.extend_from_slice(half.as_slice())?;
-    let (line, disk) = upgraded(alloc, disk)?;
-    text.extend_from_slice(line.as_slice())?;
-    text.extend_from_slice(told(alloc, disk, &[Ask::Half])?.as_slice())?;
-    Ok(text)
-}
-
-#[test]
-fn files_of_version_2_stay_as_they_are(rt: HostRuntime) -> Result<(), Fail> {
-    let alloc = rt.alloc();
-    let text = upgraded_twice(alloc, &first_version(alloc)?)?;
-    let wanted: &[u8] =
-        b"version 2\nhalf B generation 2 records 0\nversion 2\nhalf B generation 2 records 0\n";
-    assert!(rt; text.as_slice() == wanted);
-    Ok(())
-}
