@@ -5,7 +5,6 @@ ghost use Rattle.package_table.specs.Table.{IsPackage};
 mod bases;
 mod calls;
 mod hostile;
-mod large;
 mod trial;
 
 use form_reader::{
