@@ -5,11 +5,10 @@ ghost use Rattle.user_macros.specs.Calls.{answer_of, call_of};
 ghost use Rattle.user_macros.specs.Sound.{IsSoundCall};
 ghost use Rattle.reader_tests.specs.Trial.{trial_answer, makes, other_answer};
 
-use super::hostile::repeated;
 use super::trial::{
     Trial, counted, empty_list, list_before_a_list, name_of, named, symbol, wrapped,
 };
-use super::{field, number};
+use super::{field, number, repeated};
 use form_reader::{Limits, ReadOutcome, read_one};
 use lisp_object::Datum;
 use package_table::Packages;
