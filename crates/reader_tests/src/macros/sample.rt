@@ -1,12 +1,11 @@
-//! A meaning of three functions, and what one of them computes.
+//! A meaning of three functions, and a call of one.
 ghost use Rattle.std.specs.Prelude.{◌≡◌};
-ghost use Rattle.user_macros.specs.Calls.{answer_of, call_of};
 ghost use Rattle.user_macros.specs.Sound.{IsSoundCall};
-ghost use Rattle.reader_tests.specs.Sample.{sample_functions, sample_names, scale_answer};
+ghost use Rattle.reader_tests.specs.Sample.{sample_functions, sample_names};
 
 use lisp_object::Datum;
 use readtable_core::FnName;
-use user_macros::{Answer, Call, Gather, Gathered, Meaning};
+use user_macros::{Call, Gather, Gathered, Meaning};
 
 #[derive(Drop)]
 pub struct Sample {
@@ -44,26 +43,6 @@ impl Meaning for Sample {
             b"SCALE" => Some(Gather::Next),
             _ => None,
         }
-    }
-}
-
-#[tactic(auto, using(lisp_object::proofs::Objects::object_laws))]
-pub fn scale(call: &Call) -> Answer
-    requires { IsSoundCall call.now }
-    ensures { answer_of result ≡ scale_answer call.now.number (call_of call.now).gathered }
-{
-    let Some(number) = call.number else {
-        return Answer::Refused(2);
-    };
-    let Gathered::One(datum) = &call.gathered else {
-        return Answer::Refused(2);
-    };
-    let Datum::Integer(integer) = datum else {
-        return Answer::Refused(2);
-    };
-    match integer.checked_mul(i128::from(number)) {
-        Some(product) => Answer::One(Datum::Integer(product)),
-        None => Answer::Refused(2),
     }
 }
 
