@@ -1,17 +1,18 @@
 -- What the functions of the tests mean.
 use Rattle.std.specs.Prelude.{ℕ, ◌≡◌, pos, Bool, true, false, ◌||◌, is_some, if◌then◌else◌, List, [], ◌∷◌, length, map, Option, Some, None, unwrap_or, codes, refl}
 use Rattle.readtable_core.specs.Names.{same_name, is_among}
-use Rattle.lisp_object.specs.Object.{integer, symbol, pair, nil}
+use Rattle.lisp_object.specs.Object.{integer, symbol, pair, nil, vector, list_of}
 use Rattle.user_macros.specs.declared.call.Gather.{Gather}
 use Rattle.user_macros.specs.declared.call.Gather.TheVariants.{Nothing, Next, Until, Text, TextSame, Line, Token}
 use Rattle.user_macros.specs.Calls.{Material, nothing, one, many, text, MacroCall, MacroAnswer, value, no_value, improper, refused}
 use Rattle.user_macros.specs.Functions.{Functions}
+use Rattle.reader_tests.specs.Large.{nested, ones, long_symbol}
 
 -- the ways of seven that count what they gather, and of others, in three parts
 abbrev pub last_rows : List (List ℕ × Gather)
 last_rows =
     (codes "HIGH", Nothing) ∷ (codes "OWN", Nothing) ∷ (codes "OTHER", Nothing) ∷ (codes "IMPROPER", Nothing) ∷ (codes "WRAP", Next)
-    ∷ (codes "NAME", Text 125) ∷ []
+    ∷ (codes "NAME", Text 125) ∷ (codes "DEEP", Nothing) ∷ (codes "LONG", Nothing) ∷ (codes "LARGE", Nothing) ∷ []
 
 abbrev pub later_rows : List (List ℕ × Gather)
 later_rows =
@@ -47,6 +48,13 @@ count (one x) = 1
 count (many xs) = length xs
 count (text cs) = length cs
 
+-- what three answer, each past a limit
+abbrev pub large_answer : List ℕ → Option MacroAnswer
+large_answer name =
+    if same_name (codes "DEEP") name then Some (value (nested 101))
+    else (if same_name (codes "LONG") name then Some (value long_symbol)
+    else (if same_name (codes "LARGE") name then Some (value (vector (list_of (ones 1000000)))) else None))
+
 -- what the others answer
 abbrev pub other_answer : List ℕ → Option MacroAnswer
 other_answer name =
@@ -59,7 +67,7 @@ other_answer name =
     else (if same_name (codes "OWN") name then Some (value (symbol (codes "COMMON-LISP") (codes "X")))
     else (if same_name (codes "OTHER") name then Some (value (symbol (codes "COMMON-LISP-USER") (codes "GET")))
     else (if same_name (codes "IMPROPER") name then Some improper
-    else None))))))))
+    else large_answer name))))))))
 
 -- two answer by what they gather: the object in two lists, or the symbol of this name
 abbrev pub makes : List ℕ → Bool

@@ -3,6 +3,7 @@ ghost use Rattle.std.specs.Prelude.{◌≤◌};
 ghost use Rattle.package_table.specs.Table.{IsPackage};
 
 mod calls;
+mod large;
 mod trial;
 
 use form_reader::{

@@ -5,6 +5,7 @@ ghost use Rattle.user_macros.specs.Calls.{answer_of, call_of};
 ghost use Rattle.user_macros.specs.Sound.{IsSoundCall};
 ghost use Rattle.reader_tests.specs.Trial.{trial_answer, makes, other_answer};
 
+use super::large::{too_deep, too_large, too_long};
 use super::trial::{
     Trial, counted, empty_list, list_before_a_list, name_of, named, symbol, wrapped,
 };
@@ -213,10 +214,27 @@ fn answers_at_a_limit(rt: HostRuntime) -> Result<(), Fail> {
 }
 
 #[test]
+fn answers_past_a_limit(rt: HostRuntime) -> Result<(), Fail> {
+    let alloc = rt.alloc();
+    let deep = name_of(b"DEEP");
+    let function: MacroFn = Box::new(rt.alloc(), move |_call: &Call| too_deep(alloc))?;
+    assert!(rt; refusal(&read_with(&rt, deep, function, b"!")?) == (21, 1));
+    let long = name_of(b"LONG");
+    let function: MacroFn = Box::new(rt.alloc(), move |_call: &Call| too_long(alloc))?;
+    assert!(rt; refusal(&read_with(&rt, long, function, b"!")?) == (21, 1));
+    let large = name_of(b"LARGE");
+    let function: MacroFn = Box::new(rt.alloc(), move |_call: &Call| too_large(alloc))?;
+    assert!(rt; refusal(&read_with(&rt, large, function, b"!")?) == (21, 1));
+    Ok(())
+}
+
+#[test]
 fn functions_that_refuse(rt: HostRuntime) -> Result<(), Fail> {
     let low = name_of(b"LOW");
     let refuses: MacroFn = Box::new(rt.alloc(), |_call: &Call| Ok(Answer::Refused(0)))?;
     assert!(rt; refusal(&read_with(&rt, low, refuses, b" (!A)")?) == (20, 3));
+    let refuses: MacroFn = Box::new(rt.alloc(), |_call: &Call| Ok(Answer::Refused(0)))?;
+    assert!(rt; refusal(&read_with(&rt, low, refuses, b"!")?) == (20, 1));
     let high = name_of(b"HIGH");
     let refuses: MacroFn = Box::new(rt.alloc(), |_call: &Call| Ok(Answer::Refused(65_535)))?;
     assert!(rt; refusal(&read_with(&rt, high, refuses, b"!")?) == (20, 1));

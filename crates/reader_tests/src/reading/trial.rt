@@ -24,7 +24,7 @@ pub fn name_of(bytes: &[u8]) -> FnName
 
 #[derive(Drop)]
 pub struct Trial {
-    names: [FnName; 18],
+    names: [FnName; 21],
     ghost are: { names ≡ trial_names },
 }
 
@@ -50,6 +50,9 @@ impl Trial {
                 name_of(b"IMPROPER"),
                 name_of(b"WRAP"),
                 name_of(b"NAME"),
+                name_of(b"DEEP"),
+                name_of(b"LONG"),
+                name_of(b"LARGE"),
             ],
         }
     }
@@ -135,6 +138,15 @@ fn last(name: FnName) -> Option<Gather>
     }
     if b"NAME".as_slice() == name.as_bytes() {
         return Some(Gather::Text(b'}'));
+    }
+    if b"DEEP".as_slice() == name.as_bytes() {
+        return Some(Gather::Nothing);
+    }
+    if b"LONG".as_slice() == name.as_bytes() {
+        return Some(Gather::Nothing);
+    }
+    if b"LARGE".as_slice() == name.as_bytes() {
+        return Some(Gather::Nothing);
     }
     None
 }
