@@ -8,6 +8,7 @@ import shutil
 
 from store import Answer, NO_MEMORY, library, logged, want, without_cause
 
+REFUSED = NO_MEMORY.decode().strip()
 FOLDER = os.path.join(os.path.dirname(os.path.dirname(os.path.abspath(__file__))), "sessions")
 
 
@@ -32,6 +33,7 @@ def run(room, most):
                 found = step.difference(room.program, folder)
                 want(not found, os.path.basename(path), name, found)
             shutil.rmtree(folder)
+    want(kinds[REFUSED] > 0, "no growth was answered with 90")
     return sum(kinds.values()), dict(kinds)
 
 
@@ -50,8 +52,9 @@ def outcomes(room, folder, name, step, loaded, most):
     want(words is not None, name, "did not come to its end")
     total = int(words[0])
     for number in range(1, total + 1, max(1, -(-total // most))):
-        got, _ = tried(number)
+        got, words = tried(number)
+        want(words is not None and words[1] == "1", name, step.words, "growth", number, "was not refused, or the program did not end")
         is_short = got.status == 3 and got.err == NO_MEMORY and ample.out.startswith(got.out)
         want(got == ample or is_short, name, step.words, "growth", number, got, "in place of", ample)
-        yield "absorbed" if got == ample else NO_MEMORY.decode().strip()
+        yield "absorbed" if got == ample else REFUSED
     shutil.rmtree(before)
