@@ -29,7 +29,7 @@ def run(room, most):
             os.mkdir(folder)
             for step in steps:
                 if isinstance(step, play.Run):
-                    kinds.update(outcomes(room, folder, name, step, loaded, most))
+                    kinds.update(outcomes(room, folder, name, step, loaded, most, sum(kinds.values())))
                 found = step.difference(room.program, folder)
                 want(not found, os.path.basename(path), name, found)
             shutil.rmtree(folder)
@@ -37,8 +37,9 @@ def run(room, most):
     return sum(kinds.values()), dict(kinds)
 
 
-def outcomes(room, folder, name, step, loaded, most):
-    """What came of a run where one growth of it is refused. The folder is left as it was."""
+def outcomes(room, folder, name, step, loaded, most, before_it):
+    """What came of a run where one growth of it is refused, after so many of other runs: the first one of it goes by these, so that
+    runs which begin alike are not all refused the same growths. The folder is left as it was."""
     before, log = room.path("before"), room.path("growths")
     shutil.copytree(folder, before)
 
@@ -51,7 +52,8 @@ def outcomes(room, folder, name, step, loaded, most):
     ample, words = tried(0)
     want(words is not None, name, "did not come to its end")
     total = int(words[0])
-    for number in range(1, total + 1, max(1, -(-total // most))):
+    every = max(1, -(-total // most))
+    for number in range(1 + before_it % every, total + 1, every):
         got, words = tried(number)
         want(words is not None and words[1] == "1", name, step.words, "growth", number, "was not refused, or the program did not end")
         is_short = got.status == 3 and got.err == NO_MEMORY and ample.out.startswith(got.out)
