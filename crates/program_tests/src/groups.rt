@@ -149,7 +149,7 @@ fn is_the_same(alloc: Global, limit: u64, session: Serving<'_>) -> Result<bool, 
     Ok(true)
 }
 
-/// Forms that write and that do not, refused ones, what the reader refuses, a change of package and of the read base, comments, and an
+/// Forms that write and that do not, refused ones, what the reader refuses, a change of the read base, comments, and an
 /// end in a form.
 const SESSIONS: [&[u8]; 8] = [
     b"",
@@ -157,7 +157,7 @@ const SESSIONS: [&[u8]; 8] = [
     b"(SETF (GET 'A 'B) 7)\n(GET 'A 'B)\n'C\n(SETF (GET 'A 'B) 8) (GET 'A 'B)\n",
     b"(SETF (GET 'A 'B) 7)\n(CAR 'A)\n(SETF (GET 'A 'B) 8)\n(CDR 'B)\n7 8 ",
     b"(SETF (GET 'A 'B) 7)\n(SETF (GET 'A 'C) 8)\n)\n(SETF (GET 'A 'C) 9)\n",
-    b"(SETQ *READ-BASE* 16) (SETF (GET 'A 'B) 10)\n(GET 'A 'B)\n(SETF (GET 'A 'C) 1F)\n; the end\n",
+    b"(SETF *READ-BASE* 16) (SETF (GET 'A 'B) 10)\n(GET 'A 'B)\n(SETF (GET 'A 'C) 1F)\n; the end\n",
     b"(SETF (GET 'A 'B) '(1 2\n 3))(SETF (GET 'A 'C) \"a)b\")'A 'B(SETF (GET 'A 'D) #|x|# 4)\n(",
     b"(SETF (GET 'A 'B) 1)(SETF (GET 'A 'B) 2)(SETF (GET 'A 'B) 3)(SETF (GET 'A 'B) 4)(SETF (GET 'A 'B) 5)\n",
 ];
