@@ -1,37 +1,41 @@
 #!/usr/bin/env python3
 """Whether the forms that `export` writes make the same world over a new store: for the worlds that sessions leave. The sessions are
-those of checks/hostile, and the cases of the files that are named: a case a line, as JSON, whose `steps` have the words (`args`, with
-DIR for the folder), standard input (`stdin`, in hex), and perhaps the two files (`set_a`, `set_b`, in hex).
+those of checks/hostile, and the scripts of checks/sessions.
 
 usage: check.py PROGRAM [FILE..]
+
+Without FILE all scripts of checks/sessions are played.
 """
 import collections
-import json
+import glob
 import os
 import subprocess
 import sys
 import tempfile
 
 TOP = os.path.dirname(os.path.dirname(os.path.dirname(os.path.abspath(__file__))))
+sys.dont_write_bytecode = True
 sys.path.insert(0, os.path.join(TOP, "checks", "hostile"))
 
+import scripts  # noqa: E402
 import store  # noqa: E402
 
 PROGRAM = os.path.abspath(sys.argv[1])
+PLAYER = scripts.player()
 
 
 def run(words, text=b""):
-    return subprocess.run([PROGRAM, *words], input=text, capture_output=True, timeout=120)
+    return subprocess.run([PROGRAM, *words], input=text, capture_output=True)
 
 
 def compared(name, folder, room):
     """What came of a store that is exported, and taken in by a new one."""
-    dumped = run(["dump", folder])
+    dumped = run(["dump", folder, "--existing"])
     if dumped.returncode != 0:
         return "not opened"
     exported = run(["export", folder, "--existing"])
     if exported.returncode == 3 and not exported.stderr.startswith(b"! "):
-        return f"left out: {exported.stderr!r}"
+        return "left something out"
     if exported.returncode != 0 or exported.stderr:
         return f"DEVIATION: {name}: {exported.returncode} {exported.stderr!r}"
     copy = os.path.join(room, "copy")
@@ -43,30 +47,25 @@ def compared(name, folder, room):
     return "the same" if data.returncode == 0 else f"DEVIATION: {name}: --data {data.returncode} {data.stderr!r}"
 
 
-def sessions():
+def plays():
+    """What makes a store in a folder, each with its name."""
     for session in store.SESSIONS:
         if session.base is None:
-            yield session.name, [{"args": ["run", "DIR", *session.words[1:]], "stdin": session.text.hex()}]
-    for path in sys.argv[2:]:
-        with open(path, encoding="ascii") as lines:
-            for number, line in enumerate(lines):
-                yield f"{os.path.basename(path)} {number}", json.loads(line)["steps"]
+            yield session.name, lambda folder, it=session: run([it.words[0], folder, *it.words[1:]], it.text)
+    for path in sys.argv[2:] or sorted(glob.glob(os.path.join(scripts.FOLDER, "*.txt"))):
+        for name, steps in PLAYER.scripts_of(path):
+            yield f"{os.path.basename(path)}: {name}", lambda folder, it=steps: [step.difference(PROGRAM, folder) for step in it]
 
 
 found = collections.Counter()
-for name, steps in sessions():
-    with tempfile.TemporaryDirectory() as room:
+for name, play in plays():
+    with tempfile.TemporaryDirectory(dir=PLAYER.ROOM) as room:
         folder = os.path.join(room, "store")
-        for step in steps:
-            if "set_a" in step:
-                os.makedirs(folder, exist_ok=True)
-                for half in ("a", "b"):
-                    with open(os.path.join(folder, "half-" + half), "wb") as file:
-                        file.write(bytes.fromhex(step["set_" + half]))
-            run([folder if word == "DIR" else word for word in step["args"]], bytes.fromhex(step["stdin"]))
+        os.mkdir(folder)
+        play(folder)
         came = compared(name, folder, room)
         if came.startswith("DEVIATION"):
             print(came)
         found[came.split(":")[0]] += 1
-print(dict(found))
-sys.exit(1 if found["DEVIATION"] else 0)
+print(f"export: {dict(found)}\n{found['the same']} passed, {found['DEVIATION']} failed")
+sys.exit(1 if found["DEVIATION"] or not found["the same"] else 0)

@@ -9,6 +9,9 @@ import tempfile
 import termios
 
 program = os.path.abspath(sys.argv[1])
+# Only a program that hangs is waited for so many seconds.
+PATIENCE = 300
+EVERYTHING = (sys.maxsize, sys.maxsize)
 
 
 class Terminal:
@@ -21,104 +24,94 @@ class Terminal:
         termios.tcsetattr(slave, termios.TCSANOW, attributes)
         self.process = subprocess.Popen([program, *words], stdin=slave, stdout=subprocess.PIPE, stderr=subprocess.PIPE)
         os.close(slave)
-        self.seen = {self.process.stdout: b"", self.process.stderr: b""}
 
-    def settle(self):
-        """Waits until something comes, and reads it until nothing has come for a while."""
-        seconds = 20
-        while True:
-            ready, _, _ = select.select(list(self.seen), [], [], seconds)
-            seconds = 0.3
+    def read(self, lengths):
+        """Reads from both streams until each has given so many bytes, or has ended. What comes after them is part of the next step."""
+        wanted = dict(zip((self.process.stdout, self.process.stderr), lengths))
+        found = {stream: b"" for stream in wanted}
+        while lacking := [stream for stream in wanted if len(found[stream]) < wanted[stream]]:
+            ready, _, _ = select.select(lacking, [], [], PATIENCE)
             if not ready:
-                return
-            some = False
+                break
             for stream in ready:
-                bytes_ = os.read(stream.fileno(), 65536)
-                some = some or bytes_ != b""
-                self.seen[stream] += bytes_
-            if not some:
-                return
+                more = os.read(stream.fileno(), 65536)
+                found[stream] += more
+                wanted[stream] = wanted[stream] if more else 0
+        return tuple(text.decode() for text in found.values())
 
-    def type(self, text):
-        """Types a text and gives the answers and the prompts that come of it."""
-        before = {stream: len(seen) for stream, seen in self.seen.items()}
-        os.write(self.master, text.encode())
-        self.settle()
-        return tuple(self.seen[stream][before[stream]:].decode() for stream in (self.process.stdout, self.process.stderr))
+    def step(self, name, typed, answers, told):
+        """Types a text, and compares the answers and what is told on standard error."""
+        os.write(self.master, typed.encode())
+        check(name, self.read((len(answers), len(told))), (answers, told))
 
-    def end(self):
-        """Ctrl-D: the last of both streams, and the status."""
-        last = self.type("\x04")
-        status = self.process.wait(timeout=20)
+    def end(self, name, typed, answers, told, status):
+        """The same of the last text: all that comes is compared, and the status."""
+        os.write(self.master, typed.encode())
+        found = self.read(EVERYTHING)
+        check(name, (*found, self.process.wait(timeout=PATIENCE)), (answers, told, status))
         os.close(self.master)
-        return last, status
 
 
+CONTROL_D = "\x04"
 WELCOME = "Type a form and Enter; Ctrl-D ends.\n"
 REFUSED = "line %d, column %d: refused with %s in form %d, which began at line %d, column %d\n"
 DROPPED = "The rest of the line was dropped, and a new session begins.\n"
-bad = 0
+passed = failed = 0
 
 
 def check(name, got, want):
-    global bad
-    if got != want:
-        bad += 1
+    global passed, failed
+    if got == want:
+        passed += 1
+    else:
+        failed += 1
         print(f"{name}:\n  got  {got!r}\n  want {want!r}")
 
 
 with tempfile.TemporaryDirectory() as room:
     store = os.path.join(room, "store")
     it = Terminal("run", store)
-    it.settle()
-    check("welcome", it.seen[it.process.stderr].decode(), WELCOME + "> ")
-    check("a form", it.type("(SETF (GET 'A 'B) 7)\n"), ("7\n", "> "))
-    check("a token", it.type("12\n"), ("12\n", "> "))
-    check("nothing", it.type("\n"), ("", "> "))
-    check("a comment", it.type("; a remark\n"), ("", "> "))
-    check("a form of two lines", it.type("(LIST 1\n"), ("", ". "))
-    check("its end", it.type(" 2)\n"), ("(1 2)\n", "> "))
-    check("two forms", it.type("(LIST 1) (LIST 2\n"), ("(1)\n", ". "))
-    check("the end of the second", it.type(")\n"), ("(2)\n", "> "))
-    check("refused by evaluation", it.type("(FROB)\n"), ("! 31 UNKNOWN-OPERATOR\n", "> "))
-    check("refused by the reader", it.type("10.5 (SETF (GET 'A 'B) 8)\n"), ("! 7 FLOAT-TOKEN\n", REFUSED % (10, 5, "7 FLOAT-TOKEN", 7, 10, 1) + DROPPED + "> "))
-    check("the next session", it.type("(GET 'A 'B)\n"), ("7\n", "> "))
-    check("a paste", it.type("(SETF (GET 'A 'B) 9)\n) (SETF (GET 'A 'B) 10)\n(GET 'A 'B)\n")[0], "9\n! 4 STRAY-CLOSE\n9\n")
-    check("a readtable", it.type("(SET-MACRO-CHARACTER #\\[ :SQUARE) (SET-MACRO-CHARACTER #\\] :CLOSE)\n"), ("T\nT\n", "> "))
-    check("a new bracket", it.type("[1\n")[1], ". ")
-    check("and its end", it.type("2]\n"), ("#(1 2)\n", "> "))
-    check("the end", it.end(), (("", "\n"), 0))
+    it.step("welcome", "", "", WELCOME + "> ")
+    it.step("a form", "(SETF (GET 'A 'B) 7)\n", "7\n", "> ")
+    it.step("a token", "12\n", "12\n", "> ")
+    it.step("nothing", "\n", "", "> ")
+    it.step("a comment", "; a remark\n", "", "> ")
+    it.step("a form of two lines", "(LIST 1\n", "", ". ")
+    it.step("its end", " 2)\n", "(1 2)\n", "> ")
+    it.step("two forms", "(LIST 1) (LIST 2\n", "(1)\n", ". ")
+    it.step("the end of the second", ")\n", "(2)\n", "> ")
+    it.step("refused by evaluation", "(FROB)\n", "! 31 UNKNOWN-OPERATOR\n", "> ")
+    it.step("refused by the reader", "10.5 (SETF (GET 'A 'B) 8)\n", "! 7 FLOAT-TOKEN\n", REFUSED % (10, 5, "7 FLOAT-TOKEN", 7, 10, 1) + DROPPED + "> ")
+    it.step("the next session", "(GET 'A 'B)\n", "7\n", "> ")
+    it.step("a paste", "(SETF (GET 'A 'B) 9)\n) (SETF (GET 'A 'B) 10)\n(GET 'A 'B)\n", "9\n! 4 STRAY-CLOSE\n9\n",
+            "> " + REFUSED % (13, 1, "4 STRAY-CLOSE", 3, 13, 1) + DROPPED + "> > ")
+    it.step("a readtable", "(SET-MACRO-CHARACTER #\\[ :SQUARE) (SET-MACRO-CHARACTER #\\] :CLOSE)\n", "T\nT\n", "> ")
+    it.step("a new bracket", "[1\n", "", ". ")
+    it.step("and its end", "2]\n", "#(1 2)\n", "> ")
+    it.end("the end", CONTROL_D, "", "\n", 0)
 
     it = Terminal("run", store, "--rescue")
-    it.settle()
-    it.type(")\n")
-    check("the status of the last session", it.end()[1], 0)
+    it.step("a refusal", ")\n", "! 4 STRAY-CLOSE\n", WELCOME + "> " + REFUSED % (1, 1, "4 STRAY-CLOSE", 1, 1, 1) + DROPPED + "> ")
+    it.end("the status of the last session", CONTROL_D, "", "\n", 0)
 
     it = Terminal("run", store, "--strict")
-    it.settle()
-    check("a strict session", it.type("(GET 'A 'B)\n(FROB) (SETF (GET 'A 'B) 8)\n(GET 'A 'B)\n"),
-          ("9\n! 31 UNKNOWN-OPERATOR\n9\n", "> " + REFUSED % (2, 1, "31 UNKNOWN-OPERATOR", 2, 2, 1) + DROPPED + "> > "))
-    check("its end", it.end()[1], 0)
+    it.step("a strict session", "(GET 'A 'B)\n(FROB) (SETF (GET 'A 'B) 8)\n(GET 'A 'B)\n", "9\n! 31 UNKNOWN-OPERATOR\n9\n",
+            WELCOME + "> > " + REFUSED % (2, 1, "31 UNKNOWN-OPERATOR", 2, 2, 1) + DROPPED + "> > ")
+    it.end("its end", CONTROL_D, "", "\n", 0)
 
     it = Terminal("run", store)
-    it.settle()
-    it.type("(LIST\n")
-    last, status = it.end()
-    told = "\n" + REFUSED % (2, 1, "1 END-OF-FILE", 1, 1, 1)
-    check("the end inside a form", (last, status), (("! 1 END-OF-FILE\n", told), 1))
+    it.step("a form without its end", "(LIST\n", "", WELCOME + "> . ")
+    it.end("the end inside a form", CONTROL_D, "! 1 END-OF-FILE\n", "\n" + REFUSED % (2, 1, "1 END-OF-FILE", 1, 1, 1), 1)
 
     it = Terminal("verify", store)
-    it.settle()
-    told = (it.seen[it.process.stdout].decode()[:6], it.seen[it.process.stderr], it.process.wait(timeout=20))
-    check("another command asks for nothing", told, ("half A", b"", 0))
+    it.end("another command asks for nothing", "", "half A generation 1 records 4\n", "", 0)
 
     it = Terminal("run", store + "2", "--existing")
-    it.settle()
-    check("a fault", (it.seen[it.process.stderr].decode(), it.process.wait(timeout=20)), ("! 60 DEVICE\nthere is no store in this folder\n", 3))
+    it.end("a fault", "", "", "! 60 DEVICE\nthere is no store in this folder\n", 3)
 
     piped = subprocess.run([program, "run", store], input=b"(GET 'A 'B)\n) 5\n", capture_output=True)
     told = REFUSED % (2, 1, "4 STRAY-CLOSE", 2, 2, 1)
     check("a pipe", (piped.stdout, piped.stderr, piped.returncode), (b"9\n! 4 STRAY-CLOSE\n", told.encode(), 1))
 
-print("no deviation" if bad == 0 else f"{bad} deviations")
-sys.exit(1 if bad else 0)
+print(f"{passed} passed, {failed} failed")
+sys.exit(1 if failed else 0)
