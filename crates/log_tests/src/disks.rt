@@ -1,7 +1,11 @@
 ghost use Rattle.std.specs.Prelude.{◌≡◌, ◌<◌, ◌-◌, ◌^◌, OnOk};
 
-use disk_trait::{Crash, DeviceFault, Disk, FuseDisk, Half, HostDisk, MemoryDisk, OnceDisk};
+use disk_trait::{
+    Crash, DeviceFault, Disk, FuseDisk, Half, HostDisk, HostError, IfMissing, MemoryDisk, OnceDisk,
+};
+use std::fs::{File, OpenOptions};
 use std::os::unix::fs as unix;
+use std::os::unix::fs::{MetadataExt, PermissionsExt};
 use std::test::Fail;
 use std::{env, fs, process};
 
@@ -111,17 +115,100 @@ fn files_of_the_host_hold_what_was_written(rt: HostRuntime) -> Result<(), Fail> 
     Ok(())
 }
 
+#[test]
+fn files_are_their_owners_alone(rt: HostRuntime) -> Result<(), Fail> {
+    let dir = folder(&rt, "rights")?;
+    drop(HostDisk::open(&rt, dir.as_str())?);
+    for name in ["half-a", "half-b"] {
+        let path = format!(in rt.alloc(); "{}/{name}", dir.as_str())?;
+        assert_eq!(rt; fs::metadata(&rt, path.as_str())?.mode() & 0o777, 0o600);
+        // who may open them is not changed
+        fs::set_permissions(&rt, path.as_str(), fs::Permissions::from_mode(0o640))?;
+        drop(HostDisk::open(&rt, dir.as_str())?);
+        assert_eq!(rt; fs::metadata(&rt, path.as_str())?.mode() & 0o777, 0o640);
+    }
+    fs::remove_dir_all(&rt, dir.as_str())?;
+    Ok(())
+}
+
+/// Whether the files of a folder are refused as a link, and as no regular file.
+fn refused(rt: &HostRuntime, dir: &str, if_missing: IfMissing) -> (bool, bool) {
+    match HostDisk::open_files(rt, dir, if_missing) {
+        Err(HostError::Linked) => (true, false),
+        Err(HostError::NoFile) => (false, true),
+        _ => (false, false),
+    }
+}
+
+#[test]
+fn a_link_is_never_followed(rt: HostRuntime) -> Result<(), Fail> {
+    let dir = folder(&rt, "links")?;
+    let other = format!(in rt.alloc(); "{}/other", dir.as_str())?;
+    for name in ["half-a", "half-b"] {
+        let path = format!(in rt.alloc(); "{}/{name}", dir.as_str())?;
+        for if_missing in [IfMissing::Make, IfMissing::Refuse] {
+            drop(HostDisk::open(&rt, dir.as_str())?);
+            fs::write(&rt, other.as_str(), "abc")?;
+            fs::remove_file(&rt, path.as_str())?;
+            unix::symlink(&rt, "other", path.as_str())?;
+            assert_eq!(rt; refused(&rt, dir.as_str(), if_missing), (true, false));
+            fs::remove_file(&rt, path.as_str())?;
+            fs::hard_link(&rt, other.as_str(), path.as_str())?;
+            assert_eq!(rt; refused(&rt, dir.as_str(), if_missing), (true, false));
+            fs::remove_file(&rt, path.as_str())?;
+            unix::symlink(&rt, "missing", path.as_str())?;
+            assert_eq!(rt; refused(&rt, dir.as_str(), if_missing), (true, false));
+            fs::remove_file(&rt, path.as_str())?;
+            fs::create_dir(&rt, path.as_str())?;
+            assert_eq!(rt; refused(&rt, dir.as_str(), if_missing), (false, true));
+            fs::remove_dir(&rt, path.as_str())?;
+            assert_eq!(rt; fs::read_to_string(&rt, other.as_str())?.as_str(), "abc");
+        }
+    }
+    fs::remove_dir_all(&rt, dir.as_str())?;
+    Ok(())
+}
+
+/// A path may have 4,095 bytes, and those of the halves are longer than that of their folder.
+#[test]
+fn a_name_that_is_too_long_makes_nothing(rt: HostRuntime) -> Result<(), Fail> {
+    let dir = folder(&rt, "names")?;
+    fs::create_dir(&rt, dir.as_str())?;
+    let mut name = format!(in rt.alloc(); "{}/new", dir.as_str())?;
+    let made = name.clone()?;
+    for _ in 0..2046 {
+        if name.len() + 2 <= 4090 {
+            name.push_str("/.")?;
+        }
+    }
+    assert!(rt; HostDisk::open(&rt, name.as_str()).is_err());
+    assert!(rt; fs::symlink_metadata(&rt, made.as_str()).is_err());
+    fs::remove_dir_all(&rt, dir.as_str())?;
+    Ok(())
+}
+
+/// A disk whose half of this kind is the file with this name, and whose other half is an empty file in the folder.
+fn disk_with(rt: &HostRuntime, dir: &str, bad: Half, name: &str) -> Result<HostDisk, Fail>
+    ensures { OnOk result ((⟦<HostDisk as Disk>⟧.state result).failures ≡ 0) }
+{
+    let path = format!(in rt.alloc(); "{dir}/other")?;
+    let other = File::create_new(rt, path.as_str())?;
+    let file = OpenOptions::new().read(true).write(true).open(rt, name)?;
+    match bad {
+        Half::A => Ok(HostDisk::of_files(file, other)?),
+        Half::B => Ok(HostDisk::of_files(other, file)?),
+    }
+}
+
 /// A file of the system that is a regular one, and that cannot be synced.
 const UNSYNCED: &str = "/proc/self/comm";
 
 #[test]
 fn a_sync_that_failed_is_never_forgotten(rt: HostRuntime) -> Result<(), Fail> {
     let dir = folder(&rt, "syncs")?;
-    for (name, bad, good) in [("half-a", Half::A, Half::B), ("half-b", Half::B, Half::A)] {
+    for (bad, good) in [(Half::A, Half::B), (Half::B, Half::A)] {
         fs::create_dir(&rt, dir.as_str())?;
-        let path = format!(in rt.alloc(); "{}/{name}", dir.as_str())?;
-        unix::symlink(&rt, UNSYNCED, path.as_str())?;
-        let mut disk = HostDisk::open(&rt, dir.as_str())?;
+        let mut disk = disk_with(&rt, dir.as_str(), bad, UNSYNCED)?;
         disk.sync(good)?;
         assert!(rt; disk.sync(bad).is_err());
         disk.write_at(good, 0, b"abc")?;
@@ -144,9 +231,7 @@ const UNREAD: &str = "/proc/self/mem";
 fn a_call_that_failed_is_a_fault(rt: HostRuntime) -> Result<(), Fail> {
     let dir = folder(&rt, "faults")?;
     fs::create_dir(&rt, dir.as_str())?;
-    let path = format!(in rt.alloc(); "{}/half-a", dir.as_str())?;
-    unix::symlink(&rt, UNREAD, path.as_str())?;
-    let mut disk = HostDisk::open(&rt, dir.as_str())?;
+    let mut disk = disk_with(&rt, dir.as_str(), Half::A, UNREAD)?;
     let mut buffer = [0; 8];
     assert!(rt; disk.read(Half::A, 0, &mut buffer).is_err());
     assert!(rt; disk.write_at(Half::A, 0, b"abc").is_err());

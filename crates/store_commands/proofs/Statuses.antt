@@ -50,6 +50,8 @@ host_status host.OutOfMemory = inl refl
 host_status host.Locked = inr (inr refl)
 host_status host.NoStore = inr (inr refl)
 host_status host.NoName = inr (inr refl)
+host_status host.Linked = inr (inr refl)
+host_status host.NoFile = inr (inr refl)
 host_status (host.System error) = inr (inr refl)
 
 pub early_after : (status : Status) (error : HostError) → status ≡ status_of_host error → IsEarlyFault status
