@@ -52,6 +52,16 @@ constant_form names s d r is each =
 pub uninterned_form : (names : List Name) (s : WorldState) (d : Datum) (name : Name) → d ≡ Datum.Uninterned name → value names s (object_of d) ≡ Err NOT_A_FORM
 uninterned_form names s d name is = ap (λ z. value names s (object_of z)) is ∙ ap (value names s) (object_of-Uninterned name) ∙ value_uninterned names s name
 
+pub no_list : (d : Datum) → ((items : List Datum) (tail : Option Datum) → d ≡ Datum.List items tail → ⊥) → is_list d ≡ false
+no_list (Datum.Integer n) no = refl
+no_list (Datum.Rational ratio) no = refl
+no_list (Datum.Char c) no = refl
+no_list (Datum.Text characters) no = refl
+no_list (Datum.Symbol home name) no = refl
+no_list (Datum.Uninterned name) no = refl
+no_list (Datum.List items tail) no = absurd (no items tail refl)
+no_list (Datum.Vector items) no = refl
+
 -- ---- a list by its head
 pub head_at : (items xs : List Datum) (x : Datum) → xs ≡ items → 0 < length items → x ≡ get_or xs 0 x → list_of (map object_of items) ≡ pair (object_of x) (arguments_of (map object_of xs))
 head_at items [] x same some is = absurd (let none : length items ≡ 0 = ap length (sym same) in omega arith)
@@ -78,32 +88,32 @@ head_refused names s t items xs x (Refused code) same some is head =
 head_refused names s t items xs x OutOfMemory same some is head = tt
 
 -- ---- operators
-pub quote_left : (operation : Operation) → is_ordinary operation ≡ false → (operation ≡ If → ⊥) → (operation ≡ InPackage → ⊥) → operation ≡ Quote
-quote_left Quote e f g = refl
-quote_left Progn e f g = absurd (false≢true (sym e))
-quote_left If e f g = absurd (f refl)
-quote_left MakeList e f g = absurd (false≢true (sym e))
-quote_left Get e f g = absurd (false≢true (sym e))
-quote_left Setf e f g = absurd (false≢true (sym e))
-quote_left Remprop e f g = absurd (false≢true (sym e))
-quote_left SymbolPlist e f g = absurd (false≢true (sym e))
-quote_left Incf e f g = absurd (false≢true (sym e))
-quote_left Push e f g = absurd (false≢true (sym e))
-quote_left MakePackage e f g = absurd (false≢true (sym e))
-quote_left InPackage e f g = absurd (g refl)
-quote_left Export e f g = absurd (false≢true (sym e))
-quote_left Import e f g = absurd (false≢true (sym e))
-quote_left UsePackage e f g = absurd (false≢true (sym e))
-quote_left Intern e f g = absurd (false≢true (sym e))
-quote_left CopyReadtable e f g = absurd (false≢true (sym e))
-quote_left InReadtable e f g = absurd (false≢true (sym e))
-quote_left SetSyntaxFromChar e f g = absurd (false≢true (sym e))
-quote_left SetMacroCharacter e f g = absurd (false≢true (sym e))
-quote_left GetMacroCharacter e f g = absurd (false≢true (sym e))
-quote_left MakeDispatchMacroCharacter e f g = absurd (false≢true (sym e))
-quote_left SetDispatchMacroCharacter e f g = absurd (false≢true (sym e))
-quote_left GetDispatchMacroCharacter e f g = absurd (false≢true (sym e))
-quote_left ReadtableCase e f g = absurd (false≢true (sym e))
+pub quote_left : (operation : Operation) → is_ordinary operation ≡ false → (operation ≡ If → ⊥) → (operation ≡ Progn → ⊥) → (operation ≡ InPackage → ⊥) → operation ≡ Quote
+quote_left Quote e f p g = refl
+quote_left Progn e f p g = absurd (p refl)
+quote_left If e f p g = absurd (f refl)
+quote_left MakeList e f p g = absurd (false≢true (sym e))
+quote_left Get e f p g = absurd (false≢true (sym e))
+quote_left Setf e f p g = absurd (false≢true (sym e))
+quote_left Remprop e f p g = absurd (false≢true (sym e))
+quote_left SymbolPlist e f p g = absurd (false≢true (sym e))
+quote_left Incf e f p g = absurd (false≢true (sym e))
+quote_left Push e f p g = absurd (false≢true (sym e))
+quote_left MakePackage e f p g = absurd (false≢true (sym e))
+quote_left InPackage e f p g = absurd (g refl)
+quote_left Export e f p g = absurd (false≢true (sym e))
+quote_left Import e f p g = absurd (false≢true (sym e))
+quote_left UsePackage e f p g = absurd (false≢true (sym e))
+quote_left Intern e f p g = absurd (false≢true (sym e))
+quote_left CopyReadtable e f p g = absurd (false≢true (sym e))
+quote_left InReadtable e f p g = absurd (false≢true (sym e))
+quote_left SetSyntaxFromChar e f p g = absurd (false≢true (sym e))
+quote_left SetMacroCharacter e f p g = absurd (false≢true (sym e))
+quote_left GetMacroCharacter e f p g = absurd (false≢true (sym e))
+quote_left MakeDispatchMacroCharacter e f p g = absurd (false≢true (sym e))
+quote_left SetDispatchMacroCharacter e f p g = absurd (false≢true (sym e))
+quote_left GetDispatchMacroCharacter e f p g = absurd (false≢true (sym e))
+quote_left ReadtableCase e f p g = absurd (false≢true (sym e))
 
 any_place : (names : List Name) (s : WorldState) (arguments : Object) → action_value s (action_of names Setf) arguments (parts names s arguments)
     ≡ unless (refusal_of_place Setf arguments) (and_then (gathered names s Setf arguments) (function_of names Setf (place_of Setf arguments)))
@@ -119,7 +129,7 @@ any_place names s arguments =
 pub ordinary_is : (names : List Name) (operation : Operation) (s : WorldState) (arguments : Object) → is_ordinary operation ≡ true → action_value s (action_of names operation) arguments (parts names s arguments)
     ≡ unless (refusal_of_place operation arguments) (and_then (gathered names s operation arguments) (function_of names operation (place_of operation arguments)))
 ordinary_is names Quote s arguments e = absurd (false≢true e)
-ordinary_is names Progn s arguments e = refl
+ordinary_is names Progn s arguments e = absurd (false≢true e)
 ordinary_is names If s arguments e = absurd (false≢true e)
 ordinary_is names MakeList s arguments e = refl
 ordinary_is names Get s arguments e = refl

@@ -1,10 +1,11 @@
 //! What an operator makes of the values of its arguments, where less is asked of its value than the value itself: neither a
 //! property, nor the value of SETF, nor a list to which PUSH adds is copied.
-ghost use Rattle.std.specs.Prelude.{◌≡◌, IfOk};
-ghost use Rattle.lisp_object.specs.Object.{Object};
+ghost use Rattle.std.specs.Prelude.{◌≡◌, IfOk, pos, if◌then◌else◌};
+ghost use Rattle.lisp_object.specs.Object.{Object, integer, nil};
+ghost use Rattle.lisp_object.specs.Datum.{object_of};
 ghost use Rattle.plist_state.specs.State.{WorldState};
 ghost use Rattle.lisp_operators.specs.Effects.{IsTruth, Leaves};
-ghost use Rattle.lisp_operators.specs.Evaluated.{Answers, done, IsProperValue, AreArgumentsOf, objects};
+ghost use Rattle.lisp_operators.specs.Evaluated.{Answers, done, IsProper, IsProperValue, AreArgumentsOf, objects};
 ghost use Rattle.lisp_operators.specs.Evaluation.{Evaluation};
 ghost use Rattle.lisp_operators.specs.Readtables.{AreFunctionNames};
 ghost use Rattle.evaluator.specs.Operations.{function_of};
@@ -19,7 +20,18 @@ use lisp_object::Datum;
 use lisp_operators::{Evaluated, EvaluationError, effects, values};
 use plist_state::World;
 use readtable_core::FnName;
-use std::alloc::Global;
+use std::alloc::{AllocError, Global};
+
+// What stands for a value that is true, and for one that is not.
+fn truth_value(alloc: Global, is_true: bool) -> Result<Datum, AllocError>
+    ensures object { IfOk result (λ d. object_of d ≡ (if is_true then integer (pos 1) else nil)) }
+    ensures proper { IfOk result IsProper }
+{
+    if is_true {
+        return Ok(Datum::Integer(1));
+    }
+    values::empty_list(alloc)
+}
 
 // What stands for a value of which it is known whether it is true.
 fn shown(
@@ -31,12 +43,8 @@ fn shown(
     ensures proper { IfOk result IsProperValue }
 {
     match is_true {
-        Ok(true) => Ok(Evaluated {
-            value: Datum::Integer(1),
-            wrote: false,
-        }),
-        Ok(false) => Ok(Evaluated {
-            value: values::empty_list(alloc)?,
+        Ok(is_true) => Ok(Evaluated {
+            value: truth_value(alloc, is_true)?,
             wrote: false,
         }),
         Err(error) => Err(error),
