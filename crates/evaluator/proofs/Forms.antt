@@ -34,7 +34,12 @@ use Rattle.evaluator.specs.Operations.{action_of, is_ordinary, set_at, function_
 use Rattle.lisp_operators.specs.Evaluated.{Answers, done}
 use Rattle.evaluator.specs.Gathered.{all_done}
 use Rattle.evaluator.specs.Gathered.{arguments_of, parts, followed, subforms, gathered, refusal_of_place, list_place, place_of, IsHead, IsRefusal}
+use Rattle.evaluator.specs.Gathered.{operation_value}
+use Rattle.evaluator.specs.declared.place.Place.{Place}
+use Rattle.evaluator.specs.declared.wanted.Wanted.{Wanted}
+use Rattle.evaluator.specs.Wanted.{seen}
 use Rattle.evaluator.proofs.Places.{count_pairs}
+use Rattle.evaluator.proofs.Seen.{seen_also}
 use Rattle.evaluator.proofs.Steps.{value_symbol, value_constant, value_uninterned, is_constant, followed_start}
 
 -- ---- atoms
@@ -51,16 +56,6 @@ constant_form names s d r is each =
 
 pub uninterned_form : (names : List Name) (s : WorldState) (d : Datum) (name : Name) → d ≡ Datum.Uninterned name → value names s (object_of d) ≡ Err NOT_A_FORM
 uninterned_form names s d name is = ap (λ z. value names s (object_of z)) is ∙ ap (value names s) (object_of-Uninterned name) ∙ value_uninterned names s name
-
-pub no_list : (d : Datum) → ((items : List Datum) (tail : Option Datum) → d ≡ Datum.List items tail → ⊥) → is_list d ≡ false
-no_list (Datum.Integer n) no = refl
-no_list (Datum.Rational ratio) no = refl
-no_list (Datum.Char c) no = refl
-no_list (Datum.Text characters) no = refl
-no_list (Datum.Symbol home name) no = refl
-no_list (Datum.Uninterned name) no = refl
-no_list (Datum.List items tail) no = absurd (no items tail refl)
-no_list (Datum.Vector items) no = refl
 
 -- ---- a list by its head
 pub head_at : (items xs : List Datum) (x : Datum) → xs ≡ items → 0 < length items → x ≡ get_or xs 0 x → list_of (map object_of items) ≡ pair (object_of x) (arguments_of (map object_of xs))
@@ -163,10 +158,18 @@ pub gathered_refused : (e : EvaluationError) (t u : WorldState) (refusal : Optio
 gathered_refused (Refused code) t u refusal o next none h = ap (λ r. unless r (and_then o next)) none ∙ ap (λ x. and_then x next) h
 gathered_refused OutOfMemory t u refusal o next none h = tt
 
-pub performed : (r : Result Evaluated EvaluationError) (t u : WorldState) (v : Values) (refusal : Option ℕ) (o : Evaluation (List Object)) (next : List Object → WorldState → Evaluation Object) → refusal ≡ None → o ≡ Ok (all_done v t)
-    → Answers done r u (also v.wrote (next (map object_of v.values.items) t)) → Answers done r u (unless refusal (and_then o next))
-performed r t u v refusal o next none is h =
-    subst (Answers done r u) (sym (ap (λ k. unless k (and_then o next)) none ∙ ap (λ x. and_then x next) is)) h
+pub performed : (wanted : Wanted) (names : List Name) (operation : Operation) (place : Place) (s t u : WorldState) (arguments : Object) (v : Values) (r : Result Evaluated EvaluationError) → is_ordinary operation ≡ true
+    → refusal_of_place operation arguments ≡ None → place ≡ place_of operation arguments → gathered names s operation arguments ≡ Ok (all_done v t)
+    → Answers done r u (also v.wrote (seen wanted (function_of names operation place (map object_of v.values.items) t))) → Answers done r u (seen wanted (operation_value names operation arguments s))
+performed wanted names operation place s t u arguments v r ordinary none at is h =
+    let xs = map object_of v.values.items in
+    let values = gathered names s operation arguments in
+    subst (Answers done r u)
+    (sym (ap (seen wanted) (ordinary_is names operation s arguments ordinary
+    ∙ ap (λ k. unless k (and_then values (function_of names operation (place_of operation arguments)))) none
+    ∙ ap (λ o. and_then o (function_of names operation (place_of operation arguments))) is
+    ∙ ap (λ p. also v.wrote (function_of names operation p xs t)) (sym at))
+    ∙ seen_also wanted v.wrote (function_of names operation place xs t))) h
 
 -- ---- what operators take
 pub arguments_from : (xs : List Datum) → arguments_of (map object_of xs) ≡ list_of (map object_of (drop 1 xs))

@@ -3,7 +3,7 @@
 --     count_pairs      the number of the elements of a list
 --     proper_pair, some_items, first_proper      a list that ends in NIL, and its items
 --     dotted_place      a list that ends in another object is no place
-use Rattle.std.proofs.Common.{◌≡◌, ℕ, true, false, ◌&&◌, cond, List, [], ◌∷◌, ◌++◌, is_some, get_or, subst, codes, suc, Option, Some, None, bytes_eq, map, length, refl, sym, ap, ◌∙◌, ◌<◌, ◌-◌, arith}
+use Rattle.std.proofs.Common.{◌≡◌, ℕ, true, false, ◌&&◌, cond, List, [], ◌∷◌, is_some, get_or, subst, codes, suc, Option, Some, None, bytes_eq, map, length, refl, sym, ap, ◌∙◌, ◌<◌, ◌-◌, arith}
 use Rattle.std.specs.Option.{option_map_or}
 use Rattle.lisp_object.specs.declared.datum.Datum
 use Rattle.lisp_object.specs.declared.datum.Datum.{Datum}

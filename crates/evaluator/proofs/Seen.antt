@@ -5,7 +5,7 @@
 --     stand_in_value      what stands for a value may be stored
 --     truth_shown, truth_refused, truth_left, truth_stops      what tells whether a value is true
 --     left_seen, left_refused, leaves_so, stops_so      what tells whether anything was written
-use Rattle.std.proofs.Common.{◌≡◌, ℕ, Bool, true, false, cond, pos, ◌||◌, Result, Ok, Err, refl, sym, ap, ◌∙◌, arith}
+use Rattle.std.proofs.Common.{◌≡◌, Bool, true, false, cond, pos, Result, Ok, Err, refl, sym, ap, ◌∙◌, arith}
 use Rattle.std.proofs.lemmas.Bool.{false≢true}
 use Rattle.lisp_object.specs.Object.{Object, integer, rational, character, text, symbol, uninterned, pair, vector, nil, is_nil}
 use Rattle.lisp_object.proofs.ProperLists.{nil_symbol}
@@ -91,11 +91,11 @@ pub truth_stops : (e : EvaluationError) (s : WorldState) (o : Evaluation Object)
 truth_stops (Refused code) s o is = is
 truth_stops OutOfMemory s o is = tt
 
-pub left_seen : (o : Evaluation Object) (s : WorldState) (w : Bool) → Leaves (Ok w) s o → seen Nothing o ≡ Ok (record { value = integer (pos 1); state = s; wrote = w })
-left_seen (Err code) s w is = absurd (cc)
-left_seen (Ok d) s w is = ap (λ (p : WorldState × Bool). Ok (record { value = integer (pos 1); state = p.0; wrote = p.1 })) same
+pub left_seen : (o : Evaluation Object) (s : WorldState) (w : Bool) (x : Object) → x ≡ integer (pos 1) → Leaves (Ok w) s o → seen Nothing o ≡ Ok (record { value = x; state = s; wrote = w })
+left_seen (Err code) s w x one is = absurd (cc)
+left_seen (Ok d) s w x one is = ap (λ (p : WorldState × Bool). Ok (record { value = integer (pos 1); state = p.0; wrote = p.1 })) same ∙ ap (λ v. Ok (record { value = v; state = s; wrote = w })) (sym one)
   where
-    same : (d.state, d.wrote) ≡ (s, w)
+    same : ◌≡◌ {A = WorldState × Bool} (d.state, d.wrote) (s, w)
     same = cc
 
 pub left_refused : (e : EvaluationError) (s : WorldState) (o : Evaluation Object) → Leaves (Err e) s o → Answers done (Err e) s (seen Nothing o)

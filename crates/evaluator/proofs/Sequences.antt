@@ -2,7 +2,7 @@
 --     sequence_step, sequence_stops      a form that is not the last
 --     sequence_last, no_forms      the last one; no form
 --     also_also, also_refused      what was written before
-use Rattle.std.proofs.Common.{◌≡◌, ◌<◌, ◌+◌, ℕ, Bool, true, false, ◌||◌, zero, suc, List, [], ◌∷◌, Ok, Err, map, length, drop, get_or, refl, sym, ap, subst, ◌∙◌, arith}
+use Rattle.std.proofs.Common.{◌≡◌, ◌<◌, ◌+◌, ℕ, Bool, true, false, ◌||◌, zero, suc, List, [], ◌∷◌, Ok, Err, map, length, drop, get_or, refl, sym, ap, ◌∙◌, arith}
 use Rattle.std.proofs.Math.Seq.{drop-length}
 use Rattle.lisp_object.specs.Object.{Object, pair, nil, list_of}
 use Rattle.lisp_object.specs.Datum.{object_of}
@@ -12,7 +12,7 @@ use Rattle.plist_state.specs.State.{WorldState}
 use Rattle.lisp_operators.specs.declared.error.EvaluationError.{EvaluationError}
 use Rattle.lisp_operators.specs.declared.error.EvaluationError.TheVariants.{Refused, OutOfMemory}
 use Rattle.lisp_operators.specs.Evaluated.{Answers, done}
-use Rattle.lisp_operators.specs.Evaluation.{Done, Evaluation, gives, also, and_then}
+use Rattle.lisp_operators.specs.Evaluation.{Evaluation, gives, also, and_then}
 use Rattle.evaluator.specs.Value.{last, value, values, value_by}
 use Rattle.evaluator.specs.Gathered.{arguments_of, sequence_value}
 use Rattle.evaluator.proofs.Steps.{forms_from, value_first}

@@ -1,7 +1,7 @@
 //! The operators of control (standard 5.3), and the values of atoms.
-ghost use Rattle.std.specs.Prelude.{ℕ, ◌≡◌, ◌≤◌, ◌||◌, ◌&&◌, List, Some, true, false, bytes_eq, length, IfOk};
+ghost use Rattle.std.specs.Prelude.{ℕ, ◌≡◌, ◌≤◌, ◌||◌, ◌&&◌, List, Option, Some, true, bytes_eq, length, IfOk};
 ghost use Rattle.lisp_object.specs.Object.{Object, nil};
-ghost use Rattle.lisp_object.specs.Datum.{object_of, is_list};
+ghost use Rattle.lisp_object.specs.Datum.{object_of};
 ghost use Rattle.package_table.specs.Table.{Name, common_lisp};
 ghost use Rattle.plist_state.specs.State.{WorldState};
 ghost use Rattle.lisp_operators.specs.Kinds.{a_symbol};
@@ -122,7 +122,7 @@ pub(crate) fn symbol_value(
 /// The value of an object that is no list.
 pub(crate) fn atom(alloc: Global, world: &World, form: &Datum) -> Result<Evaluated, EvaluationError>
     requires proper { IsProper form.now }
-    requires atom { is_list form.now ≡ false }
+    requires atom { (items : List Datum) (tail : Option Datum) → form.now ≡ Datum.List items tail → ⊥ }
     ensures gives { (names : List Name)
         → Evaluates names (object_of form.now) world.now.0 world.now.0 result }
     ensures proper { IfOk result IsProperValue }

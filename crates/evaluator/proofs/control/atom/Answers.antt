@@ -1,13 +1,12 @@
-use Rattle.std.proofs.Common.{ap, sym, ◌∙◌}
-use Rattle.std.proofs.lemmas.Bool.{false≢true}
-use Rattle.lisp_object.specs.Datum.{object_of, is_list}
+use Rattle.std.proofs.Common.{ap, ◌∙◌}
+use Rattle.lisp_object.specs.Datum.{object_of}
 use Rattle.lisp_object.proofs.Objects.{object_of-Integer, object_of-Rational, object_of-Char, object_of-Text, object_of-Vector}
 use Rattle.evaluator.proofs.Steps.{is_constant}
 use Rattle.evaluator.proofs.Forms.{symbol_form, constant_form, uninterned_form}
 use Rattle.evaluator.proofs.control.atom.Goals as goal
 
 pub unreachable-requires : goal.unreachable-requires
-unreachable-requires c = absurd (false≢true (sym c.requires.atom ∙ ap is_list c.in-List.is))
+unreachable-requires c = c.requires.atom c.in-List.items c.in-List.tail c.in-List.is
 
 pub returns-in-Symbol-clause-gives : goal.returns-in-Symbol-clause-gives
 returns-in-Symbol-clause-gives c = λ names.

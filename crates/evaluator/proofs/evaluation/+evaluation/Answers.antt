@@ -1,5 +1,5 @@
 -- What each call answers.
-use Rattle.std.proofs.Common.{◌≡◌, ◌≤◌, ◌+◌, [], ◌∷◌, ◌||◌, true, All, drop, map, length, refl, sym, ap, subst, ◌∙◌, arith}
+use Rattle.std.proofs.Common.{◌≡◌, ◌≤◌, ◌+◌, ◌-◌, [], ◌∷◌, ◌||◌, true, All, drop, map, length, refl, sym, ap, subst, ◌∙◌, arith}
 use Rattle.lisp_object.specs.Object.{Object, nil, list_of}
 use Rattle.plist_state.specs.Sound.{IsValue}
 use Rattle.lisp_operators.specs.Evaluation.{Done, gives, also}
@@ -20,7 +20,7 @@ use Rattle.evaluator.specs.Operations.{least}
 use Rattle.lisp_operators.specs.Evaluated.{IsArgument, Answers, done}
 use Rattle.evaluator.proofs.Steps.{value_dotted, items_arguments, good_value, followed_step, followed_stops, followed_at_end, argument_grown, all_more}
 use Rattle.evaluator.proofs.Places.{some_items}
-use Rattle.evaluator.proofs.Forms.{no_list, head_form, head_refused, quote_left, place_first, place_given, push_no_place, push_refused, push_given, same_item, subforms_given}
+use Rattle.evaluator.proofs.Forms.{head_form, head_refused, quote_left, place_first, place_given, push_no_place, push_refused, push_given, same_item, subforms_given, performed}
 use Rattle.evaluator.proofs.Branches.{choice_refused, choice_true, choice_none, choice_other}
 use Rattle.evaluator.proofs.evaluation.+evaluation.Goals as goal
 
@@ -38,9 +38,9 @@ act-returns-in_default t c =
     let arguments = arguments_of (map object_of c.args.items.now) in
     let s = c.args.world.now.0 in
     record {
-      gives = c.seen.ensures.gives s (operation_value c.args.names.now c.args.task.operation arguments s)
+      gives = c.seen-in_default.ensures.gives s (operation_value c.args.names.now c.args.task.operation arguments s)
           (subst (λ o. Answers done c.quoted.result s (operation_value c.args.names.now o arguments s)) (sym quote) (c.quoted.ensures.gives s));
-      proper = c.seen.ensures.proper;
+      proper = c.seen-in_default.ensures.proper;
       marked = refl;
     }
 
@@ -49,7 +49,7 @@ any_form-returns-then-is_some-clause-gives t c =
     ap (seen c.args.wanted) (value_dotted c.args.names.now c.args.world.now.0 c.args.form.now c.in-List.items c.in-List.tail c.in-List.is c.requires.form.proper (sym c.is_some.ensures ∙ c.if-is_some.true))
 
 pub any_form-atom-requires-clause-atom : goal.any_form-atom-requires-clause-atom
-any_form-atom-requires-clause-atom t c = no_list c.args.form.now c.in_default.not-List
+any_form-atom-requires-clause-atom t c = c.in_default.not-List
 
 pub any_form-returns-in_default-clause-gives : goal.any_form-returns-in_default-clause-gives
 any_form-returns-in_default-clause-gives t c =
@@ -102,15 +102,15 @@ chosen-returns-then-is_true-clause-gives t c =
 pub chosen-returns-then-items-eq3-clause-gives : goal.chosen-returns-then-items-eq3-clause-gives
 chosen-returns-then-items-eq3-clause-gives t c =
     let s = c.evaluate_for.new.world.0 in
-    choice_none c.args.wanted c.args.names.now c.args.world.now.0 s s c.args.items.now c.index-items-1.result c.in-Ok.test c.after-2.result
+    choice_none c.args.wanted c.args.names.now c.args.world.now.0 s s c.args.items.now c.index-items-1.result c.in-Ok.test c.after-then-items-eq3.result
     c.requires.counted c.if-items-eq3.true c.index-items-1.is c.in-Ok.ensures.gives (sym c.is_true.ensures ∙ c.if-is_true.false)
-    (c.after-2.ensures.gives s (seen c.args.wanted (gives nil s)) (c.seen.ensures.gives s (gives nil s) (c.nothing.ensures.gives s)))
+    (c.after-then-items-eq3.ensures.gives s (seen c.args.wanted (gives nil s)) (c.seen.ensures.gives s (gives nil s) (c.nothing.ensures.gives s)))
 
 pub chosen-returns-clause-gives : goal.chosen-returns-clause-gives
 chosen-returns-clause-gives t c =
-    choice_other c.args.wanted c.args.names.now c.args.world.now.0 c.evaluate_for.new.world.0 c.evaluate_for-2.new.world.0 c.args.items.now c.index-items-1.result c.index-items-3.result c.in-Ok.test c.after-3.result
+    choice_other c.args.wanted c.args.names.now c.args.world.now.0 c.evaluate_for.new.world.0 c.evaluate_for-2.new.world.0 c.args.items.now c.index-items-1.result c.index-items-3.result c.in-Ok.test c.after-2.result
     c.requires.counted c.if-items-eq3.false c.index-items-1.is c.index-items-3.is c.in-Ok.ensures.gives (sym c.is_true.ensures ∙ c.if-is_true.false)
-    (c.after-3.ensures.gives c.evaluate_for-2.new.world.0 (seen c.args.wanted (value c.args.names.now c.evaluate_for.new.world.0 (object_of c.index-items-3.result))) c.evaluate_for-2.ensures.gives)
+    (c.after-2.ensures.gives c.evaluate_for-2.new.world.0 (seen c.args.wanted (value c.args.names.now c.evaluate_for.new.world.0 (object_of c.index-items-3.result))) c.evaluate_for-2.ensures.gives)
 
 pub evaluate_for-returns-in-Ok-clause-value : goal.evaluate_for-returns-in-Ok-clause-value
 evaluate_for-returns-in-Ok-clause-value t c =
@@ -210,15 +210,26 @@ sequence-loop-i-preserved t c =
       same = c.loop-i.invariant.same
           ∙ ap (also c.loop-i.wrote) (sequence_step c.args.names.now c.loop-i.world.0 c.evaluate_for.new.world.0 c.args.items.now c.loop-i.i c.index-items-i.result so.0 c.in-Ok.evaluated.wrote (omega (arith, c.loop-i-test.true)) c.index-items-i.is so.1)
           ∙ also_also c.loop-i.wrote c.in-Ok.evaluated.wrote next
-          ∙ ap (λ w. also w next) (sym c.either.ensures);
+          ∙ ap (λ w. also w next) (sym c.either-wrote.ensures);
       forms = λ k d h. c.in-Ok.ensures.kept _ (c.loop-i.invariant.forms k d h);
       marked = c.in-Ok.ensures.marked ∙ c.loop-i.invariant.marked;
     }
 
 pub sequence-returns-clause-gives : goal.sequence-returns-clause-gives
 sequence-returns-clause-gives t c =
-    let last = value c.args.names.now c.loop-i.world.0 (object_of c.index-items-last.result) in
+    let names = c.args.names.now in
+    let s = c.loop-i.world.0 in
+    let items = c.args.items.now in
+    let last = value names s (object_of c.index-items-last.result) in
+    let end : c.loop-i.i ≡ length items - 1 = omega arith in
     subst (Answers done c.after.result c.evaluate_for-2.new.world.0)
-    (sym (ap (seen c.args.wanted) (c.loop-i.invariant.same ∙ ap (also c.loop-i.wrote) (sequence_last c.args.names.now c.loop-i.world.0 c.args.items.now c.loop-i.i c.index-items-last.result (omega arith) c.index-items-last.is))
+    (sym (ap (seen c.args.wanted) (c.loop-i.invariant.same
+    ∙ ap (λ n. also c.loop-i.wrote (sequence_value names s (list_of (map object_of (drop n items))))) end
+    ∙ ap (also c.loop-i.wrote) (sequence_last names s items (length items - 1) c.index-items-last.result (omega (arith, c.requires.counted)) c.index-items-last.is))
     ∙ seen_also c.args.wanted c.loop-i.wrote last))
     (c.after.ensures.gives c.evaluate_for-2.new.world.0 (seen c.args.wanted last) c.evaluate_for-2.ensures.gives)
+
+pub ordinary-returns-in-Ok-gathered-clause-gives : goal.ordinary-returns-in-Ok-gathered-clause-gives
+ordinary-returns-in-Ok-gathered-clause-gives t c =
+    performed c.args.task.wanted c.args.names.now c.args.task.operation c.in-Ok.place c.args.world.now.0 c.gathered.new.world.0 c.perform.new.world.0 (arguments_of (map object_of c.args.items.now)) c.in-Ok-gathered.values c.perform.result
+    c.requires.ordinary c.in-Ok.ensures.refusal c.in-Ok.ensures.value c.in-Ok-gathered.ensures.gives c.perform.ensures.gives
