@@ -34,7 +34,12 @@ use Rattle.evaluator.specs.Operations.{action_of, is_ordinary, set_at, function_
 use Rattle.lisp_operators.specs.Evaluated.{Answers, done}
 use Rattle.evaluator.specs.Gathered.{all_done}
 use Rattle.evaluator.specs.Gathered.{arguments_of, parts, followed, subforms, gathered, refusal_of_place, list_place, place_of, IsHead, IsRefusal}
+use Rattle.evaluator.specs.Gathered.{operation_value}
+use Rattle.evaluator.specs.declared.place.Place.{Place}
+use Rattle.evaluator.specs.declared.wanted.Wanted.{Wanted}
+use Rattle.evaluator.specs.Wanted.{seen}
 use Rattle.evaluator.proofs.Places.{count_pairs}
+use Rattle.evaluator.proofs.Seen.{seen_also}
 use Rattle.evaluator.proofs.Steps.{value_symbol, value_constant, value_uninterned, is_constant, followed_start}
 
 -- ---- atoms
@@ -78,32 +83,32 @@ head_refused names s t items xs x (Refused code) same some is head =
 head_refused names s t items xs x OutOfMemory same some is head = tt
 
 -- ---- operators
-pub quote_left : (operation : Operation) → is_ordinary operation ≡ false → (operation ≡ If → ⊥) → (operation ≡ InPackage → ⊥) → operation ≡ Quote
-quote_left Quote e f g = refl
-quote_left Progn e f g = absurd (false≢true (sym e))
-quote_left If e f g = absurd (f refl)
-quote_left MakeList e f g = absurd (false≢true (sym e))
-quote_left Get e f g = absurd (false≢true (sym e))
-quote_left Setf e f g = absurd (false≢true (sym e))
-quote_left Remprop e f g = absurd (false≢true (sym e))
-quote_left SymbolPlist e f g = absurd (false≢true (sym e))
-quote_left Incf e f g = absurd (false≢true (sym e))
-quote_left Push e f g = absurd (false≢true (sym e))
-quote_left MakePackage e f g = absurd (false≢true (sym e))
-quote_left InPackage e f g = absurd (g refl)
-quote_left Export e f g = absurd (false≢true (sym e))
-quote_left Import e f g = absurd (false≢true (sym e))
-quote_left UsePackage e f g = absurd (false≢true (sym e))
-quote_left Intern e f g = absurd (false≢true (sym e))
-quote_left CopyReadtable e f g = absurd (false≢true (sym e))
-quote_left InReadtable e f g = absurd (false≢true (sym e))
-quote_left SetSyntaxFromChar e f g = absurd (false≢true (sym e))
-quote_left SetMacroCharacter e f g = absurd (false≢true (sym e))
-quote_left GetMacroCharacter e f g = absurd (false≢true (sym e))
-quote_left MakeDispatchMacroCharacter e f g = absurd (false≢true (sym e))
-quote_left SetDispatchMacroCharacter e f g = absurd (false≢true (sym e))
-quote_left GetDispatchMacroCharacter e f g = absurd (false≢true (sym e))
-quote_left ReadtableCase e f g = absurd (false≢true (sym e))
+pub quote_left : (operation : Operation) → is_ordinary operation ≡ false → (operation ≡ If → ⊥) → (operation ≡ Progn → ⊥) → (operation ≡ InPackage → ⊥) → operation ≡ Quote
+quote_left Quote e f p g = refl
+quote_left Progn e f p g = absurd (p refl)
+quote_left If e f p g = absurd (f refl)
+quote_left MakeList e f p g = absurd (false≢true (sym e))
+quote_left Get e f p g = absurd (false≢true (sym e))
+quote_left Setf e f p g = absurd (false≢true (sym e))
+quote_left Remprop e f p g = absurd (false≢true (sym e))
+quote_left SymbolPlist e f p g = absurd (false≢true (sym e))
+quote_left Incf e f p g = absurd (false≢true (sym e))
+quote_left Push e f p g = absurd (false≢true (sym e))
+quote_left MakePackage e f p g = absurd (false≢true (sym e))
+quote_left InPackage e f p g = absurd (g refl)
+quote_left Export e f p g = absurd (false≢true (sym e))
+quote_left Import e f p g = absurd (false≢true (sym e))
+quote_left UsePackage e f p g = absurd (false≢true (sym e))
+quote_left Intern e f p g = absurd (false≢true (sym e))
+quote_left CopyReadtable e f p g = absurd (false≢true (sym e))
+quote_left InReadtable e f p g = absurd (false≢true (sym e))
+quote_left SetSyntaxFromChar e f p g = absurd (false≢true (sym e))
+quote_left SetMacroCharacter e f p g = absurd (false≢true (sym e))
+quote_left GetMacroCharacter e f p g = absurd (false≢true (sym e))
+quote_left MakeDispatchMacroCharacter e f p g = absurd (false≢true (sym e))
+quote_left SetDispatchMacroCharacter e f p g = absurd (false≢true (sym e))
+quote_left GetDispatchMacroCharacter e f p g = absurd (false≢true (sym e))
+quote_left ReadtableCase e f p g = absurd (false≢true (sym e))
 
 any_place : (names : List Name) (s : WorldState) (arguments : Object) → action_value s (action_of names Setf) arguments (parts names s arguments)
     ≡ unless (refusal_of_place Setf arguments) (and_then (gathered names s Setf arguments) (function_of names Setf (place_of Setf arguments)))
@@ -119,7 +124,7 @@ any_place names s arguments =
 pub ordinary_is : (names : List Name) (operation : Operation) (s : WorldState) (arguments : Object) → is_ordinary operation ≡ true → action_value s (action_of names operation) arguments (parts names s arguments)
     ≡ unless (refusal_of_place operation arguments) (and_then (gathered names s operation arguments) (function_of names operation (place_of operation arguments)))
 ordinary_is names Quote s arguments e = absurd (false≢true e)
-ordinary_is names Progn s arguments e = refl
+ordinary_is names Progn s arguments e = absurd (false≢true e)
 ordinary_is names If s arguments e = absurd (false≢true e)
 ordinary_is names MakeList s arguments e = refl
 ordinary_is names Get s arguments e = refl
@@ -153,10 +158,18 @@ pub gathered_refused : (e : EvaluationError) (t u : WorldState) (refusal : Optio
 gathered_refused (Refused code) t u refusal o next none h = ap (λ r. unless r (and_then o next)) none ∙ ap (λ x. and_then x next) h
 gathered_refused OutOfMemory t u refusal o next none h = tt
 
-pub performed : (r : Result Evaluated EvaluationError) (t u : WorldState) (v : Values) (refusal : Option ℕ) (o : Evaluation (List Object)) (next : List Object → WorldState → Evaluation Object) → refusal ≡ None → o ≡ Ok (all_done v t)
-    → Answers done r u (also v.wrote (next (map object_of v.values.items) t)) → Answers done r u (unless refusal (and_then o next))
-performed r t u v refusal o next none is h =
-    subst (Answers done r u) (sym (ap (λ k. unless k (and_then o next)) none ∙ ap (λ x. and_then x next) is)) h
+pub performed : (wanted : Wanted) (names : List Name) (operation : Operation) (place : Place) (s t u : WorldState) (arguments : Object) (v : Values) (r : Result Evaluated EvaluationError) → is_ordinary operation ≡ true
+    → refusal_of_place operation arguments ≡ None → place ≡ place_of operation arguments → gathered names s operation arguments ≡ Ok (all_done v t)
+    → Answers done r u (also v.wrote (seen wanted (function_of names operation place (map object_of v.values.items) t))) → Answers done r u (seen wanted (operation_value names operation arguments s))
+performed wanted names operation place s t u arguments v r ordinary none at is h =
+    let xs = map object_of v.values.items in
+    let values = gathered names s operation arguments in
+    subst (Answers done r u)
+    (sym (ap (seen wanted) (ordinary_is names operation s arguments ordinary
+    ∙ ap (λ k. unless k (and_then values (function_of names operation (place_of operation arguments)))) none
+    ∙ ap (λ o. and_then o (function_of names operation (place_of operation arguments))) is
+    ∙ ap (λ p. also v.wrote (function_of names operation p xs t)) (sym at))
+    ∙ seen_also wanted v.wrote (function_of names operation place xs t))) h
 
 -- ---- what operators take
 pub arguments_from : (xs : List Datum) → arguments_of (map object_of xs) ≡ list_of (map object_of (drop 1 xs))

@@ -2,7 +2,9 @@ pub mod Places
 pub mod Heads
 pub mod Steps
 pub mod Forms
+pub mod Seen
 pub mod Branches
+pub mod Sequences
 pub mod RowForms
 pub mod Rows
 pub mod WorldRows
@@ -12,4 +14,3 @@ pub mod SoundForms
 pub mod NumberedForms
 pub mod KeepingForms
 pub mod WithoutBase
-pub mod Effects

@@ -3,8 +3,7 @@
 --     count_pairs      the number of the elements of a list
 --     proper_pair, some_items, first_proper      a list that ends in NIL, and its items
 --     dotted_place      a list that ends in another object is no place
---     last_of      the last of the values of a sequence
-use Rattle.std.proofs.Common.{◌≡◌, ℕ, true, false, ◌&&◌, cond, List, [], ◌∷◌, ◌++◌, is_some, get_or, subst, codes, suc, Option, Some, None, bytes_eq, map, length, refl, sym, ap, ◌∙◌, ◌<◌, ◌-◌, arith}
+use Rattle.std.proofs.Common.{◌≡◌, ℕ, true, false, ◌&&◌, cond, List, [], ◌∷◌, is_some, get_or, subst, codes, suc, Option, Some, None, bytes_eq, map, length, refl, sym, ap, ◌∙◌, ◌<◌, ◌-◌, arith}
 use Rattle.std.specs.Option.{option_map_or}
 use Rattle.lisp_object.specs.declared.datum.Datum
 use Rattle.lisp_object.specs.declared.datum.Datum.{Datum}
@@ -16,7 +15,7 @@ use Rattle.std.proofs.lemmas.Bool.{false≢true, and_parts}
 use Rattle.std.proofs.Math.Bool.{and-false}
 use Rattle.std.proofs.lemmas.List.{length-map}
 use Rattle.lisp_object.specs.declared.refusal.TheConstants.{ARGUMENT_KIND}
-use Rattle.evaluator.specs.Value.{last, get_place_refusal, case_place_refusal, list_place_refusal}
+use Rattle.evaluator.specs.Value.{get_place_refusal, case_place_refusal, list_place_refusal}
 use Rattle.lisp_object.proofs.ProperLists.{items_of_proper, proper_pairs}
 use Rattle.package_table.specs.Table.{common_lisp}
 use Rattle.lisp_operators.specs.Kinds.{a_symbol}
@@ -77,12 +76,3 @@ pub dotted_place : (d : Datum) (items : List Datum) (tail : Option Datum) → d 
 dotted_place d items tail is proper some =
     let shape = dotted_pair d items tail is proper some in
     subst (λ x. (get_place_refusal x ≡ Some ARGUMENT_KIND) × (list_place_refusal x ≡ Some ARGUMENT_KIND)) (sym shape.2) (improper_place shape.0 shape.1 shape.3)
-
--- the last of the values of a sequence
-pub last_of : (xs rest : List Datum) (x : Datum) → xs ≡ rest ++ x ∷ [] → last (map object_of xs) ≡ object_of x
-last_of xs rest x is = ap (λ l. last (map object_of l)) is ∙ at_end rest x
-  where
-    at_end : (ys : List Datum) (y : Datum) → last (map object_of (ys ++ y ∷ [])) ≡ object_of y
-    at_end [] y = refl
-    at_end (z ∷ []) y = refl
-    at_end (z ∷ w ∷ zs) y = at_end (w ∷ zs) y

@@ -134,7 +134,7 @@ forms_from forms i f within is =
     ap (λ l. list_of (map object_of l)) (drop-cons forms i f within) ∙ ap (λ d. pair (object_of d) (list_of (map object_of (drop (suc i) forms)))) (sym is)
     ∙ ap (λ n. pair (object_of f) (list_of (map object_of (drop n forms)))) (sym (add-one i))
 
-value_first : (names : List Name) (s : WorldState) (x rest : Object) (y : Object) (t : WorldState) (v : Bool) → value names s x ≡ Ok (record { value = y; state = t; wrote = v })
+pub value_first : (names : List Name) (s : WorldState) (x rest : Object) (y : Object) (t : WorldState) (v : Bool) → value names s x ≡ Ok (record { value = y; state = t; wrote = v })
     → values names s (pair x rest) ≡ also v (and_then (values names t rest) (λ ys end'. gives (y ∷ ys) end'))
 unfolding value_by
 value_first names s x rest y t v e = ap (λ o. and_then o (λ y later. and_then (values names later rest) (λ ys end'. gives (y ∷ ys) end'))) e

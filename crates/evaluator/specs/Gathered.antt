@@ -17,9 +17,12 @@ use Rattle.evaluator.specs.declared.operation.Operation.TheVariants.{Setf, Incf,
 use Rattle.evaluator.specs.declared.place.Place.{Place}
 use Rattle.evaluator.specs.declared.place.Place.TheVariants.{Property, Case, ReadBase}
 use Rattle.lisp_operators.specs.Evaluation.{Evaluation, gives, also, and_then}
+use Rattle.evaluator.specs.declared.wanted.Wanted.{Wanted}
+use Rattle.evaluator.specs.declared.wanted.Task.{Task}
+use Rattle.evaluator.specs.Wanted.{seen}
 use Rattle.evaluator.specs.Operators.{count, first}
 use Rattle.evaluator.specs.Operations.{action_of}
-use Rattle.evaluator.specs.Value.{Parts, value, values, choice, values_at_place, values_before_place, action_value, place_refusal, get_place_refusal, is_base_place, is_case_place, rest}
+use Rattle.evaluator.specs.Value.{Parts, last, value, values, choice, values_at_place, values_before_place, action_value, place_refusal, get_place_refusal, is_base_place, is_case_place, rest}
 
 -- values that leave this state
 abbrev pub all_done : Values → WorldState → Done (List Object)
@@ -47,13 +50,21 @@ parts names s arguments = record {
 abbrev pub operation_value : List Name → Operation → Object → WorldState → Evaluation Object
 operation_value names operation arguments s = action_value s (action_of names operation) arguments (parts names s arguments)
 
--- The value of a form is told, and that of a form with this operator, each from the first of two states to the second; and a
--- value that leaves every state as it is.
+-- The value of a form is told, from the first of two states to the second; and a value that leaves every state as it is.
 abbrev pub Evaluates : List Name → Object → WorldState → WorldState → Result Evaluated EvaluationError → Type 0
 Evaluates names x old new result = Answers done result new (value names old x)
 
-abbrev pub Operates : List Name → Operation → List Datum → WorldState → WorldState → Result Evaluated EvaluationError → Type 0
-Operates names operation items old new result = Answers done result new (operation_value names operation (arguments_in items) old)
+-- the same, where less is asked of the value
+abbrev pub EvaluatesFor : Wanted → List Name → Object → WorldState → WorldState → Result Evaluated EvaluationError → Type 0
+EvaluatesFor wanted names x old new result = Answers done result new (seen wanted (value names old x))
+
+abbrev pub Operates : List Name → Task → List Datum → WorldState → WorldState → Result Evaluated EvaluationError → Type 0
+Operates names task items old new result =
+    Answers done result new (seen task.wanted (operation_value names task.operation (arguments_in items) old))
+
+-- the value of forms one after the other: that of the last
+abbrev pub sequence_value : List Name → WorldState → Object → Evaluation Object
+sequence_value names s forms = and_then (values names s forms) (λ xs later. gives (last xs) later)
 
 abbrev pub HasValue : Object → Result Evaluated EvaluationError → Type 0
 HasValue x result = (s : WorldState) → Answers done result s (gives x s)

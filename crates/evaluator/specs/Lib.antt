@@ -2,3 +2,4 @@ pub mod Operators
 pub mod Value
 pub mod Operations
 pub mod Gathered
+pub mod Wanted

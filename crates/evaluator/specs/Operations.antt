@@ -8,10 +8,9 @@ use Rattle.evaluator.specs.declared.operation.Operation.{Operation}
 use Rattle.evaluator.specs.declared.operation.Operation.TheVariants.{Quote, Progn, If, MakeList, Get, Setf, Remprop, SymbolPlist, Incf, Push, MakePackage, InPackage, Export, Import, UsePackage, Intern, CopyReadtable, InReadtable, SetSyntaxFromChar, SetMacroCharacter, GetMacroCharacter, MakeDispatchMacroCharacter, SetDispatchMacroCharacter, GetDispatchMacroCharacter, ReadtableCase}
 use Rattle.evaluator.specs.declared.place.Place.{Place}
 use Rattle.evaluator.specs.declared.place.Place.TheVariants.{Property, Case, ReadBase}
-use Rattle.lisp_operators.specs.Evaluation.{Evaluation, gives}
+use Rattle.lisp_operators.specs.Evaluation.{Evaluation}
 use Rattle.lisp_operators.specs.Properties.{list, get, set, remove, symbol_plist, increment, push}
 use Rattle.lisp_operators.specs.Packages.{make, intern, export, import, use_package}
-use Rattle.evaluator.specs.Value.{last}
 use Rattle.lisp_operators.specs.Readtables.{readtable_case, set_case, copy_readtable, enter_readtable, set_syntax, set_macro, get_macro, make_dispatch, set_dispatch, get_dispatch}
 use Rattle.lisp_operators.specs.ReadBase.{set_base}
 use Rattle.evaluator.specs.Operators.{Operator, Action, quotes, sequence, chooses, assigns, increments, pushes, enters_package, calls}
@@ -108,6 +107,7 @@ IsCounted operation n = (least operation + 1 ≤ n) × IfSome (most operation) (
 -- whether it gives a function of the values of its arguments
 abbrev pub is_ordinary : Operation → Bool
 is_ordinary Quote = false
+is_ordinary Progn = false
 is_ordinary If = false
 is_ordinary InPackage = false
 is_ordinary _ = true
@@ -123,7 +123,6 @@ set_at Case xs s = set_case xs s
 set_at ReadBase xs s = set_base xs s
 
 abbrev pub function_of : List Name → Operation → Place → List Object → WorldState → Evaluation Object
-function_of names Progn place xs s = gives (last xs) s
 function_of names Setf place xs s = set_at place xs s
 function_of names Incf place xs s = increment xs s
 function_of names Push place xs s = push xs s

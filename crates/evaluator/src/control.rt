@@ -1,16 +1,15 @@
 //! The operators of control (standard 5.3), and the values of atoms.
-ghost use Rattle.std.specs.Prelude.{ℕ, ◌≡◌, ◌≤◌, ◌||◌, ◌&&◌, List, Some, true, bytes_eq, length, IfOk};
-ghost use Rattle.std.specs.List.{list_all};
-ghost use Rattle.lisp_object.specs.Object.{Object};
-ghost use Rattle.lisp_object.specs.Datum.{object_of, is_proper};
-ghost use Rattle.package_table.specs.Table.{common_lisp};
+ghost use Rattle.std.specs.Prelude.{ℕ, ◌≡◌, ◌≤◌, ◌||◌, ◌&&◌, List, Option, Some, true, bytes_eq, length, IfOk};
+ghost use Rattle.lisp_object.specs.Object.{Object, nil};
+ghost use Rattle.lisp_object.specs.Datum.{object_of};
+ghost use Rattle.package_table.specs.Table.{Name, common_lisp};
 ghost use Rattle.plist_state.specs.State.{WorldState};
 ghost use Rattle.lisp_operators.specs.Kinds.{a_symbol};
 ghost use Rattle.lisp_operators.specs.Evaluation.{Evaluation, gives, also};
 ghost use Rattle.evaluator.specs.Operators.{first};
-ghost use Rattle.evaluator.specs.Value.{last, symbol_value};
-ghost use Rattle.evaluator.specs.Gathered.{arguments_in, HasValue};
-ghost use Rattle.lisp_operators.specs.Evaluated.{Answers, done, IsProper, AreProper, IsProperValue, objects};
+ghost use Rattle.evaluator.specs.Value.{symbol_value};
+ghost use Rattle.evaluator.specs.Gathered.{arguments_in, Evaluates, HasValue};
+ghost use Rattle.lisp_operators.specs.Evaluated.{Answers, done, IsProper, AreProper, IsProperValue};
 
 use lisp_object::Datum;
 use lisp_object::refusal::NOT_A_FORM;
@@ -60,22 +59,15 @@ pub(crate) fn quoted(alloc: Global, items: &[Datum]) -> Result<Evaluated, Evalua
     itself(alloc, &items[1])
 }
 
-/// PROGN: the last of these values; NIL where there is none.
-pub(crate) fn last(alloc: Global, mut values: Vec<Datum>) -> Result<Evaluated, EvaluationError>
-    requires { list_all is_proper values.items ≡ true }
-    ensures gives { HasValue (last (objects values.items)) result }
+/// PROGN of no forms: NIL.
+pub(crate) fn nothing(alloc: Global) -> Result<Evaluated, EvaluationError>
+    ensures gives { HasValue nil result }
     ensures proper { IfOk result IsProperValue }
 {
-    match values.pop() {
-        Some(value) => Ok(Evaluated {
-            value,
-            wrote: false,
-        }),
-        None => Ok(Evaluated {
-            value: values::empty_list(alloc)?,
-            wrote: false,
-        }),
-    }
+    Ok(Evaluated {
+        value: values::empty_list(alloc)?,
+        wrote: false,
+    })
 }
 
 // Whether it is the symbol of COMMON-LISP with this name.
@@ -125,4 +117,24 @@ pub(crate) fn symbol_value(
         });
     }
     Err(Refused(NOT_A_FORM))
+}
+
+/// The value of an object that is no list.
+pub(crate) fn atom(alloc: Global, world: &World, form: &Datum) -> Result<Evaluated, EvaluationError>
+    requires proper { IsProper form.now }
+    requires atom { (items : List Datum) (tail : Option Datum) → form.now ≡ Datum.List items tail → ⊥ }
+    ensures gives { (names : List Name)
+        → Evaluates names (object_of form.now) world.now.0 world.now.0 result }
+    ensures proper { IfOk result IsProperValue }
+{
+    match form {
+        Datum::Symbol { .. } => symbol_value(alloc, world, form),
+        Datum::Uninterned(_) => Err(Refused(NOT_A_FORM)),
+        Datum::List { .. } => unreachable!(),
+        Datum::Integer(_) => itself(alloc, form),
+        Datum::Rational(_) => itself(alloc, form),
+        Datum::Char(_) => itself(alloc, form),
+        Datum::Text(_) => itself(alloc, form),
+        Datum::Vector(_) => itself(alloc, form),
+    }
 }

@@ -3,30 +3,30 @@ ghost use Rattle.std.specs.Prelude.{◌≡◌, ◌<◌, ◌≤◌, true, length,
 ghost use Rattle.lisp_object.specs.Object.{list_of};
 ghost use Rattle.lisp_object.specs.Datum.{object_of};
 ghost use Rattle.evaluator.specs.Value.{value, values_at_place, values_before_place, choice};
+ghost use Rattle.lisp_operators.specs.Effects.{Leaves};
 ghost use Rattle.lisp_operators.specs.Readtables.{AreFunctionNames};
 ghost use Rattle.lisp_operators.specs.Evaluated.{IsArgument, KeepsArguments, Answers, done, IsProperValue, AreArgumentsOf, objects};
-ghost use Rattle.evaluator.specs.Gathered.{all_done, arguments_in, Evaluates, Operates};
+ghost use Rattle.evaluator.specs.Gathered.{all_done, arguments_in, Evaluates, EvaluatesFor, Operates};
 ghost use Rattle.evaluator.specs.Operations.{IsCounted, is_ordinary};
-ghost use Rattle.evaluator.specs.Gathered.{followed, subforms, gathered};
+ghost use Rattle.evaluator.specs.Gathered.{followed, subforms, gathered, sequence_value};
+ghost use Rattle.evaluator.specs.Wanted.{seen};
 
-pub mod effects;
-
-use crate::control::{after, itself, quoted, symbol_value};
+use crate::control::{after, atom, nothing, quoted};
 use crate::operation::{Operation, operation_of};
 use crate::perform::perform;
 use crate::place::check_place;
 use crate::values::Values;
+use crate::wanted::{Task, Wanted, seen};
 use lisp_object::refusal::{ARGUMENT_KIND, NOT_A_FORM};
 use lisp_object::{Datum, Items};
 use lisp_operators::EvaluationError::Refused;
-use lisp_operators::{Evaluated, EvaluationError, kinds, packages, values};
+use lisp_operators::{Evaluated, EvaluationError, either, kinds, packages, values};
 use plist_state::World;
 use readtable_core::FnName;
 use std::alloc::Global;
 
 /// The value of a form. Where it is refused, or memory runs out, what was carried out before stays, and the marks are as they
 /// were.
-#[cycle(evaluation)]
 pub fn evaluate(
     alloc: Global,
     world: &mut World,
@@ -40,8 +40,46 @@ pub fn evaluate(
     ensures kept { IfOk result (λ _. KeepsArguments world.old.0.packages world.new.0.packages) }
     ensures marked { world.new.1 ≡ world.old.1 }
 {
+    evaluate_for(alloc, world, names, form, Wanted::Value)
+}
+
+/// What a form does, as `evaluate` does it, where its value is not asked for. Gives whether anything was written. Where it is
+/// refused, or memory runs out, what was carried out before stays, and the marks are as they were.
+pub fn apply(
+    alloc: Global,
+    world: &mut World,
+    names: &[FnName],
+    form: &Datum,
+) -> Result<bool, EvaluationError>
+    requires names { AreFunctionNames names.now }
+    requires form { IsArgument world.old.0.packages form.now }
+    ensures gives { Leaves result world.new.0 (value names.now world.old.0 (object_of form.now)) }
+    ensures marked { world.new.1 ≡ world.old.1 }
+{
+    match evaluate_for(alloc, world, names, form, Wanted::Nothing) {
+        Ok(evaluated) => Ok(evaluated.wrote),
+        Err(error) => Err(error),
+    }
+}
+
+// The value of a form, or what stands for it where less is asked.
+#[cycle(evaluation)]
+fn evaluate_for(
+    alloc: Global,
+    world: &mut World,
+    names: &[FnName],
+    form: &Datum,
+    wanted: Wanted,
+) -> Result<Evaluated, EvaluationError>
+    requires names { AreFunctionNames names.now }
+    requires form { IsArgument world.old.0.packages form.now }
+    ensures gives { EvaluatesFor wanted names.now (object_of form.now) world.old.0 world.new.0 result }
+    ensures value { IfOk result (λ e. IsArgument world.new.0.packages e.value) }
+    ensures kept { IfOk result (λ _. KeepsArguments world.old.0.packages world.new.0.packages) }
+    ensures marked { world.new.1 ≡ world.old.1 }
+{
     world.soundness();
-    match any_form(alloc, world, names, form) {
+    match any_form(alloc, world, names, form, wanted) {
         Ok(evaluated) => Ok(evaluated),
         Err(error) => Err(error),
     }
@@ -54,27 +92,22 @@ fn any_form(
     world: &mut World,
     names: &[FnName],
     form: &Datum,
+    wanted: Wanted,
 ) -> Result<Evaluated, EvaluationError>
     requires names { AreFunctionNames names.now }
     requires form { IsArgument world.old.0.packages form.now }
-    ensures gives { Evaluates names.now (object_of form.now) world.old.0 world.new.0 result }
+    ensures gives { EvaluatesFor wanted names.now (object_of form.now) world.old.0 world.new.0 result }
     ensures proper { IfOk result IsProperValue }
     ensures marked { world.new.1 ≡ world.old.1 }
 {
     match form {
-        Datum::Symbol { .. } => symbol_value(alloc, world, form),
-        Datum::Uninterned(_) => Err(Refused(NOT_A_FORM)),
         Datum::List { items, tail } => {
             if tail.is_some() {
                 return Err(Refused(NOT_A_FORM));
             }
-            list_form(alloc, world, names, items)
+            list_form(alloc, world, names, items, wanted)
         }
-        Datum::Integer(_) => itself(alloc, form),
-        Datum::Rational(_) => itself(alloc, form),
-        Datum::Char(_) => itself(alloc, form),
-        Datum::Text(_) => itself(alloc, form),
-        Datum::Vector(_) => itself(alloc, form),
+        _ => seen(atom(alloc, world, form), wanted),
     }
 }
 
@@ -85,18 +118,19 @@ fn list_form(
     world: &mut World,
     names: &[FnName],
     items: &Items<Datum>,
+    wanted: Wanted,
 ) -> Result<Evaluated, EvaluationError>
     requires some { 0 < length items.now }
     requires names { AreFunctionNames names.now }
     requires items { AreArgumentsOf world.old items.now }
-    ensures gives { Evaluates names.now (list_of (objects items.now))
+    ensures gives { EvaluatesFor wanted names.now (list_of (objects items.now))
         world.old.0 world.new.0 result }
     ensures proper { IfOk result IsProperValue }
     ensures marked { world.new.1 ≡ world.old.1 }
 {
     let items = items.as_slice();
     match operation_of(&items[0], items.len() - 1) {
-        Ok(operation) => act(alloc, world, names, operation, items),
+        Ok(operation) => act(alloc, world, names, Task { operation, wanted }, items),
         Err(error) => Err(error),
     }
 }
@@ -107,23 +141,24 @@ fn act(
     alloc: Global,
     world: &mut World,
     names: &[FnName],
-    operation: Operation,
+    task: Task,
     items: &[Datum],
 ) -> Result<Evaluated, EvaluationError>
-    requires counted { IsCounted operation (length items.now) }
+    requires counted { IsCounted task.operation (length items.now) }
     requires names { AreFunctionNames names.now }
     requires items { AreArgumentsOf world.old items.now }
-    ensures gives { Operates names.now operation items.now world.old.0 world.new.0 result }
+    ensures gives { Operates names.now task items.now world.old.0 world.new.0 result }
     ensures proper { IfOk result IsProperValue }
     ensures marked { world.new.1 ≡ world.old.1 }
 {
-    if operation.is_ordinary() {
-        return ordinary(alloc, world, names, operation, items);
+    if task.operation.is_ordinary() {
+        return ordinary(alloc, world, names, task, items);
     }
-    match operation {
-        Operation::If => chosen(alloc, world, names, items),
-        Operation::InPackage => packages::enter(alloc, world, &items[1]),
-        _ => quoted(alloc, items),
+    match task.operation {
+        Operation::If => chosen(alloc, world, names, items, task.wanted),
+        Operation::Progn => sequence(alloc, world, names, items, task.wanted),
+        Operation::InPackage => seen(packages::enter(alloc, world, &items[1]), task.wanted),
+        _ => seen(quoted(alloc, items), task.wanted),
     }
 }
 
@@ -133,23 +168,23 @@ fn ordinary(
     alloc: Global,
     world: &mut World,
     names: &[FnName],
-    operation: Operation,
+    task: Task,
     items: &[Datum],
 ) -> Result<Evaluated, EvaluationError>
-    requires ordinary { is_ordinary operation ≡ true }
-    requires counted { IsCounted operation (length items.now) }
+    requires ordinary { is_ordinary task.operation ≡ true }
+    requires counted { IsCounted task.operation (length items.now) }
     requires names { AreFunctionNames names.now }
     requires items { AreArgumentsOf world.old items.now }
-    ensures gives { Operates names.now operation items.now world.old.0 world.new.0 result }
+    ensures gives { Operates names.now task items.now world.old.0 world.new.0 result }
     ensures proper { IfOk result IsProperValue }
     ensures marked { world.new.1 ≡ world.old.1 }
 {
-    let place = match check_place(operation, items) {
+    let place = match check_place(task.operation, items) {
         Ok(place) => place,
         Err(error) => return Err(error),
     };
-    match gathered(alloc, world, names, operation, items) {
-        Ok(values) => perform(alloc, world, names, operation, place, values),
+    match gathered(alloc, world, names, task.operation, items) {
+        Ok(values) => perform(alloc, world, names, task, place, values),
         Err(error) => Err(error),
     }
 }
@@ -221,7 +256,7 @@ fn before_place(
     if !kinds::is_pair(&items[2]) {
         return Err(Refused(ARGUMENT_KIND));
     }
-    let first = match evaluate(alloc, world, names, &items[1]) {
+    let first = match evaluate_for(alloc, world, names, &items[1], Wanted::Value) {
         Ok(evaluated) => Values::one(alloc, evaluated)?,
         Err(error) => return Err(error),
     };
@@ -280,13 +315,47 @@ fn extended(
 {
     let mut values = values;
     for i in from..forms.len() {
-        let evaluated = match evaluate(alloc, world, names, &forms[i]) {
+        let evaluated = match evaluate_for(alloc, world, names, &forms[i], Wanted::Value) {
             Ok(evaluated) => evaluated,
             Err(error) => return Err(error),
         };
         values = values.with(evaluated)?;
     }
     Ok(values)
+}
+
+// PROGN: the last of the values of these forms (standard 5.3, `progn`). The values before it are not made.
+#[cycle(evaluation)]
+fn sequence(
+    alloc: Global,
+    world: &mut World,
+    names: &[FnName],
+    items: &[Datum],
+    wanted: Wanted,
+) -> Result<Evaluated, EvaluationError>
+    requires counted { 1 ≤ length items.now }
+    requires names { AreFunctionNames names.now }
+    requires items { AreArgumentsOf world.old items.now }
+    ensures gives { Answers done result world.new.0
+        (seen wanted (sequence_value names.now world.old.0 (arguments_in items.now))) }
+    ensures proper { IfOk result IsProperValue }
+    ensures marked { world.new.1 ≡ world.old.1 }
+{
+    let last = items.len() - 1;
+    if last == 0 {
+        return seen(nothing(alloc), wanted);
+    }
+    let mut wrote = false;
+    for i in 1..last {
+        match evaluate_for(alloc, world, names, &items[i], Wanted::Nothing) {
+            Ok(evaluated) => wrote = either(wrote, evaluated.wrote),
+            Err(error) => return Err(error),
+        }
+    }
+    after(
+        wrote,
+        evaluate_for(alloc, world, names, &items[last], wanted),
+    )
 }
 
 // IF: the second or the third, as the first is true or false (standard 5.3, `if`).
@@ -296,27 +365,31 @@ fn chosen(
     world: &mut World,
     names: &[FnName],
     items: &[Datum],
+    wanted: Wanted,
 ) -> Result<Evaluated, EvaluationError>
     requires counted { 3 ≤ length items.now }
     requires names { AreFunctionNames names.now }
     requires items { AreArgumentsOf world.old items.now }
     ensures gives { Answers done result world.new.0
-        (choice names.now world.old.0 (arguments_in items.now)) }
+        (seen wanted (choice names.now world.old.0 (arguments_in items.now))) }
     ensures proper { IfOk result IsProperValue }
     ensures marked { world.new.1 ≡ world.old.1 }
 {
-    let test = match evaluate(alloc, world, names, &items[1]) {
+    let test = match evaluate_for(alloc, world, names, &items[1], Wanted::Truth) {
         Ok(test) => test,
         Err(error) => return Err(error),
     };
     if kinds::is_true(&test.value) {
-        return after(test.wrote, evaluate(alloc, world, names, &items[2]));
+        return after(
+            test.wrote,
+            evaluate_for(alloc, world, names, &items[2], wanted),
+        );
     }
     if items.len() == 3 {
-        return Ok(Evaluated {
-            value: values::empty_list(alloc)?,
-            wrote: test.wrote,
-        });
+        return after(test.wrote, seen(nothing(alloc), wanted));
     }
-    after(test.wrote, evaluate(alloc, world, names, &items[3]))
+    after(
+        test.wrote,
+        evaluate_for(alloc, world, names, &items[3], wanted),
+    )
 }

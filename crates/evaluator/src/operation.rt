@@ -129,7 +129,7 @@ impl Operation {
     {
         !matches!(
             self,
-            Operation::Quote | Operation::If | Operation::InPackage
+            Operation::Quote | Operation::Progn | Operation::If | Operation::InPackage
         )
     }
 

@@ -3,12 +3,15 @@ ghost use Rattle.std.specs.Prelude.{◌≡◌, IfOk};
 ghost use Rattle.lisp_operators.specs.Readtables.{AreFunctionNames};
 ghost use Rattle.lisp_operators.specs.Evaluation.{also};
 ghost use Rattle.evaluator.specs.Operations.{function_of, set_at};
+ghost use Rattle.evaluator.specs.Wanted.{seen};
 ghost use Rattle.lisp_operators.specs.Evaluated.{Answers, done, IsProperValue, AreArgumentsOf, CarriesOut, objects};
 
-use crate::control::{after, last};
+use crate::control::after;
+use crate::effects::{effect, truth};
 use crate::operation::Operation;
 use crate::place::Place;
 use crate::values::Values;
+use crate::wanted::{Task, Wanted};
 use lisp_object::Datum;
 use lisp_object::refusal::ARGUMENT_KIND;
 use lisp_operators::EvaluationError::Refused;
@@ -26,26 +29,31 @@ pub(crate) fn perform(
     alloc: Global,
     world: &mut World,
     names: &[FnName],
-    operation: Operation,
+    task: Task,
     place: Place,
     values: Values,
 ) -> Result<Evaluated, EvaluationError>
     requires names { AreFunctionNames names.now }
     requires values { AreArgumentsOf world.old values.values.items }
     ensures gives { Answers done result world.new.0
-        (also values.wrote (function_of names.now operation place (objects values.values.items) world.old.0)) }
+        (also values.wrote (seen task.wanted (function_of names.now task.operation place (objects values.values.items) world.old.0))) }
     ensures proper { IfOk result IsProperValue }
     ensures marked { world.new.1 ≡ world.old.1 }
 {
     let Values { values, wrote } = values;
-    after(
-        wrote,
-        carry_out(alloc, world, names, operation, place, values),
-    )
+    let operation = task.operation;
+    match task.wanted {
+        Wanted::Value => after(
+            wrote,
+            carry_out(alloc, world, names, operation, place, values),
+        ),
+        Wanted::Truth => after(wrote, truth(alloc, world, names, operation, place, values)),
+        Wanted::Nothing => after(wrote, effect(alloc, world, names, operation, place, values)),
+    }
 }
 
-// What it gives of these, as nothing was evaluated before.
-fn carry_out(
+/// What it gives of these, as nothing was evaluated before.
+pub(crate) fn carry_out(
     alloc: Global,
     world: &mut World,
     names: &[FnName],
@@ -61,7 +69,6 @@ fn carry_out(
     ensures marked { world.new.1 ≡ world.old.1 }
 {
     match operation {
-        Operation::Progn => last(alloc, values),
         Operation::MakeList => values::list(alloc, values),
         Operation::Get => properties::get(alloc, world, values),
         Operation::Setf => put(alloc, world, place, values),
@@ -89,6 +96,7 @@ fn carry_out(
         Operation::GetDispatchMacroCharacter => get_dispatch(alloc, world, values.as_slice()),
         Operation::ReadtableCase => readtables::readtable_case(alloc, world, values.as_slice()),
         Operation::Quote => Err(Refused(ARGUMENT_KIND)),
+        Operation::Progn => Err(Refused(ARGUMENT_KIND)),
         Operation::If => Err(Refused(ARGUMENT_KIND)),
         Operation::InPackage => Err(Refused(ARGUMENT_KIND)),
     }

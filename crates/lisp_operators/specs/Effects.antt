@@ -7,7 +7,8 @@ use Rattle.plist_state.specs.Changes.{property}
 use Rattle.plist_state.specs.Pushed.{pushed, with_pushed}
 use Rattle.lisp_operators.specs.declared.error.EvaluationError.{EvaluationError}
 use Rattle.lisp_operators.specs.declared.error.EvaluationError.TheVariants.{Refused, OutOfMemory}
-use Rattle.lisp_operators.specs.Evaluation.{Evaluation, writes}
+use Rattle.lisp_operators.specs.Evaluation.{Evaluation, gives, writes}
+use Rattle.lisp_operators.specs.Kinds.{is_true}
 use Rattle.lisp_operators.specs.Properties.{built}
 
 -- the state that an evaluation leaves, and whether it wrote
@@ -21,6 +22,13 @@ abbrev pub Leaves : {A : Type 0} → Result Bool EvaluationError → WorldState 
 Leaves (Ok wrote) s said = effect said ≡ Ok (s, wrote)
 Leaves (Err (Refused code)) s said = said ≡ Err code
 Leaves (Err OutOfMemory) s said = Unit {0}
+
+-- A call that leaves the state as it is tells whether the value is true that the definition says; or it tells the number of the
+-- refusal. Where memory ran out it says nothing.
+abbrev pub IsTruth : Result Bool EvaluationError → WorldState → Evaluation Object → Type 0
+IsTruth (Ok b) s said = (x : Object) × (said ≡ gives x s) × (is_true x ≡ b)
+IsTruth (Err (Refused code)) s said = said ≡ Err code
+IsTruth (Err OutOfMemory) s said = Unit {0}
 
 -- PUSH of a value to the property of a symbol
 abbrev pub pushes : WorldState → Symbol → Symbol → Object → Evaluation Object

@@ -1,23 +1,37 @@
-//! SETF and PUSH of a property, where the value that they give is not asked for. The value of
-//! SETF, and a list to which PUSH adds, are not copied.
+//! GET, SETF and PUSH of a property, where the value that they give is not asked for. The property that GET finds, the value
+//! of SETF, and a list to which PUSH adds, are not copied.
 ghost use Rattle.std.specs.Prelude.{◌≡◌, true, IfErr};
 ghost use Rattle.lisp_object.specs.Datum.{object_of};
 ghost use Rattle.plist_state.specs.Changes.{property};
 ghost use Rattle.plist_state.specs.Pushed.{holds_pair};
 ghost use Rattle.plist_state.specs.Shown.{symbol_of};
 ghost use Rattle.plist_state.specs.Sound.{IsSymbol};
-ghost use Rattle.lisp_operators.specs.Properties.{set, push};
-ghost use Rattle.lisp_operators.specs.Effects.{Leaves, pushes};
+ghost use Rattle.lisp_operators.specs.Properties.{get, set, push};
+ghost use Rattle.lisp_operators.specs.Effects.{IsTruth, Leaves, pushes};
 ghost use Rattle.lisp_operators.specs.Evaluated.{AreArgumentsOf, IsArgument, objects};
 
 use crate::EvaluationError::Refused;
-use crate::owned_arguments::three;
-use crate::properties::{property_key, pushed};
+use crate::arguments::is_given;
+use crate::owned_arguments::{three, two_and_rest};
+use crate::properties::{has_list, property_key, pushed};
 use crate::{EvaluationError, kinds, values};
 use lisp_object::Datum;
 use lisp_object::refusal::{LIMIT, VALUE_TOO_DEEP};
 use plist_state::{Symbol, World};
 use std::alloc::Global;
+
+/// GET. Gives whether the value is true.
+pub fn get(world: &World, values: Vec<Datum>) -> Result<bool, EvaluationError>
+    requires { AreArgumentsOf world.now values.items }
+    ensures { IsTruth result world.now.0 (get (objects values.items) world.now.0) }
+{
+    let (symbol, indicator, rest) = two_and_rest(values)?;
+    let (symbol, indicator) = property_key(symbol, indicator)?;
+    match world.get(&symbol, &indicator) {
+        Some(value) => Ok(kinds::is_true(value)),
+        None => Ok(is_given(rest.as_slice())),
+    }
+}
 
 /// SETF of a property. Gives whether anything was written.
 pub fn set(world: &mut World, values: Vec<Datum>) -> Result<bool, EvaluationError>
@@ -30,16 +44,6 @@ pub fn set(world: &mut World, values: Vec<Datum>) -> Result<bool, EvaluationErro
     let (symbol, indicator) = property_key(symbol, indicator)?;
     world.put(&symbol, indicator, value)?;
     Ok(true)
-}
-
-// Whether a property is a list with an item.
-fn has_list(world: &World, symbol: &Symbol, indicator: &Symbol) -> bool
-    ensures { result ≡ holds_pair (property world.now.0 (symbol_of symbol.now) (symbol_of indicator.now)) }
-{
-    match world.get(symbol, indicator) {
-        Some(value) => kinds::is_pair(value),
-        None => false,
-    }
 }
 
 // PUSH of a value before the list that a property is.

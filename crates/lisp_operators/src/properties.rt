@@ -3,6 +3,8 @@ ghost use Rattle.std.specs.Prelude.{◌≡◌, true, [], option_map, All, IfErr,
 ghost use Rattle.std.specs.List.{list_all};
 ghost use Rattle.lisp_object.specs.Object.{IsSound, pair};
 ghost use Rattle.lisp_object.specs.Datum.{object_of, is_proper};
+ghost use Rattle.plist_state.specs.Changes.{property};
+ghost use Rattle.plist_state.specs.Pushed.{holds_pair};
 ghost use Rattle.plist_state.specs.Shown.{symbol_of};
 ghost use Rattle.plist_state.specs.Sound.{IsSymbol};
 ghost use Rattle.lisp_operators.specs.Kinds.{a_symbol};
@@ -203,6 +205,16 @@ pub fn increment(
     })
 }
 
+/// Whether a property is a list with an item.
+pub(crate) fn has_list(world: &World, symbol: &Symbol, indicator: &Symbol) -> bool
+    ensures { result ≡ holds_pair (property world.now.0 (symbol_of symbol.now) (symbol_of indicator.now)) }
+{
+    match world.get(symbol, indicator) {
+        Some(value) => kinds::is_pair(value),
+        None => false,
+    }
+}
+
 /// The pair of a value and a property, or NIL where there is none.
 pub(crate) fn pushed(alloc: Global, value: &Datum, old: Option<&Datum>) -> Result<Datum, AllocError>
     requires value { IsProper value.now }
@@ -232,10 +244,9 @@ pub fn push(
     ensures unchanged { IfErr result (λ _. world.new ≡ world.old) }
     ensures marked { world.new.1 ≡ world.old.1 }
 {
-    let (value, symbol, indicator) = three(values)?;
+    let (first, symbol, indicator) = three(values)?;
     let (symbol, indicator) = property_key(symbol, indicator)?;
-    let old = world.get(&symbol, &indicator);
-    let value = pushed(alloc, &value, old)?;
+    let value = pushed(alloc, &first, world.get(&symbol, &indicator))?;
     if values::is_too_deep(&value) {
         return Err(Refused(VALUE_TOO_DEEP));
     }
@@ -243,5 +254,10 @@ pub fn push(
         return Err(Refused(LIMIT));
     }
     world.soundness();
-    store(alloc, world, &symbol, indicator, value)
+    if !has_list(world, &symbol, &indicator) {
+        return store(alloc, world, &symbol, indicator, value);
+    }
+    // The list that is there is moved, and the answer is its only copy.
+    world.push(&symbol, &indicator, first)?;
+    Ok(Evaluated { value, wrote: true })
 }

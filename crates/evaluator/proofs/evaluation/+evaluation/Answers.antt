@@ -1,26 +1,32 @@
 -- What each call answers.
-use Rattle.std.proofs.Common.{◌≡◌, ◌≤◌, ◌+◌, [], ◌∷◌, ◌||◌, true, All, drop, map, length, refl, sym, ap, subst, ◌∙◌, arith}
-use Rattle.lisp_object.specs.Object.{list_of}
+use Rattle.std.proofs.Common.{◌≡◌, ◌≤◌, ◌+◌, ◌-◌, [], ◌∷◌, ◌||◌, true, All, drop, map, length, refl, sym, ap, subst, ◌∙◌, arith}
+use Rattle.lisp_object.specs.Object.{Object, nil, list_of}
+use Rattle.plist_state.specs.Sound.{IsValue}
+use Rattle.lisp_operators.specs.Evaluation.{Done, gives, also}
 use Rattle.lisp_object.specs.Datum.{object_of}
-use Rattle.lisp_object.proofs.Objects.{object_of-Symbol, object_of-Integer, object_of-Rational, object_of-Char, object_of-Text, object_of-Vector}
+use Rattle.lisp_object.proofs.Objects.{object_of-Symbol}
 use Rattle.std.proofs.lemmas.List.{map-append}
 use Rattle.lisp_object.specs.declared.datum.Datum.TheViews.{sized-List, the_lemmas}
 use Rattle.lisp_object.proofs.datum.Datum.TheLaws.{the_size}
 use Rattle.evaluator.specs.declared.operation.Operation.TheVariants.{Quote}
 use Rattle.lisp_operators.specs.Kinds.{is_pair}
-use Rattle.evaluator.specs.Gathered.{arguments_of, parts, followed, subforms}
-use Rattle.evaluator.specs.Value.{value, action_value}
-use Rattle.evaluator.specs.Operations.{action_of, least}
+use Rattle.evaluator.specs.Gathered.{arguments_of, operation_value, followed, subforms, sequence_value}
+use Rattle.evaluator.specs.declared.wanted.Wanted.TheVariants.{Value, Nothing}
+use Rattle.evaluator.specs.Wanted.{seen}
+use Rattle.evaluator.proofs.Seen.{seen_value, seen_also, refused_seen, refused_so, evaluated_so, stand_in_value}
+use Rattle.evaluator.proofs.Sequences.{sequence_step, sequence_stops, sequence_last, no_forms, also_refused, also_also}
+use Rattle.evaluator.specs.Value.{value}
+use Rattle.evaluator.specs.Operations.{least}
 use Rattle.lisp_operators.specs.Evaluated.{IsArgument, Answers, done}
-use Rattle.evaluator.proofs.Steps.{is_constant, value_dotted, items_arguments, good_value, followed_step, followed_stops, followed_at_end, argument_grown, all_more}
+use Rattle.evaluator.proofs.Steps.{value_dotted, items_arguments, good_value, followed_step, followed_stops, followed_at_end, argument_grown, all_more}
 use Rattle.evaluator.proofs.Places.{some_items}
-use Rattle.evaluator.proofs.Forms.{symbol_form, constant_form, uninterned_form, head_form, head_refused, quote_left, place_first, place_given, push_no_place, push_refused, push_given, same_item, subforms_given}
+use Rattle.evaluator.proofs.Forms.{head_form, head_refused, quote_left, place_first, place_given, push_no_place, push_refused, push_given, same_item, subforms_given, performed}
 use Rattle.evaluator.proofs.Branches.{choice_refused, choice_true, choice_none, choice_other}
 use Rattle.evaluator.proofs.evaluation.+evaluation.Goals as goal
 
 pub act-quoted-requires : goal.act-quoted-requires
 act-quoted-requires t c =
-    let quote : c.args.operation ≡ Quote = quote_left c.args.operation (sym c.is_ordinary.ensures ∙ c.if-is_ordinary.false) c.in_default.not-If c.in_default.not-InPackage in
+    let quote : c.args.task.operation ≡ Quote = quote_left c.args.task.operation (sym c.is_ordinary.ensures ∙ c.if-is_ordinary.false) c.in_default.not-If c.in_default.not-Progn c.in_default.not-InPackage in
     record {
       counted = subst (λ o. least o + 1 ≤ length c.args.items.now) quote c.requires.counted.0;
       proper = λ k d h. (c.requires.items k d h).proper;
@@ -28,17 +34,26 @@ act-quoted-requires t c =
 
 pub act-returns-in_default : goal.act-returns-in_default
 act-returns-in_default t c =
-    let quote : c.args.operation ≡ Quote = quote_left c.args.operation (sym c.is_ordinary.ensures ∙ c.if-is_ordinary.false) c.in_default.not-If c.in_default.not-InPackage in
+    let quote : c.args.task.operation ≡ Quote = quote_left c.args.task.operation (sym c.is_ordinary.ensures ∙ c.if-is_ordinary.false) c.in_default.not-If c.in_default.not-Progn c.in_default.not-InPackage in
     let arguments = arguments_of (map object_of c.args.items.now) in
+    let s = c.args.world.now.0 in
     record {
-      gives = subst (λ o. Answers done c.quoted.result c.args.world.now.0 (action_value c.args.world.now.0 (action_of c.args.names.now o) arguments (parts c.args.names.now c.args.world.now.0 arguments))) (sym quote) (c.quoted.ensures.gives c.args.world.now.0);
-      proper = c.quoted.ensures.proper;
+      gives = c.seen-in_default.ensures.gives s (operation_value c.args.names.now c.args.task.operation arguments s)
+          (subst (λ o. Answers done c.quoted.result s (operation_value c.args.names.now o arguments s)) (sym quote) (c.quoted.ensures.gives s));
+      proper = c.seen-in_default.ensures.proper;
       marked = refl;
     }
 
 pub any_form-returns-then-is_some-clause-gives : goal.any_form-returns-then-is_some-clause-gives
 any_form-returns-then-is_some-clause-gives t c =
-    value_dotted c.args.names.now c.args.world.now.0 c.args.form.now c.in-List.items c.in-List.tail c.in-List.is c.requires.form.proper (sym c.is_some.ensures ∙ c.if-is_some.true)
+    ap (seen c.args.wanted) (value_dotted c.args.names.now c.args.world.now.0 c.args.form.now c.in-List.items c.in-List.tail c.in-List.is c.requires.form.proper (sym c.is_some.ensures ∙ c.if-is_some.true))
+
+pub any_form-atom-requires-clause-atom : goal.any_form-atom-requires-clause-atom
+any_form-atom-requires-clause-atom t c = c.in_default.not-List
+
+pub any_form-returns-in_default-clause-gives : goal.any_form-returns-in_default-clause-gives
+any_form-returns-in_default-clause-gives t c =
+    c.seen.ensures.gives c.args.world.now.0 (value c.args.names.now c.args.world.now.0 (object_of c.args.form.now)) (c.atom.ensures.gives c.args.names.now)
 
 pub any_form-list_form-requires : goal.any_form-list_form-requires
 any_form-list_form-requires t c = (
@@ -48,33 +63,6 @@ any_form-list_form-requires t c = (
     (c.requires.names, items_arguments c.args.world.now.0.packages c.args.form.now c.in-List.items c.in-List.tail c.in-List.is c.requires.form),
   ),
 )
-
-pub any_form-returns-in-Symbol-clause-gives : goal.any_form-returns-in-Symbol-clause-gives
-any_form-returns-in-Symbol-clause-gives t c =
-    symbol_form c.args.names.now c.args.world.now.0 c.args.form.now c.in-Symbol.package c.in-Symbol.name c.symbol_value.result c.in-Symbol.is c.symbol_value.ensures.gives
-
-pub any_form-returns-in-Uninterned-clause-gives : goal.any_form-returns-in-Uninterned-clause-gives
-any_form-returns-in-Uninterned-clause-gives t c = uninterned_form c.args.names.now c.args.world.now.0 c.args.form.now c.in-Uninterned.field-0 c.in-Uninterned.is
-
-pub any_form-returns-in-Integer-clause-gives : goal.any_form-returns-in-Integer-clause-gives
-any_form-returns-in-Integer-clause-gives t c =
-    constant_form c.args.names.now c.args.world.now.0 c.args.form.now c.itself.result (ap (λ d. is_constant (object_of d)) c.in-Integer.is ∙ ap is_constant (object_of-Integer c.in-Integer.field-0)) c.itself.ensures.gives
-
-pub any_form-returns-in-Rational-clause-gives : goal.any_form-returns-in-Rational-clause-gives
-any_form-returns-in-Rational-clause-gives t c =
-    constant_form c.args.names.now c.args.world.now.0 c.args.form.now c.itself-in-Rational.result (ap (λ d. is_constant (object_of d)) c.in-Rational.is ∙ ap is_constant (object_of-Rational c.in-Rational.field-0)) c.itself-in-Rational.ensures.gives
-
-pub any_form-returns-in-Char-clause-gives : goal.any_form-returns-in-Char-clause-gives
-any_form-returns-in-Char-clause-gives t c =
-    constant_form c.args.names.now c.args.world.now.0 c.args.form.now c.itself-in-Char.result (ap (λ d. is_constant (object_of d)) c.in-Char.is ∙ ap is_constant (object_of-Char c.in-Char.field-0)) c.itself-in-Char.ensures.gives
-
-pub any_form-returns-in-Text-clause-gives : goal.any_form-returns-in-Text-clause-gives
-any_form-returns-in-Text-clause-gives t c =
-    constant_form c.args.names.now c.args.world.now.0 c.args.form.now c.itself-in-Text.result (ap (λ d. is_constant (object_of d)) c.in-Text.is ∙ ap is_constant (object_of-Text c.in-Text.field-0)) c.itself-in-Text.ensures.gives
-
-pub any_form-returns-in-Vector-clause-gives : goal.any_form-returns-in-Vector-clause-gives
-any_form-returns-in-Vector-clause-gives t c =
-    constant_form c.args.names.now c.args.world.now.0 c.args.form.now c.itself-in-Vector.result (ap (λ d. is_constant (object_of d)) c.in-Vector.is ∙ ap is_constant (object_of-Vector c.in-Vector.field-0)) c.itself-in-Vector.ensures.gives
 
 pub at_place-returns-in-Ok-clause-gives : goal.at_place-returns-in-Ok-clause-gives
 at_place-returns-in-Ok-clause-gives t c =
@@ -92,62 +80,72 @@ before_place-returns-then-not-is_pair-clause-gives t c =
 
 pub before_place-returns-in-Err-clause-gives : goal.before_place-returns-in-Err-clause-gives
 before_place-returns-in-Err-clause-gives t c =
-    push_refused c.args.names.now c.args.world.now.0 c.evaluate.new.world.0 c.evaluate.new.world.0 c.args.items.now c.index-items-1.result c.index-items-2.result c.in-Err.error
-    c.requires.counted c.index-items-1.is c.index-items-2.is (sym c.is_pair.ensures ∙ c.if-not-is_pair.false) c.in-Err.ensures.gives
+    push_refused c.args.names.now c.args.world.now.0 c.evaluate_for.new.world.0 c.evaluate_for.new.world.0 c.args.items.now c.index-items-1.result c.index-items-2.result c.in-Err.error
+    c.requires.counted c.index-items-1.is c.index-items-2.is (sym c.is_pair.ensures ∙ c.if-not-is_pair.false) (refused_so Value c.in-Err.error c.evaluate_for.new.world.0 c.evaluate_for.new.world.0 (value c.args.names.now c.args.world.now.0 (object_of c.index-items-1.result)) c.in-Err.ensures.gives)
 
 pub before_place-returns-clause-gives : goal.before_place-returns-clause-gives
 before_place-returns-clause-gives t c =
     let same : c.index-items-2.result ≡ c.index-items-2-2.result = same_item c.args.items.now 2 c.index-items-2.result c.index-items-2-2.result c.requires.counted c.index-items-2.is c.index-items-2-2.is in
-    push_given c.args.names.now c.args.world.now.0 c.evaluate.new.world.0 c.subforms.new.world.0 c.args.items.now c.index-items-1.result c.index-items-2-2.result c.in-Ok.evaluated c.in_ok-first-in-Ok.first.values.items c.in_ok-first-in-Ok.first.wrote c.subforms.result
-    c.requires.counted c.index-items-1.is c.index-items-2-2.is (subst (λ d. is_pair (object_of d) ≡ true) same (sym c.is_pair.ensures ∙ c.if-not-is_pair.false)) c.in-Ok.ensures.gives c.in_ok-first-in-Ok.ensures.0 c.in_ok-first-in-Ok.ensures.1 c.subforms.ensures.gives
+    push_given c.args.names.now c.args.world.now.0 c.evaluate_for.new.world.0 c.subforms.new.world.0 c.args.items.now c.index-items-1.result c.index-items-2-2.result c.in-Ok.evaluated c.in_ok-first-in-Ok.first.values.items c.in_ok-first-in-Ok.first.wrote c.subforms.result
+    c.requires.counted c.index-items-1.is c.index-items-2-2.is (subst (λ d. is_pair (object_of d) ≡ true) same (sym c.is_pair.ensures ∙ c.if-not-is_pair.false)) (sym (seen_value (value c.args.names.now c.args.world.now.0 (object_of c.index-items-1.result))) ∙ c.in-Ok.ensures.gives) c.in_ok-first-in-Ok.ensures.0 c.in_ok-first-in-Ok.ensures.1 c.subforms.ensures.gives
 
 pub chosen-returns-in-Err-clause-gives : goal.chosen-returns-in-Err-clause-gives
 chosen-returns-in-Err-clause-gives t c =
-    choice_refused c.args.names.now c.args.world.now.0 c.evaluate.new.world.0 c.evaluate.new.world.0 c.args.items.now c.index-items-1.result c.in-Err.error c.requires.counted c.index-items-1.is c.in-Err.ensures.gives
+    choice_refused c.args.wanted c.args.names.now c.args.world.now.0 c.evaluate_for.new.world.0 c.evaluate_for.new.world.0 c.args.items.now c.index-items-1.result c.in-Err.error c.requires.counted c.index-items-1.is c.in-Err.ensures.gives
 
 pub chosen-returns-then-is_true-clause-gives : goal.chosen-returns-then-is_true-clause-gives
 chosen-returns-then-is_true-clause-gives t c =
-    choice_true c.args.names.now c.args.world.now.0 c.evaluate.new.world.0 c.evaluate-then-is_true.new.world.0 c.args.items.now c.index-items-1.result c.index-items-2.result c.in-Ok.test c.after.result
-    c.requires.counted c.index-items-1.is c.index-items-2.is c.in-Ok.ensures.gives (sym c.is_true.ensures ∙ c.if-is_true.true) (c.after.ensures.gives c.evaluate-then-is_true.new.world.0 (value c.args.names.now c.evaluate.new.world.0 (object_of c.index-items-2.result)) c.evaluate-then-is_true.ensures.gives)
+    choice_true c.args.wanted c.args.names.now c.args.world.now.0 c.evaluate_for.new.world.0 c.evaluate_for-then-is_true.new.world.0 c.args.items.now c.index-items-1.result c.index-items-2.result c.in-Ok.test c.after.result
+    c.requires.counted c.index-items-1.is c.index-items-2.is c.in-Ok.ensures.gives (sym c.is_true.ensures ∙ c.if-is_true.true)
+    (c.after.ensures.gives c.evaluate_for-then-is_true.new.world.0 (seen c.args.wanted (value c.args.names.now c.evaluate_for.new.world.0 (object_of c.index-items-2.result))) c.evaluate_for-then-is_true.ensures.gives)
 
 pub chosen-returns-then-items-eq3-clause-gives : goal.chosen-returns-then-items-eq3-clause-gives
 chosen-returns-then-items-eq3-clause-gives t c =
-    choice_none c.args.names.now c.args.world.now.0 c.evaluate.new.world.0 c.args.items.now c.index-items-1.result c.in-Ok.test c.in_ok-empty_list.field-0
-    c.requires.counted c.if-items-eq3.true c.index-items-1.is c.in-Ok.ensures.gives (sym c.is_true.ensures ∙ c.if-is_true.false) c.in_ok-empty_list.ensures.value
+    let s = c.evaluate_for.new.world.0 in
+    choice_none c.args.wanted c.args.names.now c.args.world.now.0 s s c.args.items.now c.index-items-1.result c.in-Ok.test c.after-then-items-eq3.result
+    c.requires.counted c.if-items-eq3.true c.index-items-1.is c.in-Ok.ensures.gives (sym c.is_true.ensures ∙ c.if-is_true.false)
+    (c.after-then-items-eq3.ensures.gives s (seen c.args.wanted (gives nil s)) (c.seen.ensures.gives s (gives nil s) (c.nothing.ensures.gives s)))
 
 pub chosen-returns-clause-gives : goal.chosen-returns-clause-gives
 chosen-returns-clause-gives t c =
-    choice_other c.args.names.now c.args.world.now.0 c.evaluate.new.world.0 c.evaluate-2.new.world.0 c.args.items.now c.index-items-1.result c.index-items-3.result c.in-Ok.test c.after-2.result
-    c.requires.counted c.if-items-eq3.false c.index-items-1.is c.index-items-3.is c.in-Ok.ensures.gives (sym c.is_true.ensures ∙ c.if-is_true.false) (c.after-2.ensures.gives c.evaluate-2.new.world.0 (value c.args.names.now c.evaluate.new.world.0 (object_of c.index-items-3.result)) c.evaluate-2.ensures.gives)
+    choice_other c.args.wanted c.args.names.now c.args.world.now.0 c.evaluate_for.new.world.0 c.evaluate_for-2.new.world.0 c.args.items.now c.index-items-1.result c.index-items-3.result c.in-Ok.test c.after-2.result
+    c.requires.counted c.if-items-eq3.false c.index-items-1.is c.index-items-3.is c.in-Ok.ensures.gives (sym c.is_true.ensures ∙ c.if-is_true.false)
+    (c.after-2.ensures.gives c.evaluate_for-2.new.world.0 (seen c.args.wanted (value c.args.names.now c.evaluate_for.new.world.0 (object_of c.index-items-3.result))) c.evaluate_for-2.ensures.gives)
 
-pub evaluate-returns-in-Ok-clause-value : goal.evaluate-returns-in-Ok-clause-value
-evaluate-returns-in-Ok-clause-value t c =
+pub evaluate_for-returns-in-Ok-clause-value : goal.evaluate_for-returns-in-Ok-clause-value
+evaluate_for-returns-in-Ok-clause-value t c =
+    let so = evaluated_so c.args.wanted (value c.args.names.now c.args.world.now.0 (object_of c.args.form.now)) (done c.in-Ok.evaluated c.any_form.new.world.0) c.in-Ok.ensures.gives in
+    let d : Done Object = record { value = so.0; state = c.any_form.new.world.0; wrote = c.in-Ok.evaluated.wrote } in
     record {
       proper = c.in-Ok.ensures.proper;
-      value = (good_value c.args.names.now c.args.world.now.0 (object_of c.args.form.now) (done c.in-Ok.evaluated c.any_form.new.world.0) c.requires.names c.soundness.ensures.present c.requires.form.value c.in-Ok.ensures.gives).value;
+      value = subst (IsValue c.any_form.new.world.0.packages) so.2
+          (stand_in_value c.args.wanted c.any_form.new.world.0.packages so.0 ((good_value c.args.names.now c.args.world.now.0 (object_of c.args.form.now) d c.requires.names c.soundness.ensures.present c.requires.form.value so.1).value));
     }
 
-pub evaluate-returns-in-Ok-clause-kept : goal.evaluate-returns-in-Ok-clause-kept
-evaluate-returns-in-Ok-clause-kept t c =
+pub evaluate_for-returns-in-Ok-clause-kept : goal.evaluate_for-returns-in-Ok-clause-kept
+evaluate_for-returns-in-Ok-clause-kept t c =
+    let so = evaluated_so c.args.wanted (value c.args.names.now c.args.world.now.0 (object_of c.args.form.now)) (done c.in-Ok.evaluated c.any_form.new.world.0) c.in-Ok.ensures.gives in
+    let d : Done Object = record { value = so.0; state = c.any_form.new.world.0; wrote = c.in-Ok.evaluated.wrote } in
     argument_grown c.args.world.now.0.packages c.any_form.new.world.0.packages
-    (good_value c.args.names.now c.args.world.now.0 (object_of c.args.form.now) (done c.in-Ok.evaluated c.any_form.new.world.0) c.requires.names c.soundness.ensures.present c.requires.form.value c.in-Ok.ensures.gives).grows
+    (good_value c.args.names.now c.args.world.now.0 (object_of c.args.form.now) d c.requires.names c.soundness.ensures.present c.requires.form.value so.1).grows
 
 pub extended-returns-in-Err-clause-gives : goal.extended-returns-in-Err-clause-gives
 extended-returns-in-Err-clause-gives t c =
-    followed_stops c.args.names.now (map object_of c.loop-i.values.values.items) c.loop-i.values.wrote c.loop-i.world.0 c.evaluate.new.world.0 c.evaluate.new.world.0 c.args.forms.now c.loop-i.i c.index-forms-i.result c.in-Err.error
-    (followed c.args.names.now (map object_of c.args.values.values.items) c.args.values.wrote c.args.world.now.0 (list_of (map object_of (drop c.args.from c.args.forms.now)))) c.loop-i.invariant.same c.loop-i-test.true c.index-forms-i.is c.in-Err.ensures.gives
+    followed_stops c.args.names.now (map object_of c.loop-i.values.values.items) c.loop-i.values.wrote c.loop-i.world.0 c.evaluate_for.new.world.0 c.evaluate_for.new.world.0 c.args.forms.now c.loop-i.i c.index-forms-i.result c.in-Err.error
+    (followed c.args.names.now (map object_of c.args.values.values.items) c.args.values.wrote c.args.world.now.0 (list_of (map object_of (drop c.args.from c.args.forms.now)))) c.loop-i.invariant.same c.loop-i-test.true c.index-forms-i.is
+    (refused_so Value c.in-Err.error c.evaluate_for.new.world.0 c.evaluate_for.new.world.0 (value c.args.names.now c.loop-i.world.0 (object_of c.index-forms-i.result)) c.in-Err.ensures.gives)
 
 pub extended-loop-i-preserved : goal.extended-loop-i-preserved
 extended-loop-i-preserved t c =
     let more = c.in_ok-values.ensures in
     record {
       same = c.loop-i.invariant.same
-          ∙ followed_step c.args.names.now (map object_of c.loop-i.values.values.items) c.loop-i.values.wrote c.loop-i.world.0 c.args.forms.now c.loop-i.i c.index-forms-i.result (object_of c.in-Ok.evaluated.value) c.evaluate.new.world.0 c.in-Ok.evaluated.wrote
-          c.loop-i-test.true c.index-forms-i.is c.in-Ok.ensures.gives
-          ∙ ap (λ xs. followed c.args.names.now xs (c.loop-i.values.wrote || c.in-Ok.evaluated.wrote) c.evaluate.new.world.0 (list_of (map object_of (drop (c.loop-i.i + 1) c.args.forms.now))))
+          ∙ followed_step c.args.names.now (map object_of c.loop-i.values.values.items) c.loop-i.values.wrote c.loop-i.world.0 c.args.forms.now c.loop-i.i c.index-forms-i.result (object_of c.in-Ok.evaluated.value) c.evaluate_for.new.world.0 c.in-Ok.evaluated.wrote
+          c.loop-i-test.true c.index-forms-i.is (sym (seen_value (value c.args.names.now c.loop-i.world.0 (object_of c.index-forms-i.result))) ∙ c.in-Ok.ensures.gives)
+          ∙ ap (λ xs. followed c.args.names.now xs (c.loop-i.values.wrote || c.in-Ok.evaluated.wrote) c.evaluate_for.new.world.0 (list_of (map object_of (drop (c.loop-i.i + 1) c.args.forms.now))))
           (sym (ap (map object_of) more.0 ∙ map-append object_of c.loop-i.values.values.items (c.in-Ok.evaluated.value ∷ [])))
-          ∙ ap (λ w. followed c.args.names.now (map object_of c.in_ok-values.values.values.items) w c.evaluate.new.world.0 (list_of (map object_of (drop (c.loop-i.i + 1) c.args.forms.now)))) (sym more.1);
-      values = all_more c.evaluate.new.world.0.packages c.loop-i.values.values.items c.in_ok-values.values.values.items c.in-Ok.evaluated.value more.0 (λ k d h. c.in-Ok.ensures.kept _ (c.loop-i.invariant.values k d h)) c.in-Ok.ensures.value;
+          ∙ ap (λ w. followed c.args.names.now (map object_of c.in_ok-values.values.values.items) w c.evaluate_for.new.world.0 (list_of (map object_of (drop (c.loop-i.i + 1) c.args.forms.now)))) (sym more.1);
+      values = all_more c.evaluate_for.new.world.0.packages c.loop-i.values.values.items c.in_ok-values.values.values.items c.in-Ok.evaluated.value more.0 (λ k d h. c.in-Ok.ensures.kept _ (c.loop-i.invariant.values k d h)) c.in-Ok.ensures.value;
       forms = λ k d h. c.in-Ok.ensures.kept _ (c.loop-i.invariant.forms k d h);
       kept = λ d is. c.in-Ok.ensures.kept d (c.loop-i.invariant.kept d is);
       marked = c.in-Ok.ensures.marked ∙ c.loop-i.invariant.marked;
@@ -159,13 +157,14 @@ extended-returns-clause-gives t c =
 
 pub list_form-returns-in-Ok-clause-gives : goal.list_form-returns-in-Ok-clause-gives
 list_form-returns-in-Ok-clause-gives t c =
-    subst (Answers done c.act.result c.act.new.world.0)
+    subst (λ o. Answers done c.act.result c.act.new.world.0 (seen c.args.wanted o))
     (sym (head_form c.args.names.now c.args.world.now.0 c.args.items.now c.as_slice-items.result.now c.index-items-0.result c.in-Ok.operation c.as_slice-items.ensures c.requires.some c.index-items-0.is (c.in-Ok.ensures.head c.args.names.now)))
     c.act.ensures.gives
 
 pub list_form-returns-in-Err-clause-gives : goal.list_form-returns-in-Err-clause-gives
 list_form-returns-in-Err-clause-gives t c =
-    head_refused c.args.names.now c.args.world.now.0 c.args.world.now.0 c.args.items.now c.as_slice-items.result.now c.index-items-0.result c.in-Err.error c.as_slice-items.ensures c.requires.some c.index-items-0.is (c.in-Err.ensures.head c.args.names.now)
+    refused_seen c.args.wanted c.in-Err.error c.args.world.now.0 (value c.args.names.now c.args.world.now.0 (list_of (map object_of c.args.items.now)))
+    (head_refused c.args.names.now c.args.world.now.0 c.args.world.now.0 c.args.items.now c.as_slice-items.result.now c.index-items-0.result c.in-Err.error c.as_slice-items.ensures c.requires.some c.index-items-0.is (c.in-Err.ensures.head c.args.names.now))
 
 pub subforms-extended-requires : goal.subforms-extended-requires
 subforms-extended-requires t c =
@@ -188,3 +187,49 @@ subforms-returns-in-List-clause-gives t c =
 pub subforms-returns-in-Symbol-clause-gives : goal.subforms-returns-in-Symbol-clause-gives
 subforms-returns-in-Symbol-clause-gives t c =
     ap (subforms c.args.names.now (map object_of c.args.values.values.items) c.args.values.wrote c.args.world.now.0) (ap object_of c.in-Symbol.is ∙ object_of-Symbol c.in-Symbol.package c.in-Symbol.name)
+
+pub sequence-returns-then-last-eq0-clause-gives : goal.sequence-returns-then-last-eq0-clause-gives
+sequence-returns-then-last-eq0-clause-gives t c =
+    let s = c.args.world.now.0 in
+    let o = sequence_value c.args.names.now s (arguments_of (map object_of c.args.items.now)) in
+    c.seen.ensures.gives s o (subst (Answers done c.nothing.result s) (sym (no_forms c.args.names.now s c.args.items.now (omega (arith, c.if-last-eq0.true)))) (c.nothing.ensures.gives s))
+
+pub sequence-returns-in-Err-clause-gives : goal.sequence-returns-in-Err-clause-gives
+sequence-returns-in-Err-clause-gives t c =
+    let o = sequence_value c.args.names.now c.args.world.now.0 (arguments_of (map object_of c.args.items.now)) in
+    refused_seen c.args.wanted c.in-Err.error c.evaluate_for.new.world.0 o
+    (also_refused c.in-Err.error c.evaluate_for.new.world.0 c.loop-i.wrote o (sequence_value c.args.names.now c.loop-i.world.0 (list_of (map object_of (drop c.loop-i.i c.args.items.now)))) c.loop-i.invariant.same
+    (sequence_stops c.args.names.now c.loop-i.world.0 c.evaluate_for.new.world.0 c.evaluate_for.new.world.0 c.args.items.now c.loop-i.i c.index-items-i.result c.in-Err.error (omega (arith, c.loop-i-test.true)) c.index-items-i.is
+    (refused_so Nothing c.in-Err.error c.evaluate_for.new.world.0 c.evaluate_for.new.world.0 (value c.args.names.now c.loop-i.world.0 (object_of c.index-items-i.result)) c.in-Err.ensures.gives)))
+
+pub sequence-loop-i-preserved : goal.sequence-loop-i-preserved
+sequence-loop-i-preserved t c =
+    let so = evaluated_so Nothing (value c.args.names.now c.loop-i.world.0 (object_of c.index-items-i.result)) (done c.in-Ok.evaluated c.evaluate_for.new.world.0) c.in-Ok.ensures.gives in
+    let next = sequence_value c.args.names.now c.evaluate_for.new.world.0 (list_of (map object_of (drop (c.loop-i.i + 1) c.args.items.now))) in
+    record {
+      same = c.loop-i.invariant.same
+          ∙ ap (also c.loop-i.wrote) (sequence_step c.args.names.now c.loop-i.world.0 c.evaluate_for.new.world.0 c.args.items.now c.loop-i.i c.index-items-i.result so.0 c.in-Ok.evaluated.wrote (omega (arith, c.loop-i-test.true)) c.index-items-i.is so.1)
+          ∙ also_also c.loop-i.wrote c.in-Ok.evaluated.wrote next
+          ∙ ap (λ w. also w next) (sym c.either-wrote.ensures);
+      forms = λ k d h. c.in-Ok.ensures.kept _ (c.loop-i.invariant.forms k d h);
+      marked = c.in-Ok.ensures.marked ∙ c.loop-i.invariant.marked;
+    }
+
+pub sequence-returns-clause-gives : goal.sequence-returns-clause-gives
+sequence-returns-clause-gives t c =
+    let names = c.args.names.now in
+    let s = c.loop-i.world.0 in
+    let items = c.args.items.now in
+    let last = value names s (object_of c.index-items-last.result) in
+    let end : c.loop-i.i ≡ length items - 1 = omega arith in
+    subst (Answers done c.after.result c.evaluate_for-2.new.world.0)
+    (sym (ap (seen c.args.wanted) (c.loop-i.invariant.same
+    ∙ ap (λ n. also c.loop-i.wrote (sequence_value names s (list_of (map object_of (drop n items))))) end
+    ∙ ap (also c.loop-i.wrote) (sequence_last names s items (length items - 1) c.index-items-last.result (omega (arith, c.requires.counted)) c.index-items-last.is))
+    ∙ seen_also c.args.wanted c.loop-i.wrote last))
+    (c.after.ensures.gives c.evaluate_for-2.new.world.0 (seen c.args.wanted last) c.evaluate_for-2.ensures.gives)
+
+pub ordinary-returns-in-Ok-gathered-clause-gives : goal.ordinary-returns-in-Ok-gathered-clause-gives
+ordinary-returns-in-Ok-gathered-clause-gives t c =
+    performed c.args.task.wanted c.args.names.now c.args.task.operation c.in-Ok.place c.args.world.now.0 c.gathered.new.world.0 c.perform.new.world.0 (arguments_of (map object_of c.args.items.now)) c.in-Ok-gathered.values c.perform.result
+    c.requires.ordinary c.in-Ok.ensures.refusal c.in-Ok.ensures.value c.in-Ok-gathered.ensures.gives c.perform.ensures.gives

@@ -1,7 +1,8 @@
 use Rattle.std.proofs.Common.{◌≡◌, All, map, drop}
 use Rattle.lisp_object.specs.Object.{list_of}
 use Rattle.lisp_object.specs.Datum.{object_of}
-use Rattle.evaluator.specs.Gathered.{followed}
+use Rattle.lisp_operators.specs.Evaluation.{also}
+use Rattle.evaluator.specs.Gathered.{followed, arguments_of, sequence_value}
 use Rattle.lisp_operators.specs.Evaluated.{IsArgument, KeepsArguments}
 use Rattle.evaluator.proofs.evaluation.+evaluation.Given as goal
 
@@ -12,5 +13,13 @@ invariant-extended-loop-i l = record {
   values : All (IsArgument l.world.0.packages) l.values.values.items;
   forms : All (IsArgument l.world.0.packages) l.forms;
   kept : KeepsArguments l.fn.world.0.packages l.world.0.packages;
+  marked : l.world.1 ≡ l.fn.world.1;
+}
+
+abbrev pub invariant-sequence-loop-i : goal.invariant-sequence-loop-i
+invariant-sequence-loop-i l = record {
+  same : sequence_value l.names l.fn.world.0 (arguments_of (map object_of l.items))
+      ≡ also l.wrote (sequence_value l.names l.world.0 (list_of (map object_of (drop l.i l.items))));
+  forms : All (IsArgument l.world.0.packages) l.items;
   marked : l.world.1 ≡ l.fn.world.1;
 }

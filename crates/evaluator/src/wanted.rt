@@ -1,0 +1,68 @@
+//! What is asked of the value of a form, and what stands for a value of which less is asked.
+ghost use Rattle.std.specs.Prelude.{◌≡◌, IfOk};
+ghost use Rattle.lisp_object.specs.Object.{Object};
+ghost use Rattle.plist_state.specs.State.{WorldState};
+ghost use Rattle.lisp_operators.specs.Evaluation.{Evaluation};
+ghost use Rattle.lisp_object.specs.Datum.{object_of};
+ghost use Rattle.lisp_operators.specs.Evaluated.{Answers, done, IsProper, IsProperValue};
+ghost use Rattle.evaluator.specs.Wanted.{stand_in, seen};
+
+use crate::operation::Operation;
+use lisp_object::Datum;
+use lisp_operators::{Evaluated, EvaluationError, kinds};
+
+/// What is asked of the value of a form.
+#[derive(Clone, Copy, Debug, PartialEq, Eq)]
+pub(crate) enum Wanted {
+    /// The value itself.
+    Value,
+    /// Whether it is true.
+    Truth,
+    /// Nothing: the form is evaluated for what it does.
+    Nothing,
+}
+
+/// An operator, and what is asked of the value of its form.
+#[derive(Clone, Copy, Debug, PartialEq, Eq)]
+pub(crate) struct Task {
+    pub operation: Operation,
+    pub wanted: Wanted,
+}
+
+/// The value, or what stands for it.
+fn stand_in(value: Datum, wanted: Wanted) -> Datum
+    requires { IsProper value }
+    ensures object { object_of result ≡ stand_in wanted (object_of value) }
+    ensures proper { IsProper result }
+{
+    match wanted {
+        Wanted::Value => value,
+        Wanted::Truth => {
+            if kinds::is_true(&value) {
+                Datum::Integer(1)
+            } else {
+                value
+            }
+        }
+        Wanted::Nothing => Datum::Integer(1),
+    }
+}
+
+/// What was evaluated, with what stands for its value.
+pub(crate) fn seen(
+    evaluated: Result<Evaluated, EvaluationError>,
+    wanted: Wanted,
+) -> Result<Evaluated, EvaluationError>
+    requires { IfOk evaluated IsProperValue }
+    ensures gives { (s : WorldState) (o : Evaluation Object)
+        → Answers done evaluated s o → Answers done result s (seen wanted o) }
+    ensures proper { IfOk result IsProperValue }
+{
+    match evaluated {
+        Ok(Evaluated { value, wrote }) => Ok(Evaluated {
+            value: stand_in(value, wanted),
+            wrote,
+        }),
+        Err(error) => Err(error),
+    }
+}
