@@ -1,15 +1,13 @@
 //! A form as one transaction, where its value is not asked for.
-ghost use Rattle.std.specs.Prelude.{◌≡◌, ◌∷◌, ◌++◌, [], true, IfOk, IfErr};
+ghost use Rattle.std.specs.Prelude.{◌≡◌, ◌∷◌, ◌++◌, [], IfOk, IfErr};
 ghost use Rattle.lisp_object.specs.Datum.{object_of};
-ghost use Rattle.package_table.specs.Symbols.{are_there};
 ghost use Rattle.form_eval.specs.Acceptance.{accept};
-ghost use Rattle.lisp_operators.specs.Evaluated.{IsProper};
 ghost use Rattle.lisp_operators.specs.Effects.{Leaves};
 ghost use Rattle.lisp_operators.specs.Readtables.{AreFunctionNames};
-ghost use Rattle.form_eval.specs.Laws.{IsForm};
+ghost use Rattle.form_eval.specs.Laws.{MayEvaluate};
 
+use crate::read_form::ReadForm;
 use crate::transaction::{are_names, intern_symbols};
-use lisp_object::Datum;
 use lisp_operators::{EvaluationError, either};
 use plist_state::World;
 use readtable_core::FnName;
@@ -25,62 +23,35 @@ pub fn apply<M: Meaning>(
     alloc: Global,
     world: &mut World,
     macros: &M,
-    form: &Datum,
+    form: &ReadForm,
 ) -> Result<bool, EvaluationError>
-    requires proper { IsProper form.now }
-    requires form { IsForm world.old.0.packages (object_of form.now) }
+    requires form { MayEvaluate world.old.0.packages form.now }
     ensures gives { Leaves result world.new.0
-        (accept M.functions.names world.old.0 (object_of form.now)) }
+        (accept M.functions.names world.old.0 (object_of form.now.datum)) }
     ensures marked { IfOk result (λ _. world.new.1 ≡ world.old.1 ++ world.old.0 ∷ []) }
     ensures unchanged { IfErr result (λ _. world.new ≡ world.old) }
 {
     let names = macros.names();
     are_names(names);
-    perform(alloc, world, names, form, false)
+    perform(alloc, world, names, form)
 }
 
-/// Does what `apply` does with a form whose symbols are all there, and looks none of them up.
-///
-/// # Errors
-/// Those of `accept`.
-pub fn apply_known<M: Meaning>(
-    alloc: Global,
-    world: &mut World,
-    macros: &M,
-    form: &Datum,
-) -> Result<bool, EvaluationError>
-    requires proper { IsProper form.now }
-    requires form { IsForm world.old.0.packages (object_of form.now) }
-    requires known { are_there world.old.0.packages (object_of form.now) ≡ true }
-    ensures gives { Leaves result world.new.0
-        (accept M.functions.names world.old.0 (object_of form.now)) }
-    ensures marked { IfOk result (λ _. world.new.1 ≡ world.old.1 ++ world.old.0 ∷ []) }
-    ensures unchanged { IfErr result (λ _. world.new ≡ world.old) }
-{
-    let names = macros.names();
-    are_names(names);
-    perform(alloc, world, names, form, true)
-}
-
-// A form as a transaction, whose value is not asked for. Where `known`, its symbols are all there.
+// A form as a transaction, whose value is not asked for.
 fn perform(
     alloc: Global,
     world: &mut World,
     names: &[FnName],
-    form: &Datum,
-    known: bool,
+    form: &ReadForm,
 ) -> Result<bool, EvaluationError>
     requires names { AreFunctionNames names.now }
-    requires proper { IsProper form.now }
-    requires form { IsForm world.old.0.packages (object_of form.now) }
-    requires known { known ≡ true → are_there world.old.0.packages (object_of form.now) ≡ true }
+    requires form { MayEvaluate world.old.0.packages form.now }
     ensures gives { Leaves result world.new.0
-        (accept names.now world.old.0 (object_of form.now)) }
+        (accept names.now world.old.0 (object_of form.now.datum)) }
     ensures marked { IfOk result (λ _. world.new.1 ≡ world.old.1 ++ world.old.0 ∷ []) }
     ensures unchanged { IfErr result (λ _. world.new ≡ world.old) }
 {
     let mark = world.mark()?;
-    match run(alloc, world, names, form, known) {
+    match run(alloc, world, names, form) {
         Ok(wrote) => Ok(wrote),
         Err(error) => {
             world.back_to(mark);
@@ -94,23 +65,20 @@ fn run(
     alloc: Global,
     world: &mut World,
     names: &[FnName],
-    form: &Datum,
-    known: bool,
+    form: &ReadForm,
 ) -> Result<bool, EvaluationError>
     requires names { AreFunctionNames names.now }
-    requires proper { IsProper form.now }
-    requires form { IsForm world.old.0.packages (object_of form.now) }
-    requires known { known ≡ true → are_there world.old.0.packages (object_of form.now) ≡ true }
+    requires form { MayEvaluate world.old.0.packages form.now }
     ensures gives { Leaves result world.new.0
-        (accept names.now world.old.0 (object_of form.now)) }
+        (accept names.now world.old.0 (object_of form.now.datum)) }
     ensures marked { world.new.1 ≡ world.old.1 }
 {
     world.soundness();
-    let interned = match intern_symbols(alloc, world, form, known) {
+    let interned = match intern_symbols(alloc, world, form) {
         Ok(interned) => interned,
         Err(error) => return Err(EvaluationError::from(error)),
     };
-    match evaluator::apply(alloc, world, names, form) {
+    match evaluator::apply(alloc, world, names, &form.datum) {
         Ok(wrote) => Ok(either(interned, wrote)),
         Err(error) => Err(error),
     }

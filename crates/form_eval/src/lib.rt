@@ -4,17 +4,19 @@
 //! crate `evaluator`). `laws` proves what holds of every form. The function `accept` does with a `World` exactly what the
 //! definition says, and leaves the world as it was where a form is refused.
 //!
-//! - `transaction`: `accept`; `application`: `apply`, which does the same and gives no value; both have a twin for a form
-//!   whose symbols are all there
+//! - `read_form`: a form that was read, and whether its symbols are known to be there
+//! - `transaction`: `accept`; `application`: `apply`, which does the same and gives no value
 //! - `symbols`: the symbols of a datum; `interning`: they are interned in their homes
 #![tactic(auto)]
 
 mod application;
 mod interning;
 pub mod laws;
+mod read_form;
 mod symbols;
 mod transaction;
 
-pub use application::{apply, apply_known};
+pub use application::apply;
 pub use lisp_operators::{Evaluated, EvaluationError};
-pub use transaction::{accept, accept_known};
+pub use read_form::ReadForm;
+pub use transaction::accept;

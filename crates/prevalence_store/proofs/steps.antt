@@ -22,3 +22,4 @@ pub mod Counting
 pub mod Gathered
 pub mod CommittingGroups
 pub mod TakingGroups
+pub mod Storing

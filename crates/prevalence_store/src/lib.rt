@@ -9,6 +9,10 @@
 //!   those that it acknowledged. `execute` takes its one form, and acknowledges it if it answers `Accepted`; `serve` takes
 //!   the forms that it reads and accepts, and has acknowledged all whose answers were written whole; `run` those of its steps;
 //!   `snapshot` and `close` take none.
+//! - *Between calls* (`Store::keeps_its_world`): whatever a crash leaves while a store is in no call means the world that it has.
+//! - *Before an answer* (`write_lines` of `session::output`): all that a session writes goes out by one function, which does not touch
+//!   the disk. It asks that whatever a crash leaves now means the world after all forms whose lines it is handed. So of a session
+//!   that is stopped at any moment, all that was answered is there.
 //! - *What opening gives* (`Reopens`): if the files mean a world, `Store::open` gives that world, or a refusal that is no
 //!   word on the files. While it opens, a crash leaves what the files might have meant before. A refusal gives the disk back.
 //! - *The two together* (`headline`): after an opening and any calls in a row, a crash at any moment and an opening of what it leaves give
@@ -38,8 +42,8 @@
 //!
 //! - `store` with `open`, `execute`, `execute_all`, `snapshot` and `run`: the store, on the log of `gate_log`. `commit` evaluates a
 //!   form and logs it, `group` those of many texts;
-//!   `replay` makes the world again from the records of a log; `setting` says under what a text is read, by the mode, and what it
-//!   begins with (`form_reader`).
+//!   `replay` makes the world again from the records of a log; `setting` says under what a text is read, by the mode, and what it is
+//!   as one form (`form_reader`).
 //! - `session`: `serve`, and its parts: `input` and `output`, the streams; `answer`, what becomes of a form that was read;
 //!   `gather`, forms that are evaluated one after the other and logged together, and `together`, the answers to them; `schedule`,
 //!   when it takes snapshots; `course`, how far it has come.

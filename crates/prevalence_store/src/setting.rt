@@ -3,11 +3,13 @@ ghost use Rattle.std.specs.Prelude.{◌≡◌, ◌≤◌, true, IfOk};
 ghost use Rattle.package_table.specs.Table.{IsPackage};
 ghost use Rattle.form_reader.specs.Reader.{IsOutcome};
 ghost use Rattle.prevalence_store.specs.meaning.Acceptance.{base_in, package_in, read_in, table_in};
-ghost use Rattle.prevalence_store.specs.steps.Setting.{AreThere};
+ghost use Rattle.prevalence_store.specs.steps.Setting.{AreThere, IsWhole};
 ghost use Rattle.user_macros.specs.Functions.{are_registered};
 
 use crate::mode::Mode;
+use form_eval::ReadForm;
 use form_reader::{Limits, ReadOutcome, read_one};
+use lisp_object::refusal::{END_OF_FILE, TEXT_LEFT_OVER};
 use plain_reader::read_plain;
 use plist_state::World;
 use readtable_core::Readtable;
@@ -28,7 +30,7 @@ pub(crate) fn readtable_in(world: &World, mode: Mode) -> &Readtable
 /// The package in which a text is read.
 pub(crate) fn package_in(world: &World, mode: Mode) -> &[u8]
     ensures name { result.now ≡ package_in world.now.0 mode }
-    ensures known { IsPackage world.now.0.packages result.now }
+    ensures is_package { IsPackage world.now.0.packages result.now }
 {
     world.soundness();
     match mode {
@@ -49,16 +51,61 @@ pub(crate) fn base_in(world: &World, mode: Mode) -> u8
     }
 }
 
-/// What a text begins with.
+/// What a text is that is to be one form.
 #[derive(Drop)]
-pub(crate) struct Beginning {
-    pub(crate) outcome: ReadOutcome,
-    /// Whether each symbol of a form is known to be there already.
-    pub(crate) known: bool,
+pub(crate) enum WholeText {
+    /// A form, and from where to where its own text goes.
+    Form {
+        form: ReadForm,
+        start: usize,
+        end: usize,
+    },
+    /// It is refused with this number: it is not read, there is no object in it, or more comes after the object.
+    Refused(u16),
 }
 
-/// What a text begins with.
-pub(crate) fn begins<R: MacroFunctions>(
+/// What a text is that is to be one form.
+pub(crate) fn read_whole<R: MacroFunctions>(
+    alloc: Global,
+    world: &World,
+    macros: &R,
+    mode: Mode,
+    text: &[u8],
+) -> Result<WholeText, AllocError>
+    requires answers { R.answers macros.now }
+    requires whole { are_registered R.Meaning.functions (R.functions macros.now) ≡ true }
+    ensures { IfOk result (IsWhole R.Meaning.functions world.now.0 mode text.now) }
+{
+    world.soundness();
+    let Beginning { outcome, known } = begins(alloc, world, macros, mode, text)?;
+    match outcome {
+        ReadOutcome::Empty => Ok(WholeText::Refused(END_OF_FILE)),
+        ReadOutcome::Refused { code, at: _ } => Ok(WholeText::Refused(code)),
+        ReadOutcome::Form {
+            datum,
+            start,
+            end,
+            next,
+        } => {
+            if next != text.len() {
+                return Ok(WholeText::Refused(TEXT_LEFT_OVER));
+            }
+            let form = ReadForm { datum, known };
+            Ok(WholeText::Form { form, start, end })
+        }
+    }
+}
+
+// What a text begins with.
+#[derive(Drop)]
+struct Beginning {
+    outcome: ReadOutcome,
+    // whether each symbol of a form is known to be there already
+    known: bool,
+}
+
+// What a text begins with.
+fn begins<R: MacroFunctions>(
     alloc: Global,
     world: &World,
     macros: &R,
@@ -69,7 +116,7 @@ pub(crate) fn begins<R: MacroFunctions>(
     requires whole { are_registered R.Meaning.functions (R.functions macros.now) ≡ true }
     ensures outcome { IfOk result (λ begun. IsOutcome begun.outcome
         (read_in R.Meaning.functions world.now.0 mode text.now)) }
-    ensures known { IfOk result (λ begun. begun.known ≡ true
+    ensures all_there { IfOk result (λ begun. begun.known ≡ true
         → AreThere world.now.0.packages begun.outcome) }
 {
     let (readtable, base) = (readtable_in(world, mode), base_in(world, mode));

@@ -54,7 +54,7 @@ where
 }
 
 // Writes the forms that make the world of an open store.
-fn write_forms<D: Disk, M, O: Write>(
+fn write_forms<D: Disk, M: MacroFunctions, O: Write>(
     alloc: Global,
     store: &Store<D, M>,
     content: Content,

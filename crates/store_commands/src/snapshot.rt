@@ -50,7 +50,7 @@ where
 }
 
 // Tells what became of a snapshot, and answers how that ended.
-fn write_outcome<D: Disk, M, O: Write>(
+fn write_outcome<D: Disk, M: MacroFunctions, O: Write>(
     store: &Store<D, M>,
     outcome: &Outcome,
     output: &mut O,

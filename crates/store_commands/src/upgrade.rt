@@ -68,7 +68,7 @@ fn upgraded<D: Disk, M: MacroFunctions>(store: &mut Store<D, M>) -> Outcome
 }
 
 // Tells what became of an upgrade, and answers how that ended.
-fn write_upgrade<D: Disk, M, O: Write>(
+fn write_upgrade<D: Disk, M: MacroFunctions, O: Write>(
     store: &Store<D, M>,
     outcome: &Outcome,
     output: &mut O,

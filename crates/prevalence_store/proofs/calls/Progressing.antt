@@ -232,6 +232,7 @@ module _ (functions : Functions) where
       were_accepted = ap (λ l. p.taken ++ l) stopped.were_accepted ∙ sym (append_assoc p.taken answered.taken stopped.entries);
       fits = stopped.fits;
       failed = stopped.failed;
+      all_or_none = stopped.all_or_none;
     })
     ends_both forms far lines answered part group (Store number) answered_is (inr (inl stopped)) = inr (inl (record {
       device = stopped.device;
@@ -295,6 +296,7 @@ module _ (functions : Functions) where
     }))))))
     ends_both forms far lines answered part group (Store number) answered_is (inr (inr (inr (inr (inr (inr out)))))) = inr (inr (inr (inr (inr (inr (record {
       memory = out.memory;
+      one_open = let one = out.one_open in omega arith;
       no_part = out.no_part;
       after = after_both functions state sound old mid new w p first.after honest far out.after;
     }))))))

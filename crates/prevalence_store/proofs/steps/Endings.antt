@@ -64,6 +64,7 @@ module _ (functions : Functions) where
       were_accepted = stopped.were_accepted;
       fits = stopped.fits;
       failed = stopped.failed;
+      all_or_none = stopped.all_or_none;
     })
     ends_any forms far lines answered part (Store number) (inr other) = inr other
 
@@ -133,7 +134,7 @@ module _ (functions : Functions) where
 
     unfoldable pub no_memory : (group : Bool) → new ≡ old → written ≡ held → Serves functions state old new w mode text held written group (Store NO_MEMORY)
     no_memory group same quiet = nothing group (Store NO_MEMORY) [] same (writes_nothing held written quiet)
-        (inr (inr (inr (inr (inr (inr (record { memory = refl; no_part = refl; after = after_none text [] [] same })))))))
+        (inr (inr (inr (inr (inr (inr (record { memory = refl; one_open = omega arith; no_part = refl; after = after_none text [] [] same })))))))
 
     unfoldable pub done : (group : Bool) → new ≡ old → written ≡ held → empty ≡ read_in functions w mode text → Serves functions state old new w mode text held written group End
     done group same quiet is = nothing group End [] same (writes_nothing held written quiet)
@@ -156,4 +157,4 @@ module _ (functions : Functions) where
         (inr (inr (inr (inr (inr (inl (record { output = full.0; unwritten = part.1; some_left = part.3; front = ap last_line is ∙ part.2; in_form = λ some. absurd (omega arith); after = after_none text [] [] same })))))))
     fault_answered group number at is same (Store code) (inr memory) =
         nothing group (Store code) [] same (writes_nothing held written memory.1)
-        (inr (inr (inr (inr (inr (inr (record { memory = memory.0; no_part = refl; after = after_none text [] [] same })))))))
+        (inr (inr (inr (inr (inr (inr (record { memory = memory.0; one_open = omega arith; no_part = refl; after = after_none text [] [] same })))))))

@@ -31,7 +31,7 @@ use Rattle.prevalence_store.proofs.meaning.Replaying.{stepped}
 use Rattle.prevalence_store.specs.calls.Streams.{Writes, WritesPart}
 use Rattle.prevalence_store.specs.steps.Answer.{EndsTry, LeavesRecord, LogsAtOnce, StopsInForm, TriesForm, answered_of}
 use Rattle.prevalence_store.specs.steps.Output.{IsLine, IsStop}
-use Rattle.prevalence_store.proofs.Surviving.{fewer_survive, unchanged_survives}
+use Rattle.prevalence_store.proofs.Surviving.{all_or_none_of_one, fewer_survive, unchanged_survives}
 use Rattle.user_macros.specs.Functions.{Functions}
 use Rattle.prevalence_store.proofs.steps.Endings.{writes_nothing, part_of, after_one_form, after_none, nothing}
 
@@ -224,7 +224,7 @@ module _ (functions : Functions) where
     out_of_memory number memory same quiet = (
       record {
         serves = nothing functions state sound old new w mode text held written known false (Store number) [] same (writes_nothing held written quiet)
-            (inr (inr (inr (inr (inr (inr (record { memory = memory; no_part = refl; after = after_none functions state sound old new w mode text held written known text [] [] same })))))));
+            (inr (inr (inr (inr (inr (inr (record { memory = memory; one_open = omega arith; no_part = refl; after = after_none functions state sound old new w mode text held written known text [] [] same })))))));
         in_form = λ output. absurd (omega arith);
         accepted = refl;
       },
@@ -241,7 +241,7 @@ module _ (functions : Functions) where
         let given = of.accepted w known in (
           taken_only (evaluated w mode own (drop next text) (Ok (done_of e given.0))) [] number (length (records_of e.wrote mode own)) (one_is (Ok (done_of e given.0)) given.1)
               (writes_nothing held written quiet) (of.survives w)
-              (inr (inr (inr (inr (inr (inr (record { memory = stop; no_part = refl; after = after_stores e given.0 given.1 given.2 }))))))),
+              (inr (inr (inr (inr (inr (inr (record { memory = stop; one_open = omega arith; no_part = refl; after = after_stores e given.0 given.1 given.2 }))))))),
           inr (inl (refl, inr stop, (e.wrote, leaves e.wrote given.0 given.2))),
         )
     stops_in (Err (Refused code)) number of stop other quiet = out_of_memory number stop (of.unchanged refl) quiet
@@ -265,6 +265,9 @@ module _ (functions : Functions) where
                 were_accepted = taken;
                 fits = let fits = why.1 in omega arith;
                 failed = failed;
+                all_or_none = λ here claims keeps.
+                    all_or_none_of_one functions (state old.disk) (state new.disk) w (logged mode own)
+                    (of.survives w here claims keeps).any_moment;
               })),
           inr (inr (stop, refl, refl, λ i. record { generation = failed.generation i; record_count = failed.record_count i; size = failed.size i })),
         )

@@ -241,6 +241,7 @@ module _ (functions : Functions) where
                 were_accepted = refl;
                 fits = omega (arith, fault.fits, room_is far.taken);
                 failed = fault.failed;
+                all_or_none = fault.all_or_none;
               });
             };
             paced = inr (inr (inr (record {

@@ -3,10 +3,14 @@ use Rattle.std.proofs.Common.{◌≡◌, ℕ, ◌+◌, ◌-◌, ◌<◌, ◌≤�
 use Rattle.std.proofs.lemmas.Bool.{ltb-true, ltb-false}
 use Rattle.std.proofs.lemmas.List.{drop-append-le}
 use Rattle.lisp_object.specs.Object.{Object}
+use Rattle.lisp_object.specs.Object as object
 use Rattle.lisp_object.specs.Datum.{object_of, is_proper}
 use Rattle.lisp_object.specs.declared.datum.Datum.{Datum}
 use Rattle.readtable_core.specs.Names.{is_among}
 use Rattle.readtable_core.specs.Tables.{Table}
+use Rattle.form_eval.specs.Laws.{MayEvaluate}
+use Rattle.form_eval.specs.declared.read_form.ReadForm.{ReadForm}
+use Rattle.package_table.specs.Symbols.{are_there}
 use Rattle.package_table.specs.Table.{Name, Table as Packages}
 use Rattle.lisp_reading.proofs.Refusals.{refusal_stays}
 use Rattle.lisp_reading.specs.declared.found.Found.{Found}
@@ -33,7 +37,7 @@ use Rattle.user_macros.specs.Functions.{Functions, are_registered, named_among}
 use Rattle.prevalence_store.specs.steps.Input.{HasForm, HasRefusal, IsLastForm, IsPending}
 use Rattle.prevalence_store.specs.steps.Answer.{BeginsWith}
 use Rattle.prevalence_store.proofs.calls.Executing.{form_places, own_whole}
-use Rattle.prevalence_store.proofs.steps.Fitting.{among_same, fits_in}
+use Rattle.prevalence_store.proofs.steps.Fitting.{among_same, fits_in, is_form}
 
 -- the setting of a call, with the functions that are registered, is that of the world
 pub called_setting : (w : WorldState) (mode : Mode) (functions registered : Functions) (limits : Limits) (table : Table) (base : ℕ) (packages : Packages) (current : Name)
@@ -237,3 +241,13 @@ module _ (functions : Functions) (w : WorldState) (mode : Mode) (text : List ℕ
 
   pub begins_fits : IsSound w → IsFitting w.packages x
   begins_fits sound = fits_in functions w mode text x begins.start begins.stop next sound begins.reads
+
+-- it may be evaluated there
+pub may_evaluate : (functions : Functions) (w : WorldState) (mode : Mode) (read : ReadForm) (own : List ℕ) → is_proper read.datum ≡ true → object.IsSound (object_of read.datum)
+    → (read.known ≡ true → are_there w.packages (object_of read.datum) ≡ true)
+    → (text : List ℕ) × ((next : ℕ) × BeginsWith functions w mode text (object_of read.datum) own next) → IsSound w → MayEvaluate w.packages read
+may_evaluate functions w mode read own proper sound all_there b present = record {
+  proper = proper;
+  form = is_form w.packages (object_of read.datum) sound (begins_fits functions w mode b.0 (object_of read.datum) own b.1.0 b.1.1 present);
+  all_there = all_there;
+}

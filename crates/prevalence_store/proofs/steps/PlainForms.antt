@@ -16,7 +16,7 @@ use Rattle.prevalence_store.specs.declared.session.input.Pending.{Pending}
 use Rattle.prevalence_store.specs.declared.mode.Mode.{Mode}
 use Rattle.prevalence_store.specs.meaning.Acceptance.{base_in, form_limits, package_in, setting_in, table_in}
 use Rattle.prevalence_store.specs.declared.session.input.Fed.TheVariants.{Form}
-use Rattle.prevalence_store.specs.declared.session.input.ReadForm.{ReadForm}
+use Rattle.prevalence_store.specs.declared.session.input.PlacedForm.{PlacedForm}
 use Rattle.prevalence_store.specs.steps.Input.{Feeds, HasForm, IsPending}
 use Rattle.prevalence_store.proofs.steps.Pendings.{kept_count}
 
@@ -74,7 +74,7 @@ plain_reads functions w mode limits table base packages current front o f limits
     (subst (λ (o : Option PlainForm). IfSome o (λ f. reads (setting_of limits table base packages current functions) (front ++ more) ≡ form (object_of f.datum) 0 f.end f.end)) is (read functions more))
 
 -- so many bytes of a piece, and then a form that was read of its rest
-pub piece_read : (functions : Functions) (w : WorldState) (mode : Mode) (self new : Pending) (bytes piece : List ℕ) (k count size : ℕ) (o : Option ReadForm) (f : ReadForm)
+pub piece_read : (functions : Functions) (w : WorldState) (mode : Mode) (self new : Pending) (bytes piece : List ℕ) (k count size : ℕ) (o : Option PlacedForm) (f : PlacedForm)
     → o ≡ Some f → count ≡ k → size ≡ length f.own.items → IsPending functions w mode self (bytes ++ take k piece)
     → ((functions : Functions) (bytes : List ℕ) → IsPending functions w mode self bytes
     → IfSome o (λ f. Feeds functions w mode new (bytes ++ take (length f.own.items) (take (length piece - count) (drop count piece))) (Form f false)))
@@ -87,5 +87,5 @@ piece_read functions w mode self new bytes piece k count size o f is same size_i
     ap (λ t. (bytes ++ take k piece) ++ take (length f.own.items) t) all ∙ append_assoc bytes (take k piece) rest
     ∙ ap (λ t. bytes ++ t) (ap (λ n. take n piece ++ rest) (sym same) ∙ sym (take-add count (length f.own.items) piece) ∙ ap (λ n. take (count + n) piece) (sym size_is)) in
     subst (λ (t : List ℕ). Feeds functions w mode new t (Form f false)) whole
-    (subst (λ (o : Option ReadForm). IfSome o (λ f. Feeds functions w mode new ((bytes ++ take k piece) ++ take (length f.own.items) (take (length piece - count) (drop count piece))) (Form f false))) is
+    (subst (λ (o : Option PlacedForm). IfSome o (λ f. Feeds functions w mode new ((bytes ++ take k piece) ++ take (length f.own.items) (take (length piece - count) (drop count piece))) (Form f false))) is
     (feeds functions (bytes ++ take k piece) pending))

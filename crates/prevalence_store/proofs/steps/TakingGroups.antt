@@ -11,7 +11,7 @@ use Rattle.prevalence_store.specs.meaning.Answers.{Progress}
 use Rattle.prevalence_store.specs.steps.Failure.{is_device}
 use Rattle.prevalence_store.specs.steps.Gather.{CommitsGroup, TakesGroup}
 use Rattle.prevalence_store.proofs.steps.Loading.{rises_risen}
-use Rattle.prevalence_store.proofs.steps.Together.{faulted_survive, fails, logs_all, together_survive}
+use Rattle.prevalence_store.proofs.steps.Together.{all_or_none_kept, faulted_survive, fails, logs_all, together_survive}
 use Rattle.user_macros.specs.Functions.{Functions}
 
 module _ (functions : Functions) (wanted : Wanted) {D R : Type 0} (state : D → State) (sound : (d : D) → IsHonest (state d) → IsSound (state d)) (old new : HalvesValue D) (w v : WorldState) (macros : R)
@@ -52,6 +52,7 @@ module _ (functions : Functions) (wanted : Wanted) {D R : Type 0} (state : D →
           fits = logs.fits;
           failed = fails functions state sound old new w v macros far.taken far.world is.again ready did.outcome.used did.limit did.other risen;
           survives = faulted_survive functions state sound old new w v macros far.taken far.world is.again ready logs did.tells.honest risen;
+          all_or_none = all_or_none_kept functions state sound old new w v macros far.taken far.world is.again ready true logs.any_moment;
         };
       }
 

@@ -16,6 +16,7 @@ use Rattle.prevalence_store.specs.declared.outcome.Ending.TheVariants.{End, Read
 use Rattle.prevalence_store.specs.meaning.Acceptance.{after, read_in, setting_in, table_in}
 use Rattle.lisp_reading.specs.Deciding.{decided_from}
 use Rattle.prevalence_store.specs.calls.Execute.{DeviceFails, SurvivesAs}
+use Rattle.prevalence_store.specs.calls.ExecuteAll.{AllOrNone}
 use Rattle.prevalence_store.specs.calls.Store.{LeavesAlone, StoreView, Describes}
 use Rattle.prevalence_store.specs.meaning.Answers.{Progress, after_forms, last_line, refusal_line}
 use Rattle.prevalence_store.specs.calls.Pace.{EndsInPace, IsOverIn, Pace, Paces, fill_of, first_pace}
@@ -136,6 +137,8 @@ module _ (functions : Functions) {D R : Type 0} (state : D → State) (old new :
         pub were_accepted : far.taken ≡ answered.taken ++ entries
         pub fits : mid.size + room_of entries ≤ mid.limit
         pub failed : DeviceFails state mid new (opposite_of mid.half)
+        -- a crash at any moment since leaves all of them, or none
+        pub all_or_none : AllOrNone functions state mid new answered.world entries
 
       -- The device failed in a snapshot, for which there was a half; all forms were answered, and nothing is known of the world.
       pub record IsStoppedInSnapshot (number : ℕ) : Type 0 where
@@ -189,9 +192,10 @@ module _ (functions : Functions) {D R : Type 0} (state : D → State) (old new :
             × ((rest : List ℕ) × (rest ≢ []) × (next.lines ≡ answered.lines ++ part ++ rest))
         pub after : IsAfter functions state old new world far
 
-      -- a growth was refused
+      -- a growth was refused: one form may be in that was not answered, and of a group none
       pub record IsOutOfMemory (number : ℕ) : Type 0 where
         pub memory : number ≡ NO_MEMORY
+        pub one_open : forms ≤ lines + 1
         pub no_part : part ≡ []
         pub after : IsAfter functions state old new world far
 

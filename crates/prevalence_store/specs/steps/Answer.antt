@@ -4,7 +4,8 @@ use Rattle.disk_trait.specs.Disk.{State}
 use Rattle.gate_log.specs.Layout.{LogRecord}
 use Rattle.lisp_object.specs.Object.{Object, IsSound}
 use Rattle.lisp_object.specs.Datum.{object_of, is_proper}
-use Rattle.lisp_object.specs.declared.datum.Datum.{Datum}
+use Rattle.form_eval.specs.declared.read_form.ReadForm.{ReadForm}
+use Rattle.package_table.specs.Symbols.{are_there}
 use Rattle.lisp_operators.specs.declared.evaluated.Evaluated.{Evaluated}
 use Rattle.lisp_object.specs.declared.refusal.TheConstants.{DEVICE, LOG_FULL, OUTPUT, NO_MEMORY}
 use Rattle.lisp_reading.specs.Reading.{form}
@@ -35,12 +36,14 @@ pub record BeginsWith (functions : Functions) (world : WorldState) (mode : Mode)
   pub reads : read_in functions world mode text ≡ form object start stop next
   pub is_own : own ≡ between start stop text
 
--- In this world, if there is one, some text begins with the form of this datum, and this is its own text.
-pub record IsFormOf (functions : Functions) (left : Option WorldState) (mode : Mode) (datum : Datum) (own : List ℕ) : Type 0 where
-  pub known : IsSome left
-  pub read : (world : WorldState) → left ≡ Some world → (text : List ℕ) × ((next : ℕ) × BeginsWith functions world mode text (object_of datum) own next)
-  pub proper : is_proper datum ≡ true
-  pub sound : IsSound (object_of datum)
+-- In the world of a store, which is open, some text begins with this form, and this is its own text. Where the symbols of the form are
+-- known to be there, they are.
+pub record IsFormOf (functions : Functions) (left : Option WorldState) (mode : Mode) (read : ReadForm) (own : List ℕ) : Type 0 where
+  pub is_open : IsSome left
+  pub begins : (world : WorldState) → left ≡ Some world → (text : List ℕ) × ((next : ℕ) × BeginsWith functions world mode text (object_of read.datum) own next)
+  pub proper : is_proper read.datum ≡ true
+  pub sound : IsSound (object_of read.datum)
+  pub all_there : (world : WorldState) → left ≡ Some world → read.known ≡ true → are_there world.packages (object_of read.datum) ≡ true
 
 -- a form that was taken left no record, and the half in use is as it was; or its record was logged so
 abbrev pub LeavesRecord : (LogRecord → Type 0) → List LogRecord → (fill now : Fill) → (wrote : Bool) → Type 0

@@ -26,9 +26,9 @@ pub record IsPending (functions : Functions) (world : WorldState) (mode : Mode) 
   pub more : MayGoOn bytes (read_in functions world mode bytes)
   pub has_begun : HasBegun (setting_in functions world mode) pending.reader bytes
 
--- The world of a store is known, and some bytes are pending in it.
+-- A store is open, and some bytes are pending in its world.
 pub record AwaitsMore (functions : Functions) (left : Option WorldState) (mode : Mode) (pending : Pending) : Type 0 where
-  pub known : IsSome left
+  pub is_open : IsSome left
   pub some : (world : WorldState) → left ≡ Some world → (bytes : List ℕ) × IsPending functions world mode pending bytes
 
 -- The bytes begin with a form, whatever follows them, and this is its own text. What follows the form are the last byte, if
@@ -51,7 +51,7 @@ pub record HasRefusal (functions : Functions) (world : WorldState) (mode : Mode)
 abbrev pub Feeds : Functions → WorldState → Mode → Pending → List ℕ → Fed → Type 0
 Feeds functions world mode pending bytes Nothing = IsPending functions world mode pending bytes
 Feeds functions world mode pending bytes (Form it left) =
-    (has : HasForm functions world mode pending bytes (object_of it.datum) it.own.items left) × (has.start ≡ it.start) × (has.next ≡ it.next)
+    (has : HasForm functions world mode pending bytes (object_of it.read.datum) it.own.items left) × (has.start ≡ it.start) × (has.next ≡ it.next)
 Feeds functions world mode pending bytes (Refused number start at) =
     (is : HasRefusal functions world mode bytes number) × (is.at ≡ at) × BeginsAt (setting_in functions world mode) bytes start
     × IsDecidedFrom (setting_in functions world mode) bytes start
@@ -67,7 +67,7 @@ pub record IsLastForm (functions : Functions) (world : WorldState) (mode : Mode)
 abbrev pub Finishes : Functions → WorldState → Mode → List ℕ → Fed → Type 0
 Finishes functions world mode bytes Nothing = read_in functions world mode bytes ≡ empty
 Finishes functions world mode bytes (Form it left) =
-    (last : IsLastForm functions world mode bytes (object_of it.datum) it.own.items) × (last.start ≡ it.start) × (length bytes ≡ it.next)
+    (last : IsLastForm functions world mode bytes (object_of it.read.datum) it.own.items) × (last.start ≡ it.start) × (length bytes ≡ it.next)
 Finishes functions world mode bytes (Refused number start at) =
     (read_in functions world mode bytes ≡ refused number at) × BeginsAt (setting_in functions world mode) bytes start
     × (decided_from (setting_in functions world mode) bytes ≡ start)
@@ -75,14 +75,14 @@ Finishes functions world mode bytes (Refused number start at) =
 -- a form has a proper datum, and a sound object
 abbrev pub IsSoundFed : Fed → Type 0
 IsSoundFed Nothing = Unit {0}
-IsSoundFed (Form it left) = (is_proper it.datum ≡ true) × IsSound (object_of it.datum)
+IsSoundFed (Form it left) = (is_proper it.read.datum ≡ true) × IsSound (object_of it.read.datum)
 IsSoundFed (Refused number start at) = Unit {0}
 
 -- where they are known to be, the symbols of a form are all in the packages of this world
-abbrev pub AreKnownFed : WorldState → Fed → Type 0
-AreKnownFed world Nothing = Unit {0}
-AreKnownFed world (Form it left) = it.known ≡ true → are_there world.packages (object_of it.datum) ≡ true
-AreKnownFed world (Refused number start at) = Unit {0}
+abbrev pub AreAllThere : WorldState → Fed → Type 0
+AreAllThere world Nothing = Unit {0}
+AreAllThere world (Form it left) = it.read.known ≡ true → are_there world.packages (object_of it.read.datum) ≡ true
+AreAllThere world (Refused number start at) = Unit {0}
 
 -- the places are among so many bytes
 abbrev pub IsWithin : ℕ → Fed → Type 0

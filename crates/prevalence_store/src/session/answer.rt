@@ -4,7 +4,6 @@ ghost use Rattle.lisp_object.specs.Datum.{object_of, is_proper};
 ghost use Rattle.lisp_object.specs.declared.refusal.TheConstants.{LOG_FULL};
 ghost use Rattle.plist_state.specs.State.{WorldState};
 ghost use Rattle.prevalence_store.specs.steps.Answer.{AnswersFault, AnswersForm, AnswersRead, BeginsWith, FitsForm, IsFormOf, TriesForm, answered_of, was_logged};
-ghost use Rattle.prevalence_store.specs.steps.Commit.{AreKnownIn};
 ghost use Rattle.prevalence_store.specs.steps.Output.{IsLine, IsStop};
 ghost use Rattle.prevalence_store.specs.steps.Course.{course_of};
 ghost use Rattle.prevalence_store.specs.steps.Schedule.{pace_of};
@@ -13,13 +12,12 @@ use crate::failure::Failure;
 use crate::mode::Mode;
 use crate::outcome::{Ended, Ending, Wanted};
 use crate::session::course::Course;
-use crate::session::input::ReadForm;
-use crate::session::output::{line_of_answer, line_of_refusal, write_line};
+use crate::session::input::PlacedForm;
+use crate::session::output::{line_of_answer, line_of_refusal};
 use crate::session::schedule::Schedule;
 use crate::store::Store;
 use disk_trait::Disk;
-use form_eval::Evaluated;
-use lisp_object::Datum;
+use form_eval::{Evaluated, ReadForm};
 use lisp_object::refusal::{LOG_FULL, NO_MEMORY, OUTPUT};
 use std::io::Write;
 use user_macros::MacroFunctions;
@@ -54,7 +52,7 @@ impl<D: Disk, R: MacroFunctions> Store<D, R> {
         let Ok(line) = line_of_refusal(self.alloc, number) else {
             return Ending::Store(NO_MEMORY);
         };
-        match write_line(writer, line.as_slice()) {
+        match self.write_lines(writer, line.as_slice()) {
             Ok(()) => Ending::Reader(number),
             Err(_) => Ending::Store(OUTPUT),
         }
@@ -67,15 +65,14 @@ impl<D: Disk, R: MacroFunctions> Store<D, R> {
         writer: &mut W,
         wanted: Wanted,
         course: &mut Course,
-        form: &ReadForm,
+        form: &PlacedForm,
     ) -> Result<(), Ended>
-        requires form { IsFormOf R.Meaning.functions self.old.world wanted.mode form.now.datum form.now.own.items }
-        requires known { AreKnownIn self.old.world form.now.known form.now.datum }
+        requires form { IsFormOf R.Meaning.functions self.old.world wanted.mode form.now.read form.now.own.items }
         requires order { form.now.start < form.now.next }
         requires forms { (course_of course.old).forms ≤ (course_of course.old).bytes }
         requires room { (course_of course.old).bytes + form.now.next < 2 ^ 63 }
         ensures answers { (w : WorldState) → self.old.world ≡ Some w → (text : List ℕ) (next : ℕ)
-            → (begins : BeginsWith R.Meaning.functions w wanted.mode text (object_of form.now.datum) form.now.own.items next)
+            → (begins : BeginsWith R.Meaning.functions w wanted.mode text (object_of form.now.read.datum) form.now.own.items next)
             → begins.start ≡ form.now.start
             → AnswersRead R.Meaning.functions D.state (course_of course.old) (course_of course.new) self.old self.new w wanted
             text (W.contents writer.old) (W.contents writer.new) form.now.start form.now.next result }
@@ -84,9 +81,9 @@ impl<D: Disk, R: MacroFunctions> Store<D, R> {
         ensures honest { (D.state self.new.disk).honest ≡ (D.state self.old.disk).honest }
         ensures macros { self.new.macros ≡ self.old.macros }
     {
-        let (known, own) = (form.known, form.own.as_slice());
+        let own = form.own.as_slice();
         let schedule = &mut course.schedule;
-        match self.answer_form(writer, wanted.mode, schedule, &form.datum, known, own) {
+        match self.answer_form(writer, wanted.mode, schedule, &form.read, own) {
             Err(number) => Err(Ended::Store(number)),
             Ok(answered) => {
                 let place = course.place(form.start, form.start);
@@ -108,20 +105,18 @@ impl<D: Disk, R: MacroFunctions> Store<D, R> {
         writer: &mut W,
         mode: Mode,
         schedule: &mut Schedule,
-        datum: &Datum,
-        known: bool,
+        form: &ReadForm,
         own: &[u8],
     ) -> Result<Answered, u16>
-        requires form { IsFormOf R.Meaning.functions self.old.world mode datum.now own.now }
-        requires known { AreKnownIn self.old.world known datum.now }
+        requires form { IsFormOf R.Meaning.functions self.old.world mode form.now own.now }
         ensures answers { (w : WorldState) → self.old.world ≡ Some w → (text : List ℕ) (next : ℕ)
-            → BeginsWith R.Meaning.functions w mode text (object_of datum.now) own.now next
+            → BeginsWith R.Meaning.functions w mode text (object_of form.now.datum) own.now next
             → AnswersForm R.Meaning.functions D.state self.old self.new w mode (pace_of schedule.old) (pace_of schedule.new)
             text (W.contents writer.old) (W.contents writer.new) result }
         ensures honest { (D.state self.new.disk).honest ≡ (D.state self.old.disk).honest }
         ensures macros { self.new.macros ≡ self.old.macros }
     {
-        match self.fit_form(writer, mode, datum, known, own) {
+        match self.fit_form(writer, mode, form, own) {
             Ok(answered) => match self.renew_after_form(schedule, answered.is_logged()) {
                 None => Ok(answered),
                 Some(number) => Err(number),
@@ -136,21 +131,19 @@ impl<D: Disk, R: MacroFunctions> Store<D, R> {
         &mut self,
         writer: &mut W,
         mode: Mode,
-        datum: &Datum,
-        known: bool,
+        form: &ReadForm,
         own: &[u8],
     ) -> Result<Answered, u16>
-        requires form { IsFormOf R.Meaning.functions self.old.world mode datum.now own.now }
-        requires known { AreKnownIn self.old.world known datum.now }
+        requires form { IsFormOf R.Meaning.functions self.old.world mode form.now own.now }
         ensures fits { (w : WorldState) → self.old.world ≡ Some w → (text : List ℕ) (next : ℕ)
-            → BeginsWith R.Meaning.functions w mode text (object_of datum.now) own.now next
+            → BeginsWith R.Meaning.functions w mode text (object_of form.now.datum) own.now next
             → FitsForm R.Meaning.functions D.state self.old self.new w mode
             text (W.contents writer.old) (W.contents writer.new) result }
-        ensures known { OnOk result (IsSome self.new.world) }
+        ensures is_open { OnOk result (IsSome self.new.world) }
         ensures honest { (D.state self.new.disk).honest ≡ (D.state self.old.disk).honest }
         ensures macros { self.new.macros ≡ self.old.macros }
     {
-        match self.try_form(writer, mode, datum, known, own) {
+        match self.try_form(writer, mode, form, own) {
             Ok(answered) => Ok(answered),
             Err(number) => {
                 if number != LOG_FULL {
@@ -160,7 +153,7 @@ impl<D: Disk, R: MacroFunctions> Store<D, R> {
                 if let Err(number) = self.renew() {
                     return Err(number);
                 }
-                self.try_form(writer, mode, datum, known, own)
+                self.try_form(writer, mode, form, own)
             }
         }
     }
@@ -171,38 +164,37 @@ impl<D: Disk, R: MacroFunctions> Store<D, R> {
         &mut self,
         writer: &mut W,
         mode: Mode,
-        datum: &Datum,
-        known: bool,
+        form: &ReadForm,
         own: &[u8],
     ) -> Result<Answered, u16>
-        requires form { IsFormOf R.Meaning.functions self.old.world mode datum.now own.now }
-        requires known { AreKnownIn self.old.world known datum.now }
+        requires form { IsFormOf R.Meaning.functions self.old.world mode form.now own.now }
         ensures tries { (w : WorldState) → self.old.world ≡ Some w → (text : List ℕ) (next : ℕ)
-            → BeginsWith R.Meaning.functions w mode text (object_of datum.now) own.now next
+            → BeginsWith R.Meaning.functions w mode text (object_of form.now.datum) own.now next
             → TriesForm R.Meaning.functions D.state self.old self.new w mode
             text (W.contents writer.old) (W.contents writer.new) result }
         ensures unchanged { IfErr result (λ number. number ≡ LOG_FULL → self.new ≡ self.old) }
         ensures quiet { IfErr result (λ number. number ≡ LOG_FULL
             → W.contents writer.new ≡ W.contents writer.old) }
-        ensures known { OnOk result (IsSome self.new.world) }
+        ensures is_open { OnOk result (IsSome self.new.world) }
         ensures honest { (D.state self.new.disk).honest ≡ (D.state self.old.disk).honest }
         ensures macros { self.new.macros ≡ self.old.macros }
     {
         self.world.soundness();
-        let answer = self.take_form(mode, datum, known, own);
+        self.keeps_its_world();
+        let answer = self.take_form(mode, form, own);
         let line = match self.line(&answer) {
             Ok(line) => line,
             Err(number) => return Err(number),
         };
         // what is answered is stored: a line comes after its record
-        match write_line(writer, line.as_slice()) {
+        match self.write_lines(writer, line.as_slice()) {
             Ok(()) => Ok(answer_given(&answer)),
             Err(_) => Err(OUTPUT),
         }
     }
 }
 
-impl<D: Disk, R> Store<D, R> {
+impl<D: Disk, R: MacroFunctions> Store<D, R> {
     // The line that answers a form, or the number of the fault that ends the session.
     fn line(&self, answer: &Result<Evaluated, Failure>) -> Result<Vec<u8>, u16>
         requires proper { IfOk answer.now (λ e. is_proper e.value ≡ true) }

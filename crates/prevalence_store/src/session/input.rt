@@ -4,12 +4,12 @@ ghost use Rattle.plist_state.specs.State.{WorldState};
 ghost use Rattle.form_reader.specs.Reader.{fed, begun, limits_of, HasBegun, IsAfter, Steps, StepsBegun, BeginsLater, RefusesFrom, IsOutcome, IsSoundStep};
 ghost use Rattle.prevalence_store.specs.meaning.Acceptance.{between, form_limits, read_in, setting_in, table_in};
 ghost use Rattle.user_macros.specs.Functions.{Functions, are_registered};
-ghost use Rattle.prevalence_store.specs.steps.Input.{AreKnownFed, IsPending, IsSoundFed, IsWithin, Feeds, Finishes, FeedsPart};
+ghost use Rattle.prevalence_store.specs.steps.Input.{AreAllThere, IsPending, IsSoundFed, IsWithin, Feeds, Finishes, FeedsPart};
 
 use crate::mode::Mode;
 use crate::setting::{base_in, package_in, readtable_in};
+use form_eval::ReadForm;
 use form_reader::{Advance, FormReader, Limits, ReadOutcome};
-use lisp_object::Datum;
 use plist_state::World;
 use readtable_core::Readtable;
 use std::alloc::{AllocError, Global};
@@ -26,18 +26,16 @@ pub(crate) struct Pending {
     dropped: usize,
 }
 
-/// A form that was read.
+/// A form that was read, its own text, and its place in the input.
 #[derive(Drop)]
-pub(crate) struct ReadForm {
-    pub(crate) datum: Datum,
+pub(crate) struct PlacedForm {
+    pub(crate) read: ReadForm,
     /// Its own text.
     pub(crate) own: Vec<u8>,
     /// Where this begins among the bytes since the last form.
     pub(crate) start: usize,
     /// Where what follows it begins.
     pub(crate) next: usize,
-    /// Whether each of its symbols is known to be there.
-    pub(crate) known: bool,
 }
 
 /// What bytes more, or the end of the input, are to what is pending.
@@ -47,7 +45,7 @@ pub(crate) enum Fed {
     Nothing,
     /// A form. If `left`, the last byte is the first of what follows it.
     Form {
-        form: ReadForm,
+        form: PlacedForm,
         left: bool,
     },
     /// A refusal: its number, where what is refused begins among the bytes since the last form, and its place among them.
@@ -101,7 +99,7 @@ impl Pending {
             → IfOk result (λ part. Feeds R.Meaning.functions world.now.0 mode self.new
             (bytes ++ take part.count piece.now) part.fed) }
         ensures part { IfOk result (FeedsPart piece.now (fed self.old.reader) (fed self.new.reader)) }
-        ensures known { IfOk result (λ part. AreKnownFed world.now.0 part.fed) }
+        ensures all_there { IfOk result (λ part. AreAllThere world.now.0 part.fed) }
         ensures count { fed self.new.reader ≤ fed self.old.reader + length piece.now }
     {
         let readtable = readtable_in(world, mode);
@@ -148,7 +146,7 @@ impl Pending {
             → IfOk result (Feeds R.Meaning.functions world.now.0 mode self.new
             (bytes ++ byte ∷ [])) }
         ensures sound { IfOk result IsSoundFed }
-        ensures known { IfOk result (AreKnownFed world.now.0) }
+        ensures all_there { IfOk result (AreAllThere world.now.0) }
         ensures within { IfOk result (IsWithin (fed self.old.reader + 1)) }
         ensures count { fed self.new.reader ≤ fed self.old.reader + 1 }
     {
@@ -173,12 +171,14 @@ impl Pending {
                 let left = next - self.dropped < self.text.len();
                 self.text.clear();
                 self.dropped = 0;
-                let form = ReadForm {
-                    datum,
+                let form = PlacedForm {
+                    read: ReadForm {
+                        datum,
+                        known: false,
+                    },
                     own,
                     start,
                     next,
-                    known: false,
                 };
                 Ok(Fed::Form { form, left })
             }
@@ -228,7 +228,7 @@ impl Pending {
             → IsPending R.Meaning.functions world.now.0 mode self bytes
             → IfOk result (Finishes R.Meaning.functions world.now.0 mode bytes) }
         ensures sound { IfOk result IsSoundFed }
-        ensures known { IfOk result (AreKnownFed world.now.0) }
+        ensures all_there { IfOk result (AreAllThere world.now.0) }
         ensures within { IfOk result (IsWithin (fed self.reader)) }
     {
         let Pending {
@@ -250,12 +250,14 @@ impl Pending {
                 next,
             } => {
                 let own = own_text(alloc, text.as_slice(), dropped, start, end)?;
-                let form = ReadForm {
-                    datum,
+                let form = PlacedForm {
+                    read: ReadForm {
+                        datum,
+                        known: false,
+                    },
                     own,
                     start,
                     next,
-                    known: false,
                 };
                 Ok(Fed::Form { form, left: false })
             }

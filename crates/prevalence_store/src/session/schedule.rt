@@ -67,7 +67,7 @@ impl<D: Disk, R: MacroFunctions> Store<D, R> {
     // Takes a snapshot if one is due after a form that was answered. One for which there is no half is passed over. Gives
     // the number of the fault that ends the session in it.
     pub(crate) fn renew_after_form(&mut self, schedule: &mut Schedule, wrote: bool) -> Option<u16>
-        requires known { IsSome self.old.world }
+        requires is_open { IsSome self.old.world }
         ensures renews { (w : WorldState) → self.old.world ≡ Some w
             → RenewsAfterForm R.Meaning.functions D.state self.old self.new w wrote (pace_of schedule.old) (pace_of schedule.new) result }
         ensures honest { (D.state self.new.disk).honest ≡ (D.state self.old.disk).honest }
@@ -88,7 +88,7 @@ impl<D: Disk, R: MacroFunctions> Store<D, R> {
 
     // Takes a snapshot, or gives the number of its refusal.
     pub(crate) fn renew(&mut self) -> Result<(), u16>
-        requires known { IsSome self.old.world }
+        requires is_open { IsSome self.old.world }
         ensures renews { (w : WorldState) → self.old.world ≡ Some w
             → Renewing R.Meaning.functions D.state self.old self.new w result }
         ensures honest { (D.state self.new.disk).honest ≡ (D.state self.old.disk).honest }

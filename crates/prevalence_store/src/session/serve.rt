@@ -6,7 +6,7 @@ ghost use Rattle.lisp_object.specs.declared.refusal.TheConstants.{REOPEN};
 ghost use Rattle.plist_state.specs.State.{WorldState};
 ghost use Rattle.form_reader.specs.Reader.{fed};
 ghost use Rattle.prevalence_store.specs.calls.Serve.{ServesInput, ServesWanted};
-ghost use Rattle.prevalence_store.specs.steps.Input.{AreKnownFed, AwaitsMore, IsPending, IsSoundFed, IsWithin, Feeds, FeedsPart, Finishes};
+ghost use Rattle.prevalence_store.specs.steps.Input.{AreAllThere, AwaitsMore, IsPending, IsSoundFed, IsWithin, Feeds, FeedsPart, Finishes};
 ghost use Rattle.prevalence_store.specs.steps.Course.{course_of};
 ghost use Rattle.prevalence_store.specs.steps.Serve.{Answers, ComesTo, EndsAt, MovesOn};
 ghost use Rattle.user_macros.specs.Functions.{are_registered};
@@ -231,8 +231,8 @@ impl<D: Disk, R: MacroFunctions> Store<D, R> {
             (bytes ++ take part.count piece.now) part.fed) }
         ensures part { IfOk result
             (FeedsPart piece.now (fed pending.old.reader) (fed pending.new.reader)) }
-        ensures known { (w : WorldState) → self.now.world ≡ Some w
-            → IfOk result (λ part. AreKnownFed w part.fed) }
+        ensures all_there { (w : WorldState) → self.now.world ≡ Some w
+            → IfOk result (λ part. AreAllThere w part.fed) }
         ensures count { fed pending.new.reader ≤ fed pending.old.reader + length piece.now }
     {
         pending.feed(self.alloc, &self.world, &self.macros, mode, piece)
@@ -285,8 +285,8 @@ impl<D: Disk, R: MacroFunctions> Store<D, R> {
             → IsPending R.Meaning.functions w mode pending bytes
             → IfOk result (Finishes R.Meaning.functions w mode bytes) }
         ensures sound { IfOk result IsSoundFed }
-        ensures known { (w : WorldState) → self.now.world ≡ Some w
-            → IfOk result (AreKnownFed w) }
+        ensures all_there { (w : WorldState) → self.now.world ≡ Some w
+            → IfOk result (AreAllThere w) }
         ensures within { IfOk result (IsWithin (fed pending.reader)) }
     {
         pending.finish(self.alloc, &self.world, &self.macros, mode)

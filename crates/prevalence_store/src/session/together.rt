@@ -4,15 +4,13 @@ ghost use Rattle.lisp_object.specs.Datum.{object_of};
 ghost use Rattle.plist_state.specs.State.{WorldState};
 ghost use Rattle.prevalence_store.specs.declared.session.together.Grouped.TheVariants.{Answered, Left};
 ghost use Rattle.prevalence_store.specs.steps.Answer.{IsFormOf};
-ghost use Rattle.prevalence_store.specs.steps.Commit.{AreKnownIn};
 ghost use Rattle.prevalence_store.specs.steps.Course.{course_of};
 ghost use Rattle.prevalence_store.specs.steps.Gather.{AnswersGroup, BeginsWhole};
 ghost use Rattle.user_macros.specs.Functions.{are_registered};
 
 use crate::outcome::{Ended, Wanted};
 use crate::session::course::Course;
-use crate::session::input::ReadForm;
-use crate::session::output::write_line;
+use crate::session::input::PlacedForm;
 use crate::store::Store;
 use disk_trait::Disk;
 use lisp_object::refusal::{DEVICE, OUTPUT};
@@ -39,22 +37,21 @@ impl<D: Disk, R: MacroFunctions> Store<D, R> {
         writer: &mut W,
         wanted: Wanted,
         course: &mut Course,
-        first: &ReadForm,
+        first: &PlacedForm,
         rest: &[u8],
     ) -> Grouped
         requires answers { R.answers self.old.macros }
         requires whole { are_registered R.Meaning.functions (R.functions self.old.macros) ≡ true }
-        requires form { IsFormOf R.Meaning.functions self.old.world wanted.mode first.now.datum first.now.own.items }
-        requires known { AreKnownIn self.old.world first.now.known first.now.datum }
+        requires form { IsFormOf R.Meaning.functions self.old.world wanted.mode first.now.read first.now.own.items }
         requires begins { (world : WorldState) → self.old.world ≡ Some world
             → (text : List ℕ) × (BeginsWhole R.Meaning.functions world wanted.mode text
-            (object_of first.now.datum) first.now.own.items first.now.next × (drop first.now.next text ≡ rest.now)) }
+            (object_of first.now.read.datum) first.now.own.items first.now.next × (drop first.now.next text ≡ rest.now)) }
         requires some { 0 < first.now.next }
         requires forms { (course_of course.old).forms ≤ (course_of course.old).bytes }
         requires room { (course_of course.old).bytes + first.now.next + length rest.now < 2 ^ 63 }
         ensures answers { (world : WorldState) → self.old.world ≡ Some world
             → (text : List ℕ) → BeginsWhole R.Meaning.functions world wanted.mode text
-            (object_of first.now.datum) first.now.own.items first.now.next → drop first.now.next text ≡ rest.now
+            (object_of first.now.read.datum) first.now.own.items first.now.next → drop first.now.next text ≡ rest.now
             → AnswersGroup R.Meaning.functions wanted D.state (course_of course.old) (course_of course.new)
             self.old self.new world text rest.now (W.contents writer.old) (W.contents writer.new) result }
         ensures left { result ≡ Left
@@ -72,6 +69,7 @@ impl<D: Disk, R: MacroFunctions> Store<D, R> {
         if !wanted.group || most == 0 {
             return Grouped::Left;
         }
+        self.keeps_its_world();
         let gathered = match self.take_group(wanted, most, first, rest) {
             Ok(gathered) => gathered,
             Err(failure) => {
@@ -82,7 +80,7 @@ impl<D: Disk, R: MacroFunctions> Store<D, R> {
             }
         };
         // what is answered is stored: the lines come after the records
-        match write_line(writer, gathered.lines.as_slice()) {
+        match self.write_lines(writer, gathered.lines.as_slice()) {
             Ok(()) => {
                 course.schedule.pass(gathered.texts.len() as u64);
                 course.pass_all(gathered.forms, gathered.bytes);

@@ -32,7 +32,7 @@ returns-in-Some-clause-outcome g c =
       subst (λ (o : Option PlainForm). IfSome o (λ f. IsSound (object_of f.datum))) c.in-Some.is c.in_ok-plain.ensures.sound,
     )
 
-pub returns-in-Some-clause-known : goal.returns-in-Some-clause-known
-returns-in-Some-clause-known g c =
+pub returns-in-Some-clause-all_there : goal.returns-in-Some-clause-all_there
+returns-in-Some-clause-all_there g c =
     subst (λ (o : Option PlainForm). IfSome o (λ f. f.known ≡ true → are_there c.args.world.now.0.packages (object_of f.datum) ≡ true)) c.in-Some.is
     (subst (λ (t : Table). IfSome c.in_ok-plain.field-0 (λ f. f.known ≡ true → are_there t (object_of f.datum) ≡ true)) c.packages-packages.ensures c.in_ok-plain.ensures.known)

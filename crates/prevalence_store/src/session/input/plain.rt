@@ -9,9 +9,10 @@ ghost use Rattle.prevalence_store.specs.meaning.Acceptance.{table_in};
 ghost use Rattle.prevalence_store.specs.steps.Input.{Feeds, IsPending};
 ghost use Rattle.user_macros.specs.Functions.{Functions};
 
-use super::{Pending, ReadForm};
+use super::{Pending, PlacedForm};
 use crate::mode::Mode;
 use crate::setting::{base_in, package_in};
+use form_eval::ReadForm;
 use form_reader::Limits;
 use plain_reader::read_plain;
 use plist_state::World;
@@ -28,7 +29,7 @@ impl Pending {
         world: &World,
         mode: Mode,
         piece: &[u8],
-    ) -> Result<Option<ReadForm>, AllocError>
+    ) -> Result<Option<PlacedForm>, AllocError>
         requires table { readtable.now ≡ table_in world.now.0 mode }
         requires dropped { self.old.dropped ≤ fed self.old.reader }
         requires count { fed self.old.reader + length piece.now ≤ 2 ^ 63 }
@@ -36,9 +37,9 @@ impl Pending {
             → IfOk result (λ found. IfSome found (λ form. Feeds functions world.now.0 mode self.new
             (bytes ++ take (length form.own.items) piece.now) (Fed.Form form false))) }
         ensures sound { IfOk result (λ found. IfSome found
-            (λ form. (is_proper form.datum ≡ true) × IsSound (object_of form.datum))) }
-        ensures known { IfOk result (λ found. IfSome found (λ form.
-            form.known ≡ true → are_there world.now.0.packages (object_of form.datum) ≡ true)) }
+            (λ form. (is_proper form.read.datum ≡ true) × IsSound (object_of form.read.datum))) }
+        ensures all_there { IfOk result (λ found. IfSome found (λ form.
+            form.read.known ≡ true → are_there world.now.0.packages (object_of form.read.datum) ≡ true)) }
         ensures places { IfOk result (λ found. IfSome found
             (λ form. (form.start ≡ self.old.dropped) × (form.next ≡ form.start + length form.own.items))) }
         ensures some { IfOk result (λ found. IfSome found
@@ -72,12 +73,15 @@ impl Pending {
         let own = Vec::from_slice(alloc, front)?;
         let start = self.dropped;
         *self = Pending::new(alloc);
-        Ok(Some(ReadForm {
+        let read = ReadForm {
             datum: plain.datum,
+            known: plain.known,
+        };
+        Ok(Some(PlacedForm {
+            read,
             own,
             start,
             next: start + front.len(),
-            known: plain.known,
         }))
     }
 }

@@ -3,7 +3,7 @@ use Rattle.form_reader.specs.Reader.{fed}
 use Rattle.lisp_object.specs.Datum.{object_of}
 use Rattle.prevalence_store.specs.declared.session.input.Fed.{Fed}
 use Rattle.prevalence_store.specs.steps.Course.{course_of}
-use Rattle.prevalence_store.specs.steps.Input.{AreKnownFed, Finishes, IsSoundFed, IsWithin}
+use Rattle.prevalence_store.specs.steps.Input.{AreAllThere, Finishes, IsSoundFed, IsWithin}
 use Rattle.prevalence_store.specs.steps.Serve.{EndsAt}
 use Rattle.prevalence_store.proofs.steps.EndedAt.{done_at_end, fault_at_end, memory_at_end, read_at_end}
 use Rattle.prevalence_store.proofs.steps.Pieces.{ended_form, last_begins, last_start}
@@ -43,16 +43,16 @@ answer_read-requires g c =
     let f = c.in-Form in
     let within = subst (λ (given : Fed). IsWithin (fed c.args.pending.reader) given) f.is c.in-Ok.ensures.within in record {
       form = record {
-        known = c.requires.pending.known;
-        read = λ w known.
+        is_open = c.requires.pending.is_open;
+        begins = λ w known.
             let functions = g.R.Meaning.Meaning.functions in
             let p = c.requires.pending.some w known in
             let last = (subst (λ (fed : Fed). Finishes functions w c.args.wanted.mode p.0 fed) f.is (c.in-Ok.ensures.finishes w known p.0 p.1)).0 in
-            (p.0, (_, last_begins functions w c.args.wanted.mode p.0 (object_of f.form.datum) f.form.own.items last f.form.own.items refl));
+            (p.0, (_, last_begins functions w c.args.wanted.mode p.0 (object_of f.form.read.datum) f.form.own.items last f.form.own.items refl));
         proper = (subst IsSoundFed f.is c.in-Ok.ensures.sound).0;
         sound = (subst IsSoundFed f.is c.in-Ok.ensures.sound).1;
+        all_there = λ w here. subst (AreAllThere w) f.is (c.in-Ok.ensures.all_there w here);
       };
-      known = λ w here. subst (AreKnownFed w) f.is (c.in-Ok.ensures.known w here);
       order = within.0;
       forms = c.requires.forms;
       room = omega (arith, within.1, c.requires.count);
@@ -67,8 +67,8 @@ returns-clause-ends g c = λ w known bytes p.
     read_at_end functions g.D.Disk.state c.args.wanted (course_of c.args.course.now) (course_of c.answer_read.new.course) c.args.self.now c.answer_read.new.self w bytes
     (g.W.Write.contents c.args.writer.now) (g.W.Write.contents c.answer_read.new.writer) f.form.start f.form.next c.in-Err-answer_read.ended
     (c.in-Err-answer_read.ensures.answers w known bytes _
-    (last_begins functions w c.args.wanted.mode bytes (object_of f.form.datum) f.form.own.items last.0 f.form.own.items refl)
-    (last_start functions w c.args.wanted.mode bytes (object_of f.form.datum) f.form.own.items last.0 f.form.own.items refl ∙ last.1))
+    (last_begins functions w c.args.wanted.mode bytes (object_of f.form.read.datum) f.form.own.items last.0 f.form.own.items refl)
+    (last_start functions w c.args.wanted.mode bytes (object_of f.form.read.datum) f.form.own.items last.0 f.form.own.items refl ∙ last.1))
     (let count = p.count in omega (arith, within.0, within.1, count))
 
 pub returns-in-Ok-answer_read-clause-ends : goal.returns-in-Ok-answer_read-clause-ends
@@ -77,7 +77,7 @@ returns-in-Ok-answer_read-clause-ends g c = λ w known bytes p.
     let f = c.in-Form in
     let last = subst (λ (fed : Fed). Finishes functions w c.args.wanted.mode bytes fed) f.is (c.in-Ok.ensures.finishes w known bytes p) in
     let passed = c.in-Ok-answer_read.ensures.answers w known bytes _
-    (last_begins functions w c.args.wanted.mode bytes (object_of f.form.datum) f.form.own.items last.0 f.form.own.items refl)
-    (last_start functions w c.args.wanted.mode bytes (object_of f.form.datum) f.form.own.items last.0 f.form.own.items refl ∙ last.1) in
-    ended_form functions w c.args.wanted.mode bytes (object_of f.form.datum) f.form.own.items last.0 g.D.Disk.state c.args.wanted refl (course_of c.args.course.now) (course_of c.answer_read.new.course) c.args.self.now c.answer_read.new.self
+    (last_begins functions w c.args.wanted.mode bytes (object_of f.form.read.datum) f.form.own.items last.0 f.form.own.items refl)
+    (last_start functions w c.args.wanted.mode bytes (object_of f.form.read.datum) f.form.own.items last.0 f.form.own.items refl ∙ last.1) in
+    ended_form functions w c.args.wanted.mode bytes (object_of f.form.read.datum) f.form.own.items last.0 g.D.Disk.state c.args.wanted refl (course_of c.args.course.now) (course_of c.answer_read.new.course) c.args.self.now c.answer_read.new.self
     (g.W.Write.contents c.args.writer.now) (g.W.Write.contents c.answer_read.new.writer) f.form.start f.form.next passed.0 passed.1 passed.2

@@ -1,4 +1,4 @@
-use Rattle.std.proofs.Common.{◌≡◌, ◌-◌, Bool, true, false, not, length, refl, sym, ap, subst, ◌∙◌, arith}
+use Rattle.std.proofs.Common.{◌≡◌, ◌-◌, Bool, true, false, not, length, inr, refl, sym, ap, subst, ◌∙◌, arith}
 use Rattle.prevalence_store.specs.calls.Pace.{Pace}
 use Rattle.prevalence_store.specs.calls.Streams.{Writes, WritesPart}
 use Rattle.prevalence_store.specs.steps.Course.{Course, course_of}
@@ -6,6 +6,7 @@ use Rattle.prevalence_store.specs.steps.Schedule.{CountsAll, pace_of}
 use Rattle.prevalence_store.proofs.calls.Executing.{known_world}
 use Rattle.prevalence_store.proofs.steps.Counting.{fewer_before_due}
 use Rattle.prevalence_store.proofs.steps.Gathered.{group_answered, group_stopped, group_unwritten}
+use Rattle.prevalence_store.proofs.steps.Storing.{lines_stored}
 use Rattle.prevalence_store.proofs.store.Store.answer_group.Goals as goal
 
 grouped : (group : Bool) → not group ≡ false → group ≡ true
@@ -24,7 +25,7 @@ returns-then-is_device-clause-answers g c = λ w known text begins pending.
 -- they were left
 pub returns-in-Err-clause-left : goal.returns-in-Err-clause-left
 returns-in-Err-clause-left g c = λ left.
-    let here = known_world c.args.self.now.world c.requires.form.known in
+    let here = known_world c.args.self.now.world c.requires.form.is_open in
     let b = c.requires.begins here.0 here.1 in
     ((c.in-Err.ensures.takes here.0 here.1 b.0 b.1.0 b.1.1).unchanged (sym c.is_device.ensures ∙ c.if-is_device.false), refl, refl)
 
@@ -32,19 +33,29 @@ pub returns-in-Err-clause-answers : goal.returns-in-Err-clause-answers
 returns-in-Err-clause-answers g c = λ w known text begins pending.
     ((c.in-Err.ensures.takes w known text begins pending).unchanged (sym c.is_device.ensures ∙ c.if-is_device.false), refl, refl)
 
+-- their lines may be written
+pub write_lines-requires : goal.write_lines-requires
+write_lines-requires g c = record {
+  stored =
+      let here = known_world c.args.self.now.world c.requires.form.is_open in
+      let b = c.requires.begins here.0 here.1 in
+      inr (lines_stored g.R.Meaning.Meaning.functions g.D.Disk.state c.args.self.now c.take_group.new.self here.0 here.1 c.take_group.ensures.honest (c.keeps_its_world.ensures here.0 here.1) c.args.wanted b.0
+      c.in-Ok.gathered _ (c.in-Ok.ensures.takes here.0 here.1 b.0 b.1.0 b.1.1).together c.as_slice.ensures.value);
+}
+
 -- they were answered
-pub returns-in-Ok-write_line-clause-answers : goal.returns-in-Ok-write_line-clause-answers
-returns-in-Ok-write_line-clause-answers g c = λ w known text begins pending.
+pub returns-in-Ok-write_lines-clause-answers : goal.returns-in-Ok-write_lines-clause-answers
+returns-in-Ok-write_lines-clause-answers g c = λ w known text begins pending.
     let functions = g.R.Meaning.Meaning.functions in
     let held = g.W.Write.contents c.args.writer.now in
-    let written = g.W.Write.contents c.write_line.new.writer in
+    let written = g.W.Write.contents c.write_lines.new.writer in
     let course = course_of c.args.course.now in
     let later = course_of c.pass_all.new.self in
     let gathered = c.in-Ok.gathered in
     let next = c.args.first.now.next in
     let passed = c.pass_all.ensures in
     group_answered functions g.D.Disk.state g.met.D.Disk.sound c.args.wanted course later c.args.self.now c.take_group.new.self w text c.args.rest.now held written known
-    gathered next (gathered.bytes - next) (c.in-Ok.ensures.takes w known text begins pending).together (subst (Writes held written) c.as_slice.ensures.value c.in-Ok-write_line.ensures.whole) pending
+    gathered next (gathered.bytes - next) (c.in-Ok.ensures.takes w known text begins pending).together (subst (Writes held written) c.as_slice.ensures.value c.in-Ok-write_lines.ensures.whole) pending
     (omega (arith, c.in-Ok.ensures.counts.first))
     (subst (λ (p : Pace). CountsAll (length gathered.texts.items) course.pace p) (sym (ap (λ (k : Course). k.pace) passed))
     (subst (λ n. CountsAll n course.pace (pace_of c.pass.new.self)) (c.len.ensures ∙ gathered.texts.ok.0) c.pass.ensures))
@@ -55,11 +66,11 @@ pub returns-clause-answers : goal.returns-clause-answers
 returns-clause-answers g c = λ w known text begins pending.
     let functions = g.R.Meaning.Meaning.functions in
     let held = g.W.Write.contents c.args.writer.now in
-    let written = g.W.Write.contents c.write_line.new.writer in
+    let written = g.W.Write.contents c.write_lines.new.writer in
     let course = course_of c.args.course.now in
     let gathered = c.in-Ok.gathered in
     let counts = c.in-Ok.ensures.counts in
     group_unwritten functions g.D.Disk.state g.met.D.Disk.sound c.args.wanted course course c.args.self.now c.take_group.new.self w text c.args.rest.now held written known
     (grouped c.args.wanted.group c.if-not-wanted.false) gathered counts.some (c.in-Ok.ensures.takes w known text begins pending).together
-    (subst (WritesPart held written) c.as_slice.ensures.value c.in-Err-write_line.ensures.part)
+    (subst (WritesPart held written) c.as_slice.ensures.value c.in-Err-write_lines.ensures.part)
     (fewer_before_due course.pace (length gathered.texts.items) c.before_due-most.result counts.texts c.before_due-most.ensures)

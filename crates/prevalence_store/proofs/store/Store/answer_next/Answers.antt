@@ -5,7 +5,7 @@ use Rattle.form_reader.specs.Reader.{fed}
 use Rattle.lisp_object.specs.Datum.{object_of}
 use Rattle.prevalence_store.specs.declared.session.input.Fed.{Fed}
 use Rattle.prevalence_store.specs.steps.Course.{course_of}
-use Rattle.prevalence_store.specs.steps.Input.{AreKnownFed, Feeds, IsSoundFed, IsWithin}
+use Rattle.prevalence_store.specs.steps.Input.{AreAllThere, Feeds, IsSoundFed, IsWithin}
 use Rattle.prevalence_store.specs.declared.session.together.Grouped.{Grouped}
 use Rattle.prevalence_store.specs.calls.Store.{StoreView}
 use Rattle.prevalence_store.specs.steps.Answer.{IsFormOf}
@@ -64,19 +64,17 @@ pub answer_group-requires-clause-form : goal.answer_group-requires-clause-form
 answer_group-requires-clause-form g c =
     let f = c.in-Form in
     record {
-      known = c.requires.pending.known;
-      read = λ w known.
+      is_open = c.requires.pending.is_open;
+      begins = λ w known.
           let functions = g.R.Meaning.Meaning.functions in
           let p = c.requires.pending.some w known in
           let text = p.0 ++ take c.in-Ok.part.count c.args.piece.now in
           let has = (subst (λ (fed : Fed). Feeds functions w c.args.wanted.mode c.feed.new.pending text fed) f.is (c.in-Ok.ensures.feeds w known p.0 p.1)).0 in
-          (text, (has.next, form_begins_here functions w c.args.wanted.mode c.feed.new.pending text (object_of f.form.datum) f.form.own.items f.left has f.form.own.items refl));
+          (text, (has.next, form_begins_here functions w c.args.wanted.mode c.feed.new.pending text (object_of f.form.read.datum) f.form.own.items f.left has f.form.own.items refl));
       proper = (subst IsSoundFed f.is c.in-Ok.ensures.part.sound).0;
       sound = (subst IsSoundFed f.is c.in-Ok.ensures.part.sound).1;
+      all_there = λ w here. subst (AreAllThere w) f.is (c.in-Ok.ensures.all_there w here);
     }
-
-pub answer_group-requires-clause-known : goal.answer_group-requires-clause-known
-answer_group-requires-clause-known g c = λ w here. subst (AreKnownFed w) c.in-Form.is (c.in-Ok.ensures.known w here)
 
 pub answer_group-requires-clause-begins : goal.answer_group-requires-clause-begins
 answer_group-requires-clause-begins g c = λ w known.
@@ -88,7 +86,7 @@ answer_group-requires-clause-begins g c = λ w known.
     let text = p.0 ++ take n piece in
     let f = c.in-Form in
     let has = subst (λ (fed : Fed). Feeds functions w c.args.wanted.mode c.feed.new.pending text fed) f.is (c.in-Ok.ensures.feeds w known p.0 p.1) in
-    let begins = whole_begins functions w c.args.wanted.mode c.feed.new.pending text (object_of f.form.datum) f.form.own.items f.left has.0 p.0 piece n count refl c.in-Ok.ensures.part.within c.before_left-count.ensures f.form.next has.2 in
+    let begins = whole_begins functions w c.args.wanted.mode c.feed.new.pending text (object_of f.form.read.datum) f.form.own.items f.left has.0 p.0 piece n count refl c.in-Ok.ensures.part.within c.before_left-count.ensures f.form.next has.2 in
     (p.0 ++ piece, (begins.0, begins.1 ∙ sym (behind_piece piece count)))
 
 pub returns-in-Answered-clause-answers : goal.returns-in-Answered-clause-answers
@@ -101,7 +99,7 @@ returns-in-Answered-clause-answers g c = λ w known bytes p.
     let text = bytes ++ take n piece in
     let f = c.in-Form in
     let has = subst (λ (fed : Fed). Feeds functions w c.args.wanted.mode c.feed.new.pending text fed) f.is (c.in-Ok.ensures.feeds w known bytes p) in
-    let begins = whole_begins functions w c.args.wanted.mode c.feed.new.pending text (object_of f.form.datum) f.form.own.items f.left has.0 bytes piece n count refl c.in-Ok.ensures.part.within c.before_left-count.ensures f.form.next has.2 in
+    let begins = whole_begins functions w c.args.wanted.mode c.feed.new.pending text (object_of f.form.read.datum) f.form.own.items f.left has.0 bytes piece n count refl c.in-Ok.ensures.part.within c.before_left-count.ensures f.form.next has.2 in
     let held = g.W.Write.contents c.args.writer.now in
     let written = g.W.Write.contents c.answer_group.new.writer in
     let course = course_of c.args.course.now in
@@ -122,7 +120,7 @@ returns-in-Ended-clause-answers g c = λ w known bytes p.
     let text = bytes ++ take n piece in
     let f = c.in-Form in
     let has = subst (λ (fed : Fed). Feeds functions w c.args.wanted.mode c.feed.new.pending text fed) f.is (c.in-Ok.ensures.feeds w known bytes p) in
-    let begins = whole_begins functions w c.args.wanted.mode c.feed.new.pending text (object_of f.form.datum) f.form.own.items f.left has.0 bytes piece n count refl c.in-Ok.ensures.part.within c.before_left-count.ensures f.form.next has.2 in
+    let begins = whole_begins functions w c.args.wanted.mode c.feed.new.pending text (object_of f.form.read.datum) f.form.own.items f.left has.0 bytes piece n count refl c.in-Ok.ensures.part.within c.before_left-count.ensures f.form.next has.2 in
     let held = g.W.Write.contents c.args.writer.now in
     let written = g.W.Write.contents c.answer_group.new.writer in
     let rest = take (length piece - count) (drop count piece) in
@@ -136,18 +134,18 @@ answer_read-requires g c =
     let f = c.in-Form in
     let left = c.answer_group.ensures.left c.in-Left.is in
     let within = subst (λ (given : Fed). IsWithin (fed c.args.pending.now.reader + c.in-Ok.part.count) given) f.is c.in-Ok.ensures.part.places in record {
-      form = subst (λ (o : Option WorldState). IsFormOf g.R.Meaning.Meaning.functions o c.args.wanted.mode f.form.datum f.form.own.items) (ap (λ (s : StoreView g.row.D.Denot g.row.R.Denot). s.world) (sym left.0)) (record {
-        known = c.requires.pending.known;
-        read = λ w known.
+      form = subst (λ (o : Option WorldState). IsFormOf g.R.Meaning.Meaning.functions o c.args.wanted.mode f.form.read f.form.own.items) (ap (λ (s : StoreView g.row.D.Denot g.row.R.Denot). s.world) (sym left.0)) (record {
+        is_open = c.requires.pending.is_open;
+        begins = λ w known.
             let functions = g.R.Meaning.Meaning.functions in
             let p = c.requires.pending.some w known in
             let text = p.0 ++ take c.in-Ok.part.count c.args.piece.now in
             let has = (subst (λ (fed : Fed). Feeds functions w c.args.wanted.mode c.feed.new.pending text fed) f.is (c.in-Ok.ensures.feeds w known p.0 p.1)).0 in
-            (text, (has.next, form_begins_here functions w c.args.wanted.mode c.feed.new.pending text (object_of f.form.datum) f.form.own.items f.left has f.form.own.items refl));
+            (text, (has.next, form_begins_here functions w c.args.wanted.mode c.feed.new.pending text (object_of f.form.read.datum) f.form.own.items f.left has f.form.own.items refl));
         proper = (subst IsSoundFed f.is c.in-Ok.ensures.part.sound).0;
         sound = (subst IsSoundFed f.is c.in-Ok.ensures.part.sound).1;
+        all_there = λ w here. subst (AreAllThere w) f.is (c.in-Ok.ensures.all_there w here);
       });
-      known = λ w here. subst (AreKnownFed w) f.is (c.in-Ok.ensures.known w (sym (ap (λ (s : StoreView g.row.D.Denot g.row.R.Denot). s.world) left.0) ∙ here));
       order = within.0;
       forms = c.answer_group.ensures.forms;
       room = subst (λ k. (course_of k).bytes + f.form.next < 9223372036854775808) (sym left.2) (omega (arith, within.1, c.requires.count, c.in-Ok.ensures.part.within));
@@ -175,8 +173,8 @@ returns-clause-answers g c = λ w known bytes p.
     (read_from functions g.D.Disk.state course mid later c.args.self.now c.answer_group.new.self c.answer_read.new.self w c.args.wanted (text ++ more) held between written f.form.start f.form.next (Err c.in-Err-answer_read.ended)
     left.0 (ap (λ v. g.W.Write.contents v) left.1) (ap (λ k. course_of k) left.2)
     (c.in-Err-answer_read.ensures.answers w still (text ++ more) has.0.next
-    (form_begins functions w c.args.wanted.mode c.feed.new.pending text (object_of f.form.datum) f.form.own.items f.left has.0 f.form.own.items more refl)
-    (begins_start functions w c.args.wanted.mode c.feed.new.pending text (object_of f.form.datum) f.form.own.items f.left has.0 f.form.own.items more refl ∙ has.1)))
+    (form_begins functions w c.args.wanted.mode c.feed.new.pending text (object_of f.form.read.datum) f.form.own.items f.left has.0 f.form.own.items more refl)
+    (begins_start functions w c.args.wanted.mode c.feed.new.pending text (object_of f.form.read.datum) f.form.own.items f.left has.0 f.form.own.items more refl ∙ has.1)))
     (let count = p.count in let many = length-append bytes (take n piece) in let longer = length-append text more in let taken = length-take-le n piece c.in-Ok.ensures.part.within in
     omega (arith, within.0, within.1, many, longer, taken, count)))
 
@@ -198,9 +196,9 @@ returns-in-Ok-answer_read-clause-answers g c = λ w known bytes p.
     let passed = read_from functions g.D.Disk.state course mid later c.args.self.now c.answer_group.new.self c.answer_read.new.self w c.args.wanted text held between written f.form.start f.form.next (Ok tt)
     left.0 (ap (λ v. g.W.Write.contents v) left.1) (ap (λ k. course_of k) left.2)
     (c.in-Ok-answer_read.ensures.answers w still text has.0.next
-    (form_begins_here functions w c.args.wanted.mode c.feed.new.pending text (object_of f.form.datum) f.form.own.items f.left has.0 f.form.own.items refl)
-    (begins_here_start functions w c.args.wanted.mode c.feed.new.pending text (object_of f.form.datum) f.form.own.items f.left has.0 f.form.own.items refl ∙ has.1)) in
-    form_answered functions g.D.Disk.state w c.args.wanted.mode c.feed.new.pending bytes c.args.piece.now n c.before_left-count.result (object_of f.form.datum) f.form.own.items f.left has.0 c.in-Ok.ensures.part.within
+    (form_begins_here functions w c.args.wanted.mode c.feed.new.pending text (object_of f.form.read.datum) f.form.own.items f.left has.0 f.form.own.items refl)
+    (begins_here_start functions w c.args.wanted.mode c.feed.new.pending text (object_of f.form.read.datum) f.form.own.items f.left has.0 f.form.own.items refl ∙ has.1)) in
+    form_answered functions g.D.Disk.state w c.args.wanted.mode c.feed.new.pending bytes c.args.piece.now n c.before_left-count.result (object_of f.form.read.datum) f.form.own.items f.left has.0 c.in-Ok.ensures.part.within
     c.before_left-count.ensures c.args.wanted refl
     course later c.args.self.now c.answer_read.new.self held written passed.0
     (at_starts functions g.D.Disk.state course later c.args.self.now c.answer_read.new.self w c.args.wanted text held written f.form.start f.form.next has.0.start has.0.next passed.0 has.1 has.2 passed.1) passed.2
@@ -210,25 +208,25 @@ returns-in-Ok-answer_read-clause-answers g c = λ w known bytes p.
 pub returns-in-Answered-clause-some : goal.returns-in-Answered-clause-some
 returns-in-Answered-clause-some g c =
     let functions = g.R.Meaning.Meaning.functions in
-    let old = known_world c.args.self.now.world c.requires.pending.known in
+    let old = known_world c.args.self.now.world c.requires.pending.is_open in
     let p = c.requires.pending.some old.0 old.1 in
     let n = c.in-Ok.part.count in
     let text = p.0 ++ take n c.args.piece.now in
     let f = c.in-Form in
     let has = (subst (λ (fed : Fed). Feeds functions old.0 c.args.wanted.mode c.feed.new.pending text fed) f.is (c.in-Ok.ensures.feeds old.0 old.1 p.0 p.1)).0 in
     moves_further (fed c.args.pending.now.reader) (fed c.feed.new.pending.reader) (length c.args.piece.now) c.before_left-count.result c.in-Answered.more
-    (form_takes functions old.0 c.args.wanted.mode c.feed.new.pending text (object_of f.form.datum) f.form.own.items f.left has p.0 c.args.piece.now n c.before_left-count.result refl c.in-Ok.ensures.part.within
+    (form_takes functions old.0 c.args.wanted.mode c.feed.new.pending text (object_of f.form.read.datum) f.form.own.items f.left has p.0 c.args.piece.now n c.before_left-count.result refl c.in-Ok.ensures.part.within
     c.before_left-count.ensures c.args.pending.now p.1)
     (omega (arith, c.answer_group.ensures.within c.in-Answered.more c.in-Answered.is, length-drop c.before_left-count.result c.args.piece.now, ap length (behind_piece c.args.piece.now c.before_left-count.result), c.before_left-count.ensures, c.in-Ok.ensures.part.within))
 
 pub returns-in-Ok-answer_read-clause-some : goal.returns-in-Ok-answer_read-clause-some
 returns-in-Ok-answer_read-clause-some g c =
     let functions = g.R.Meaning.Meaning.functions in
-    let old = known_world c.args.self.now.world c.requires.pending.known in
+    let old = known_world c.args.self.now.world c.requires.pending.is_open in
     let p = c.requires.pending.some old.0 old.1 in
     let n = c.in-Ok.part.count in
     let text = p.0 ++ take n c.args.piece.now in
     let f = c.in-Form in
     let has = (subst (λ (fed : Fed). Feeds functions old.0 c.args.wanted.mode c.feed.new.pending text fed) f.is (c.in-Ok.ensures.feeds old.0 old.1 p.0 p.1)).0 in
-    form_takes functions old.0 c.args.wanted.mode c.feed.new.pending text (object_of f.form.datum) f.form.own.items f.left has p.0 c.args.piece.now n c.before_left-count.result refl c.in-Ok.ensures.part.within
+    form_takes functions old.0 c.args.wanted.mode c.feed.new.pending text (object_of f.form.read.datum) f.form.own.items f.left has p.0 c.args.piece.now n c.before_left-count.result refl c.in-Ok.ensures.part.within
     c.before_left-count.ensures c.args.pending.now p.1

@@ -8,7 +8,7 @@ use Rattle.prevalence_store.proofs.store.Store.answer_piece.Goals as goal
 
 pub forms-init : goal.forms-init
 forms-init g c = record {
-  known = c.requires.pending.known;
+  is_open = c.requires.pending.is_open;
   honest = refl;
   macros = refl;
   forms = c.requires.forms;
@@ -24,9 +24,9 @@ forms-init g c = record {
 pub answer_next-requires-clause-pending : goal.answer_next-requires-clause-pending
 answer_next-requires-clause-pending g c =
     let functions = g.R.Meaning.Meaning.functions in
-    let old = known_world c.args.self.now.world c.requires.pending.known in
+    let old = known_world c.args.self.now.world c.requires.pending.is_open in
     let p = c.requires.pending.some old.0 old.1 in record {
-      known = c.forms.invariant.known;
+      is_open = c.forms.invariant.is_open;
       some = pending_again functions g.D.Disk.state c.args.wanted.strict (course_of c.args.course.now) (course_of c.forms.course) c.args.self.now c.forms.self old.0 c.args.wanted.mode (p.0 ++ c.args.piece.now)
           (g.W.Write.contents c.args.writer.now) (g.W.Write.contents c.forms.writer) c.forms.pending c.forms.rest.now (c.forms.invariant.goes old.0 old.1 p.0 p.1);
     }
@@ -38,8 +38,8 @@ forms-preserved g c =
     let n = c.in-Ok.count in
     let behind : take (length rest - n) (drop n rest) ≡ drop n rest = behind_piece rest n in
     record {
-      known =
-          let old = known_world c.args.self.now.world c.requires.pending.known in
+      is_open =
+          let old = known_world c.args.self.now.world c.requires.pending.is_open in
           let p = c.requires.pending.some old.0 old.1 in
           let first = c.forms.invariant.goes old.0 old.1 p.0 p.1 in
           let second = c.in-Ok.ensures.answers first.far.world first.advances.after.left first.bytes first.is_pending in

@@ -10,7 +10,7 @@ use Rattle.prevalence_store.proofs.store.Store.answer_piece.Given as goal
 -- what the bytes so far decided was answered, and the rest of the piece is left
 abbrev pub invariant-forms : goal.invariant-forms
 invariant-forms g l = record {
-  known : IsSome l.self.world;
+  is_open : IsSome l.self.world;
   honest : (g.D.Disk.state l.self.disk).honest ≡ (g.D.Disk.state l.fn.self.disk).honest;
   macros : l.self.macros ≡ l.fn.self.macros;
   forms : (course_of l.course).forms ≤ (course_of l.course).bytes;

@@ -11,7 +11,7 @@ use Rattle.prevalence_store.proofs.store.Store.answer_read.Goals as goal
 pub returns-in-Err-clause-answers : goal.returns-in-Err-clause-answers
 returns-in-Err-clause-answers g c = λ w known text next begins start_is.
     c.in-Err.ensures.answers w known text next
-    (begins_as g.R.Meaning.Meaning.functions w c.args.wanted.mode text (object_of c.args.form.now.datum) c.args.form.now.own.items c.as_slice-own.result.now next begins c.as_slice-own.ensures.value)
+    (begins_as g.R.Meaning.Meaning.functions w c.args.wanted.mode text (object_of c.args.form.now.read.datum) c.args.form.now.own.items c.as_slice-own.result.now next begins c.as_slice-own.ensures.value)
 
 pub returns-in-Refused-clause-answers : goal.returns-in-Refused-clause-answers
 returns-in-Refused-clause-answers g c = λ w known text next begins start_is.
@@ -22,11 +22,11 @@ returns-in-Refused-clause-answers g c = λ w known text next begins start_is.
     let held = g.W.Write.contents c.args.writer.now in
     let written = g.W.Write.contents c.answer_form.new.writer in
     let it = c.args.form.now in
-    let again = begins_as functions w c.args.wanted.mode text (object_of it.datum) it.own.items c.as_slice-own.result.now next begins c.as_slice-own.ensures.value in
+    let again = begins_as functions w c.args.wanted.mode text (object_of it.read.datum) it.own.items c.as_slice-own.result.now next begins c.as_slice-own.ensures.value in
     let passed = passes_form functions g.D.Disk.state course mid later c.args.self.now c.answer_form.new.self w c.args.wanted text held written it.start it.next c.in-Ok.answered
     (c.in-Ok.ensures.answers w known text next again) refl refl c.pass.ensures in
     let place = c.place-place.ensures in
-    refused_there functions g.D.Disk.state course later c.args.self.now c.answer_form.new.self w c.args.wanted text held written (object_of it.datum) it.own.items it.start it.next c.in-Refused.number passed.0 c.place-place.result
+    refused_there functions g.D.Disk.state course later c.args.self.now c.answer_form.new.self w c.args.wanted text held written (object_of it.read.datum) it.own.items it.start it.next c.in-Refused.number passed.0 c.place-place.result
     c.if-wanted.true passed.1 (subst (λ (a : Answered). TellsForm functions w c.args.wanted.mode text passed.0 a) c.in-Refused.is passed.2) next begins start_is place.0 place.1 place.2
 
 pub returns-in_default-clause-answers : goal.returns-in_default-clause-answers
@@ -38,7 +38,7 @@ returns-in_default-clause-answers g c = λ w known text next begins start_is.
     let held = g.W.Write.contents c.args.writer.now in
     let written = g.W.Write.contents c.answer_form.new.writer in
     let it = c.args.form.now in
-    let again = begins_as functions w c.args.wanted.mode text (object_of it.datum) it.own.items c.as_slice-own.result.now next begins c.as_slice-own.ensures.value in
+    let again = begins_as functions w c.args.wanted.mode text (object_of it.read.datum) it.own.items c.as_slice-own.result.now next begins c.as_slice-own.ensures.value in
     let passed = passes_form functions g.D.Disk.state course mid later c.args.self.now c.answer_form.new.self w c.args.wanted text held written it.start it.next c.in-Ok.answered
     (c.in-Ok.ensures.answers w known text next again) refl refl c.pass.ensures in
     (passed.0.refused, passed.1, λ strict. tells_accepted functions w c.args.wanted.mode text passed.0 c.in-Ok.answered (λ number is. c.in_default.not-Refused number is) passed.2)
@@ -52,7 +52,7 @@ returns-else-wanted-clause-answers g c = λ w known text next begins start_is.
     let held = g.W.Write.contents c.args.writer.now in
     let written = g.W.Write.contents c.answer_form.new.writer in
     let it = c.args.form.now in
-    let again = begins_as functions w c.args.wanted.mode text (object_of it.datum) it.own.items c.as_slice-own.result.now next begins c.as_slice-own.ensures.value in
+    let again = begins_as functions w c.args.wanted.mode text (object_of it.read.datum) it.own.items c.as_slice-own.result.now next begins c.as_slice-own.ensures.value in
     let passed = passes_form functions g.D.Disk.state course mid later c.args.self.now c.answer_form.new.self w c.args.wanted text held written it.start it.next c.in-Ok.answered
     (c.in-Ok.ensures.answers w known text next again) refl refl c.pass.ensures in
     (passed.0.refused, passed.1, λ strict. let lax = c.if-wanted.false in absurd (cc))

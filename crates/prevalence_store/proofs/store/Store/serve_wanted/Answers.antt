@@ -11,7 +11,7 @@ use Rattle.prevalence_store.proofs.store.Store.serve_wanted.Goals as goal
 pub reads-init : goal.reads-init
 reads-init g c =
     let begun = c.new-course.ensures in record {
-      known = search rules;
+      is_open = search rules;
       honest = refl;
       macros = refl;
       most = omega arith;
@@ -36,7 +36,7 @@ answer_end-requires-clause-pending g c =
     let functions = g.R.Meaning.Meaning.functions in
     let old = known_world c.args.self.now.world (search rules) in
     let far = c.reads.invariant.far old.0 old.1 in record {
-      known = c.reads.invariant.known;
+      is_open = c.reads.invariant.is_open;
       some = pending_again functions g.D.Disk.state c.args.wanted.strict (first_course c.args.wanted.snapshot_every) (course_of c.reads.course) c.args.self.now c.reads.self old.0 c.args.wanted.mode far.0
           (g.W.Write.contents c.args.writer.now) (g.W.Write.contents c.reads.writer) c.reads.pending [] far.1.0;
     }
@@ -46,7 +46,7 @@ answer_piece-requires-clause-pending g c =
     let functions = g.R.Meaning.Meaning.functions in
     let old = known_world c.args.self.now.world (search rules) in
     let far = c.reads.invariant.far old.0 old.1 in record {
-      known = c.reads.invariant.known;
+      is_open = c.reads.invariant.is_open;
       some = pending_again functions g.D.Disk.state c.args.wanted.strict (first_course c.args.wanted.snapshot_every) (course_of c.reads.course) c.args.self.now c.reads.self old.0 c.args.wanted.mode far.0
           (g.W.Write.contents c.args.writer.now) (g.W.Write.contents c.reads.writer) c.reads.pending [] far.1.0;
     }
@@ -99,7 +99,7 @@ reads-preserved g c =
     let functions = g.R.Meaning.Meaning.functions in
     let piece = take c.in-Ok.count c.read_piece.new.buffer in
     record {
-      known = search rules;
+      is_open = search rules;
       honest = c.answer_piece.ensures.honest ∙ c.reads.invariant.honest;
       macros = c.answer_piece.ensures.macros ∙ c.reads.invariant.macros;
       most = let test = c.reads-test.true in omega arith;

@@ -8,7 +8,7 @@ use Rattle.prevalence_store.proofs.store.Store.serve_wanted.Given as goal
 -- what was read was answered, as far as it decides; and what is left to read
 abbrev pub invariant-reads : goal.invariant-reads
 invariant-reads g l = record {
-  known : IsSome l.self.world;
+  is_open : IsSome l.self.world;
   honest : (g.D.Disk.state l.self.disk).honest ≡ (g.D.Disk.state l.fn.self.disk).honest;
   macros : l.self.macros ≡ l.fn.self.macros;
   most : l.reads ≤ 1099511627776;

@@ -46,7 +46,7 @@ returns-in_default g c =
         places = within_more _ _ c.in_ok-fed.fed (omega arith) c.in_ok-fed.ensures.within;
         pending = omega arith;
       };
-      known = c.in_ok-fed.ensures.known;
+      all_there = c.in_ok-fed.ensures.all_there;
       count = omega arith;
     }
 

@@ -25,7 +25,7 @@ returns-clause-feeds c = λ functions bytes p.
     c.in_ok-plain.ensures.form more))
     (λ later in_mode. c.new.ensures.none functions later in_mode)
 
-pub returns-clause-known : goal.returns-clause-known
-returns-clause-known c =
+pub returns-clause-all_there : goal.returns-clause-all_there
+returns-clause-all_there c =
     subst (λ (o : Option PlainForm). IfSome o (λ f. f.known ≡ true → are_there c.args.world.now.0.packages (object_of f.datum) ≡ true)) c.in-Some-2.is
     (subst (λ (t : Table). IfSome c.in_ok-plain.field-0 (λ f. f.known ≡ true → are_there t (object_of f.datum) ≡ true)) c.packages.ensures c.in_ok-plain.ensures.known)
