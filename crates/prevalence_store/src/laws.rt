@@ -1,9 +1,9 @@
-//! The theorem over any calls in a row and over any openings after them, that files mean one world, that files of version 1
-//! mean what they meant, and that groups change nothing.
+//! The theorem over any calls in a row and over any openings after them, that what is answered is stored, that files mean one
+//! world, that files of version 1 mean what they meant, and that groups change nothing.
 ghost use Rattle.std.specs.Prelude.{◌≡◌, ◌↔◌, ℕ, ◌+◌, Bool, true, List, [], ◌++◌, take, Option, Some, Ok, Err, false};
 ghost use Rattle.disk_trait.specs.Disk.{Image, IsFresh, IsHonest, Throughout};
 ghost use Rattle.gate_log.specs.Layout.{LogRecord};
-ghost use Rattle.prevalence_store.specs.meaning.Acceptance.{Acceptance, accepts, IsFormNumber};
+ghost use Rattle.prevalence_store.specs.meaning.Acceptance.{Acceptance, accepts, after, IsFormNumber};
 ghost use Rattle.prevalence_store.specs.meaning.Files.{MeansWorld};
 ghost use Rattle.prevalence_store.specs.meaning.Version1.{accepts1, MeansWorld1};
 ghost use Rattle.prevalence_store.specs.declared.mode.Mode.{Mode};
@@ -16,6 +16,7 @@ ghost use Rattle.prevalence_store.specs.calls.Open.{IsNoWord, IsUnopened, limit_
 ghost use Rattle.prevalence_store.specs.Theorem.{Call, Headline, IsAfterSome, IsStoppedBetween};
 ghost use Rattle.prevalence_store.specs.Theorem.{Keeps, KeepsSome, MeansSome, Reopens, Run};
 ghost use Rattle.prevalence_store.specs.Theorem.{acknowledged_of, disk_after, forms_of};
+ghost use Rattle.prevalence_store.specs.steps.Writing.{AreStored};
 ghost use Rattle.plist_state.specs.State.{WorldState, initial};
 ghost use Rattle.user_macros.specs.Functions.{Functions};
 
@@ -70,6 +71,16 @@ pub fn headline<D: Disk>()
         → (D.state crashed).reads ≡ image → IsHonest (D.state crashed)
         → (refused : IsUnopened functions D.state crashed true limit number back)
         → IsNoWord (limit_of limit) image refused.fault }
+{}
+
+/// While lines are written, nothing happens to the disk: whatever a crash then leaves, a store that is opened on it has the world
+/// after all forms whose lines these are. So what was answered is stored, also where a session is stopped in the middle.
+pub fn what_is_answered_is_stored<D: Disk>()
+    ensures { (functions : Functions) (disk crashed opened : D) (lines : List ℕ) (image : Image) (now : WorldState)
+        → IsHonest (D.state disk) → (stored : AreStored functions (D.state disk) lines)
+        → (D.state disk).may_leave image → (D.state crashed).reads ≡ image
+        → Reopens functions (D.state crashed) (D.state opened) now
+        → after functions stored.first stored.far.taken ≡ Some now }
 {}
 
 /// A session with groups that ends with its input, at a refusal of the reader, or at the first refused form if it is strict, is a session
