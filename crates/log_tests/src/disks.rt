@@ -1,4 +1,4 @@
-ghost use Rattle.std.specs.Prelude.{◌≡◌, ◌<◌, ◌-◌, ◌^◌, OnOk};
+ghost use Rattle.std.specs.Prelude.{◌≡◌, ◌<◌, ◌-◌, ◌^◌, IfOk, OnOk};
 
 use disk_trait::{
     Crash, DeviceFault, Disk, FuseDisk, Half, HostDisk, HostError, IfMissing, MemoryDisk, OnceDisk,
@@ -189,7 +189,7 @@ fn a_name_that_is_too_long_makes_nothing(rt: HostRuntime) -> Result<(), Fail> {
 
 /// A disk whose half of this kind is the file with this name, and whose other half is an empty file in the folder.
 fn disk_with(rt: &HostRuntime, dir: &str, bad: Half, name: &str) -> Result<HostDisk, Fail>
-    ensures { OnOk result ((⟦<HostDisk as Disk>⟧.state result).failures ≡ 0) }
+    ensures { IfOk result (λ disk. (⟦<HostDisk as Disk>⟧.state disk).failures ≡ 0) }
 {
     let path = format!(in rt.alloc(); "{dir}/other")?;
     let other = File::create_new(rt, path.as_str())?;
