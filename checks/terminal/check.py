@@ -3,10 +3,14 @@
 import os
 import pty
 import select
+import signal
+import socket
+import struct
 import subprocess
 import sys
 import tempfile
 import termios
+import time
 
 program = os.path.abspath(sys.argv[1])
 # Only a program that hangs is waited for so many seconds.
@@ -53,7 +57,16 @@ class Terminal:
 
 
 CONTROL_D = "\x04"
-WELCOME = "Type a form and Enter; Ctrl-D ends.\n"
+WELCOME = "Type a form and Enter; help tells more, Ctrl-D ends. For editing lines: rlwrap ./pazturrok run DIR\n"
+HELP = """(SETF (GET 'APPLE 'PRICE) 7) sets a property, (GET 'APPLE 'PRICE) gives it, (SYMBOL-PLIST 'APPLE) gives all of a symbol.
+An answer that begins with ! is a refusal: docs/use/refusals.md has the numbers, docs/use/operators.md the operators.
+Ctrl-D at the beginning of a line ends. Each answer is in the store by then.
+"""
+LEAVING = "Ctrl-D at the beginning of a line ends.\n"
+UNKNOWN_OPERATOR = """The current package finds no operator of this name: docs/use/operators.md has all. If none is found any more, the package does not
+use COMMON-LISP, and (COMMON-LISP:IN-PACKAGE "CL-USER") leads back.
+"""
+UNANSWERED = "Nothing was answered: a form is open, or the readtable makes comments of what is typed; --rescue reads under the standard one.\n"
 REFUSED = "line %d, column %d: refused with %s in form %d, which began at line %d, column %d\n"
 DROPPED = "The rest of the line was dropped, and a new session begins.\n"
 passed = failed = 0
@@ -68,6 +81,42 @@ def check(name, got, want):
         print(f"{name}:\n  got  {got!r}\n  want {want!r}")
 
 
+def waits(process):
+    """Waits until the process waits for a stream."""
+    for _ in range(PATIENCE * 10):
+        with open(f"/proc/{process.pid}/stat", encoding="ascii") as file:
+            if file.read().rsplit(")", 1)[1].split()[0] == "S":
+                return
+        time.sleep(0.1)
+
+
+def interrupted(folder):
+    """A read and a write of a socket with a time limit, which end early after a stop and a continuation: both are made again."""
+    near, far = socket.socketpair()
+    limit = struct.pack("ll", PATIENCE, 0)
+    far.setsockopt(socket.SOL_SOCKET, socket.SO_RCVTIMEO, limit)
+    far.setsockopt(socket.SOL_SOCKET, socket.SO_SNDTIMEO, limit)
+    process = subprocess.Popen([program, "run", folder], stdin=far, stdout=far, stderr=subprocess.PIPE)
+    far.close()
+    near.sendall(b"(GET 'A 'B)\n")
+    answers = near.recv(2)
+    for text in (b"(GET 'A 'B)\n", b"#(%s)\n" % (b'"%s"' % (b"x" * 999_000))):
+        waits(process)
+        process.send_signal(signal.SIGSTOP)
+        process.send_signal(signal.SIGCONT)
+        near.sendall(text)
+    # the second answer is longer than the socket holds: the program waits in its write
+    time.sleep(1)
+    waits(process)
+    process.send_signal(signal.SIGSTOP)
+    process.send_signal(signal.SIGCONT)
+    near.shutdown(socket.SHUT_WR)
+    while more := near.recv(65536):
+        answers += more
+    check("a stop and a continuation", (answers[:4], len(answers), process.wait(timeout=PATIENCE), process.stderr.read()),
+          (b"9\n9\n", 4 + 999_006, 0, b""))
+
+
 with tempfile.TemporaryDirectory() as room:
     store = os.path.join(room, "store")
     it = Terminal("run", store)
@@ -80,7 +129,7 @@ with tempfile.TemporaryDirectory() as room:
     it.step("its end", " 2)\n", "(1 2)\n", "> ")
     it.step("two forms", "(LIST 1) (LIST 2\n", "(1)\n", ". ")
     it.step("the end of the second", ")\n", "(2)\n", "> ")
-    it.step("refused by evaluation", "(FROB)\n", "! 31 UNKNOWN-OPERATOR\n", "> ")
+    it.step("refused by evaluation", "(FROB)\n", "! 31 UNKNOWN-OPERATOR\n", UNKNOWN_OPERATOR + "> ")
     it.step("refused by the reader", "10.5 (SETF (GET 'A 'B) 8)\n", "! 7 FLOAT-TOKEN\n", REFUSED % (10, 5, "7 FLOAT-TOKEN", 7, 10, 1) + DROPPED + "> ")
     it.step("the next session", "(GET 'A 'B)\n", "7\n", "> ")
     it.step("a paste", "(SETF (GET 'A 'B) 9)\n) (SETF (GET 'A 'B) 10)\n(GET 'A 'B)\n", "9\n! 4 STRAY-CLOSE\n9\n",
@@ -101,10 +150,25 @@ with tempfile.TemporaryDirectory() as room:
 
     it = Terminal("run", store)
     it.step("a form without its end", "(LIST\n", "", WELCOME + "> . ")
-    it.end("the end inside a form", CONTROL_D, "! 1 END-OF-FILE\n", "\n" + REFUSED % (2, 1, "1 END-OF-FILE", 1, 1, 1), 1)
+    it.end("the end inside a form", CONTROL_D, "! 1 END-OF-FILE\n", "\n" + UNANSWERED + REFUSED % (2, 1, "1 END-OF-FILE", 1, 1, 1), 1)
+
+    it = Terminal("run", store)
+    it.step("a word for help", "help\n", "! 30 NOT-A-FORM\n", WELCOME + "> " + HELP + "> ")
+    it.step("a word to leave", " 12\nexit\n", "12\n! 30 NOT-A-FORM\n", "> " + LEAVING + "> ")
+    it.step("a package without operators", '(MAKE-PACKAGE "BOOK")\n(IN-PACKAGE "BOOK")\n', '"BOOK"\n"BOOK"\n', "> > ")
+    it.step("its first form", "(LIST 1)\n", "! 31 UNKNOWN-OPERATOR\n", UNKNOWN_OPERATOR + "> ")
+    it.step("its second form", "(LIST 1)\n", "! 31 UNKNOWN-OPERATOR\n", "> ")
+    it.step("the way back", '(COMMON-LISP:IN-PACKAGE "CL-USER")\n', '"COMMON-LISP-USER"\n', "> ")
+    it.step("a readtable in which each form is a comment", "(SET-SYNTAX-FROM-CHAR #\\( #\\;)\n", "T\n", "> ")
+    it.step("forms that are comments", "(LIST 1)\n" * 4, "", ". . . " + UNANSWERED + ". ")
+    it.end("their end", CONTROL_D, "", "\n", 0)
+
+    it = Terminal("run", store, "--rescue")
+    it.step("the way back", "(COPY-READTABLE NIL :USER)\n", ":USER\n", WELCOME + "> > ")
+    it.end("its end", CONTROL_D, "", "\n", 0)
 
     it = Terminal("verify", store)
-    it.end("another command asks for nothing", "", "half A generation 1 records 4\n", "", 0)
+    it.end("another command asks for nothing", "", "half A generation 1 records 9\n", "", 0)
 
     it = Terminal("run", store + "2", "--existing")
     it.end("a fault", "", "", "! 60 DEVICE\nthere is no store in this folder\n", 3)
@@ -112,6 +176,12 @@ with tempfile.TemporaryDirectory() as room:
     piped = subprocess.run([program, "run", store], input=b"(GET 'A 'B)\n) 5\n", capture_output=True)
     told = REFUSED % (2, 1, "4 STRAY-CLOSE", 2, 2, 1)
     check("a pipe", (piped.stdout, piped.stderr, piped.returncode), (b"9\n! 4 STRAY-CLOSE\n", told.encode(), 1))
+
+    # control characters of a word do not reach the terminal
+    told = subprocess.run([program, "run", store, "--\x1b[31mred\x9b"], capture_output=True)
+    check("a word with control characters", (told.returncode, b"\\x1b[31mred\\x9b" in told.stderr, b"\x1b" in told.stderr, b"\xc2\x9b" in told.stderr),
+          (2, True, False, False))
+    interrupted(store)
 
 print(f"{passed} passed, {failed} failed")
 sys.exit(1 if failed else 0)

@@ -24,6 +24,11 @@ pub struct Spot {
 pub trait Places: Read {
     /// The place after so many bytes of it, if that is known.
     fn spot_at(&self, bytes: u64) -> Option<Spot>;
+
+    /// Whether it is known that text was given, and nothing of it answered.
+    fn is_unanswered(&self) -> bool {
+        false
+    }
 }
 
 /// An input, with the last bytes that it gave.

@@ -9,7 +9,7 @@ use std::cell::Cell;
 use std::fs;
 use std::io::{Read, Write};
 use std::test::Fail;
-use store_commands::{Answers, Lines, SixFunctions, Terminal, program_at_terminal};
+use store_commands::{Answers, Heard, Lines, SixFunctions, Terminal, program_at_terminal};
 use user_macros::MacroFunctions;
 
 /// The status of a program at a terminal, with these streams. They are parameters of types of their own, as the terminal would
@@ -30,9 +30,9 @@ where
     P: Write + Drop,
     requires answers { M.answers macros }
 {
-    let answered = Cell::new(false);
-    let mut terminal = Terminal::new(Lines::new(rt.alloc(), input), prompts, &answered);
-    let mut answers = Answers::new(output, &answered);
+    let heard = Cell::new(Heard::Nothing);
+    let mut terminal = Terminal::new(Lines::new(rt.alloc(), input), prompts, &heard);
+    let mut answers = Answers::new(output, &heard);
     program_at_terminal(rt, macros, words, &mut terminal, &mut answers, faults).code()
 }
 
@@ -96,46 +96,51 @@ fn text_of(
 /// Words, what is typed, and the text that is wanted.
 type Row = (&'static str, &'static [u8], &'static [u8]);
 
-const ROWS: [Row; 11] = [
+const ROWS: [Row; 12] = [
     (
         "run DIR",
         b"(SETF (GET 'A 'B) 7)\n12\n\n",
-        b"0\n7\n12\n--\nType a form and Enter; Ctrl-D ends.\n> > > > \n",
+        b"0\n7\n12\n--\nType a form and Enter; help tells more, Ctrl-D ends. For editing lines: rlwrap ./pazturrok run DIR\n> > > > \n",
     ),
     (
         "run DIR",
         b"; a remark\n(LIST 1\n 2) (LIST\n)\n",
-        b"0\n(1 2)\nNIL\n--\nType a form and Enter; Ctrl-D ends.\n> > . . > \n",
+        b"0\n(1 2)\nNIL\n--\nType a form and Enter; help tells more, Ctrl-D ends. For editing lines: rlwrap ./pazturrok run DIR\n> > . . > \n",
     ),
     (
         "run DIR",
         b"10.5 (SETF (GET 'A 'B) 8)\n(GET 'A 'B)\n",
-        b"0\n! 7 FLOAT-TOKEN\n7\n--\nType a form and Enter; Ctrl-D ends.\n> line 1, column 5: refused with 7 FLOAT-TOKEN in form 1, which began at line 1, column 1\nThe rest of the line was dropped, and a new session begins.\n> > \n",
+        b"0\n! 7 FLOAT-TOKEN\n7\n--\nType a form and Enter; help tells more, Ctrl-D ends. For editing lines: rlwrap ./pazturrok run DIR\n> line 1, column 5: refused with 7 FLOAT-TOKEN in form 1, which began at line 1, column 1\nThe rest of the line was dropped, and a new session begins.\n> > \n",
     ),
     (
         "run DIR --existing",
         b"(FROB)\n )\n",
-        b"0\n! 31 UNKNOWN-OPERATOR\n! 4 STRAY-CLOSE\n--\nType a form and Enter; Ctrl-D ends.\n> > line 2, column 2: refused with 4 STRAY-CLOSE in form 2, which began at line 2, column 2\nThe rest of the line was dropped, and a new session begins.\n> \n",
+        b"0\n! 31 UNKNOWN-OPERATOR\n! 4 STRAY-CLOSE\n--\nType a form and Enter; help tells more, Ctrl-D ends. For editing lines: rlwrap ./pazturrok run DIR\n> The current package finds no operator of this name: docs/use/operators.md has all. If none is found any more, the package does not\nuse COMMON-LISP, and (COMMON-LISP:IN-PACKAGE \"CL-USER\") leads back.\n> line 2, column 2: refused with 4 STRAY-CLOSE in form 2, which began at line 2, column 2\nThe rest of the line was dropped, and a new session begins.\n> \n",
     ),
     (
         "run DIR",
         b") 7",
-        b"1\n! 4 STRAY-CLOSE\n--\nType a form and Enter; Ctrl-D ends.\n> line 1, column 1: refused with 4 STRAY-CLOSE in form 1, which began at line 1, column 1\n",
+        b"1\n! 4 STRAY-CLOSE\n--\nType a form and Enter; help tells more, Ctrl-D ends. For editing lines: rlwrap ./pazturrok run DIR\n> line 1, column 1: refused with 4 STRAY-CLOSE in form 1, which began at line 1, column 1\n",
     ),
     (
         "run DIR --snapshot-every 1",
         b"(SETF (GET 'A 'B)\n",
-        b"1\n! 1 END-OF-FILE\n--\nType a form and Enter; Ctrl-D ends.\n> . \nline 2, column 1: refused with 1 END-OF-FILE in form 1, which began at line 1, column 1\n",
+        b"1\n! 1 END-OF-FILE\n--\nType a form and Enter; help tells more, Ctrl-D ends. For editing lines: rlwrap ./pazturrok run DIR\n> . \nNothing was answered: a form is open, or the readtable makes comments of what is typed; --rescue reads under the standard one.\nline 2, column 1: refused with 1 END-OF-FILE in form 1, which began at line 1, column 1\n",
     ),
     (
         "run DIR --rescue",
         b"(GET 'A 'B)\n",
-        b"0\n7\n--\nType a form and Enter; Ctrl-D ends.\n> > \n",
+        b"0\n7\n--\nType a form and Enter; help tells more, Ctrl-D ends. For editing lines: rlwrap ./pazturrok run DIR\n> > \n",
     ),
     (
         "run DIR --group",
         b"12 (GET 'A 'B) (LIST 1\n)\n",
-        b"0\n12\n7\n(1)\n--\nType a form and Enter; Ctrl-D ends.\n> . > \n",
+        b"0\n12\n7\n(1)\n--\nType a form and Enter; help tells more, Ctrl-D ends. For editing lines: rlwrap ./pazturrok run DIR\n> . > \n",
+    ),
+    (
+        "run DIR",
+        b"help\nexit\n",
+        b"0\n! 30 NOT-A-FORM\n! 30 NOT-A-FORM\n--\nType a form and Enter; help tells more, Ctrl-D ends. For editing lines: rlwrap ./pazturrok run DIR\n> (SETF (GET 'APPLE 'PRICE) 7) sets a property, (GET 'APPLE 'PRICE) gives it, (SYMBOL-PLIST 'APPLE) gives all of a symbol.\nAn answer that begins with ! is a refusal: docs/use/refusals.md has the numbers, docs/use/operators.md the operators.\nCtrl-D at the beginning of a line ends. Each answer is in the store by then.\n> Ctrl-D at the beginning of a line ends.\n> \n",
     ),
     (
         "verify DIR",

@@ -13,7 +13,7 @@ use Rattle.diagnostics.specs.Texts.{WritesOut}
 use Rattle.store_commands.specs.Texts.{TellsText}
 use Rattle.diagnostics.specs.declared.fault.Unwritten.{Unwritten}
 use Rattle.store_commands.specs.declared.status.Status.{Status}
-use Rattle.store_commands.specs.declared.status.Status.TheVariants.{Done, Helped, FormRefused, WordsRefused, LeftOut, Fault}
+use Rattle.store_commands.specs.declared.status.Status.TheVariants.{Done, Helped, FormRefused, Unanswered, WordsRefused, LeftOut, Fault}
 use Rattle.store_commands.specs.declared.told.Told.{Told}
 use Rattle.command_words.specs.declared.words.Report.{Report}
 use Rattle.command_words.specs.declared.words.Report.TheVariants.{Dump, Verify}
@@ -39,6 +39,7 @@ module _ (held written : Option (List ℕ)) (text : List ℕ) where
   text_taken (Fault number) told = tt
   text_taken Helped told = absurd told
   text_taken FormRefused told = absurd told
+  text_taken Unanswered told = absurd told
   text_taken WordsRefused told = absurd told
   text_taken LeftOut told = absurd told
 
@@ -59,6 +60,7 @@ module _ (held written : Option (List ℕ)) (text : List ℕ) where
   text_fault (Fault given) told = λ number is. let same : given ≡ number = cc in subst IsFaultNumber same (number_of_text given told)
   text_fault Helped told = absurd told
   text_fault FormRefused told = absurd told
+  text_fault Unanswered told = absurd told
   text_fault WordsRefused told = absurd told
   text_fault LeftOut told = absurd told
 
@@ -77,6 +79,7 @@ module _ (functions : Functions) {D R : Type 0} (state : D → State) (disk : D)
   dump_writes (Fault number) told = tt
   dump_writes Helped told = tt
   dump_writes FormRefused told = absurd told.tells
+  dump_writes Unanswered told = absurd told.tells
   dump_writes WordsRefused told = tt
   dump_writes LeftOut told = absurd told.tells
 
@@ -85,6 +88,7 @@ module _ (functions : Functions) {D R : Type 0} (state : D → State) (disk : D)
   verify_writes (Fault number) told = tt
   verify_writes Helped told = tt
   verify_writes FormRefused told = absurd told.tells
+  verify_writes Unanswered told = absurd told.tells
   verify_writes WordsRefused told = tt
   verify_writes LeftOut told = absurd told.tells
 

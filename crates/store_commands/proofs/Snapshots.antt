@@ -14,7 +14,7 @@ use Rattle.store_commands.specs.Report.{HasNoValue, TellsHalf, TellsSnapshot, ha
 use Rattle.store_commands.specs.Status.{HasFaultNumber, IsFaultNumber, TakesWords}
 use Rattle.store_commands.specs.Texts.{TellsText}
 use Rattle.store_commands.specs.declared.status.Status.{Status}
-use Rattle.store_commands.specs.declared.status.Status.TheVariants.{Done, Helped, FormRefused, WordsRefused, LeftOut, Fault}
+use Rattle.store_commands.specs.declared.status.Status.TheVariants.{Done, Helped, FormRefused, Unanswered, WordsRefused, LeftOut, Fault}
 use Rattle.command_words.specs.declared.words.Task.TheVariants.{Snapshot}
 use Rattle.store_commands.proofs.Reports.{text_fault, text_front, text_of_no_opening, text_taken}
 use Rattle.store_commands.proofs.Statuses.{other_number}
@@ -69,6 +69,7 @@ module _ (functions : Functions) {D R : Type 0} (state : D → State) (old new :
       half_told (Fault number) told = tt
       half_told Helped told = tt
       half_told FormRefused told = absurd told
+      half_told Unanswered told = absurd told
       half_told WordsRefused told = tt
       half_told LeftOut told = absurd told
 

@@ -1,14 +1,15 @@
 -- Where the words are taken, the status is of a session or of a fault.
-use Rattle.std.proofs.Common.{◌≡◌, ◌⊎◌, ℕ, List, Option, [], ◌∷◌, true, false, true≢false, ap, refl, inl, inr, ◌∙◌, sym, subst, arith}
+use Rattle.std.proofs.Common.{◌≡◌, ◌⊎◌, Bool, ℕ, List, Option, [], ◌∷◌, true, false, true≢false, ap, refl, inl, inr, ◌∙◌, sym, subst, arith}
 use Rattle.clap.specs.Words.{IsAmong, Kinds}
 use Rattle.clap.specs.declared.error.kind.ErrorKind.{ErrorKind}
 use Rattle.clap.specs.declared.error.kind.ErrorKind.TheVariants.{OutOfMemory}
 use Rattle.prevalence_store.specs.declared.outcome.Ended.{Ended}
 use Rattle.prevalence_store.specs.declared.outcome.Ended.TheVariants.{End, Store, Unaccepted, Unreadable}
+use Rattle.prevalence_store.specs.declared.outcome.Wanted.{Wanted}
 use Rattle.store_commands.specs.declared.status.Status.{Status}
-use Rattle.store_commands.specs.declared.status.Status.TheVariants.{Done, Helped, FormRefused, WordsRefused, LeftOut, Fault}
+use Rattle.store_commands.specs.declared.status.Status.TheVariants.{Done, Helped, FormRefused, Unanswered, WordsRefused, LeftOut, Fault}
 use Rattle.store_commands.specs.Commands.{IsEarlyFault, is_of_opening}
-use Rattle.store_commands.specs.Status.{EndsAfter, HasFaultNumber, IsAfterOneOf, IsAfterWords, IsCarriedOut, IsFaultNumber, IsOfWords, TakesWords, status_of_ended, status_of_host}
+use Rattle.store_commands.specs.Status.{EndsAfter, HasFaultNumber, IsAfterOneOf, IsAfterWords, IsCarriedOut, IsFaultNumber, IsOfWords, TakesWords, status_after, status_of_ended, status_of_host}
 use Rattle.store_commands.specs.Told.{TellsFault}
 use Rattle.store_commands.specs.declared.told.Told.TheVariants.{Nothing}
 use Rattle.lisp_object.specs.declared.refusal.TheConstants.{NO_MEMORY, OUTPUT}
@@ -33,6 +34,19 @@ of_memory status (inr both) = subst TakesWords (sym both.1) tt
 pub taken_at_memory : (status given : Status) (kind : ErrorKind) → status ≡ given → kind ≡ OutOfMemory → IsAfterWords kind given → TakesWords status
 taken_at_memory status given kind same memory after =
     subst TakesWords (sym same) (of_memory given (subst (λ k. IsAfterWords k given) memory after))
+
+-- the status after a session is that of its end, or a strict one answered nothing
+pub status_so : (wanted : Wanted) (ended : Ended) (unanswered : Bool) (status : Status) → status ≡ status_after wanted.strict unanswered ended
+    → ((status ≡ status_of_ended ended) ⊎ ((wanted.strict ≡ true) × (ended ≡ End) × (status ≡ Unanswered)))
+status_so wanted End unanswered status is = go wanted.strict unanswered is
+  where
+    go : (strict none : Bool) → status ≡ status_after strict none End → ((status ≡ Done) ⊎ ((strict ≡ true) × (End ≡ End) × (status ≡ Unanswered)))
+    go false none is = inl is
+    go true false is = inl is
+    go true true is = inr (refl, refl, is)
+status_so wanted (Unreadable number place) unanswered status is = inl is
+status_so wanted (Unaccepted number place) unanswered status is = inl is
+status_so wanted (Store number) unanswered status is = inl is
 
 -- a fault after a session is the number that the session ended with
 end_is : (ended : Ended) (number : ℕ) → status_of_ended ended ≡ Fault number → ended ≡ Store number
@@ -97,13 +111,17 @@ other_number number given is other of = true≢false (sym of ∙ ap is_of_openin
 pub words_carry_out : (status : Status) → IsOfWords status → IsCarriedOut status → ⊥
 words_carry_out Done none carried = none
 words_carry_out FormRefused none carried = none
+words_carry_out Unanswered none carried = none
 words_carry_out LeftOut none carried = none
 words_carry_out Helped of (inl is) = absurd (cc)
-words_carry_out Helped of (inr is) = absurd (cc)
+words_carry_out Helped of (inr (inl is)) = absurd (cc)
+words_carry_out Helped of (inr (inr is)) = absurd (cc)
 words_carry_out WordsRefused of (inl is) = absurd (cc)
-words_carry_out WordsRefused of (inr is) = absurd (cc)
+words_carry_out WordsRefused of (inr (inl is)) = absurd (cc)
+words_carry_out WordsRefused of (inr (inr is)) = absurd (cc)
 words_carry_out (Fault number) of (inl is) = absurd (cc)
-words_carry_out (Fault number) of (inr is) = absurd (cc)
+words_carry_out (Fault number) of (inr (inl is)) = absurd (cc)
+words_carry_out (Fault number) of (inr (inr is)) = absurd (cc)
 
 number_of_words : (number : ℕ) → (number ≡ NO_MEMORY) ⊎ (number ≡ OUTPUT) → IsFaultNumber number
 number_of_words number (inl memory) = inr (inr memory)
@@ -112,6 +130,7 @@ number_of_words number (inr output) = subst IsFaultNumber (sym output) (inr (inl
 pub fault_of_words : (status : Status) → IsOfWords status → HasFaultNumber status
 fault_of_words Done of = absurd of
 fault_of_words FormRefused of = absurd of
+fault_of_words Unanswered of = absurd of
 fault_of_words LeftOut of = absurd of
 fault_of_words Helped of = λ number is. absurd (cc)
 fault_of_words WordsRefused of = λ number is. absurd (cc)
@@ -124,6 +143,7 @@ opening_of_words given (inr output) = other_number given OUTPUT output refl
 pub words_open : (status : Status) → IsOfWords status → (number : ℕ) → status ≡ Fault number → is_of_opening number ≡ true → ⊥
 words_open Done none number is of = none
 words_open FormRefused none number is of = none
+words_open Unanswered none number is of = none
 words_open LeftOut none number is of = none
 words_open Helped told number is of = absurd (cc)
 words_open WordsRefused told number is of = absurd (cc)
@@ -140,5 +160,6 @@ told_after_words given status old mid new same kept told = subst (λ (s : Status
     go Helped kept told = tt
     go WordsRefused kept told = tt
     go FormRefused kept told = told ∙ kept (λ is. absurd (cc))
+    go Unanswered kept told = subst (λ (o : Option (List ℕ)). TellsFault Unanswered Nothing o new) (kept (λ is. absurd (cc))) told
     go LeftOut kept told = subst (λ (o : Option (List ℕ)). TellsFault LeftOut Nothing o new) (kept (λ is. absurd (cc))) told
     go (Fault number) kept told = subst (λ (o : Option (List ℕ)). TellsFault (Fault number) Nothing o new) (kept (λ is. absurd (cc))) told

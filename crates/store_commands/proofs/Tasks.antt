@@ -14,13 +14,14 @@ use Rattle.prevalence_store.specs.declared.outcome.Wanted.{Wanted}
 use Rattle.store_commands.specs.Commands.{CarriesOut, DoesOn, IsEarlyFault, IsUntouched, Performs, TaskBreaksOff, TaskReads, TaskWrites, TellsUnopened}
 use Rattle.store_commands.specs.Report.{IsExport, IsReport, IsSnapshot, IsUpgrade, half_line, version_line}
 use Rattle.prevalence_store.specs.calls.Open.{IsUnopened}
-use Rattle.store_commands.specs.Session.{AnswersInput, IsSession, ReadsToEnd, half_limit}
-use Rattle.store_commands.specs.Status.{HasFaultNumber, IsFaultNumber, status_of_ended}
+use Rattle.prevalence_store.specs.calls.Serve.{ServesWanted}
+use Rattle.store_commands.specs.Session.{AnswersInput, IsSession, IsStatusAfter, ReadsToEnd, half_limit}
+use Rattle.store_commands.specs.Status.{HasFaultNumber, IsFaultNumber, TakesWords}
 use Rattle.store_commands.specs.Told.{IsToldOf, left_out_of}
 use Rattle.store_commands.specs.declared.told.Told.{Told}
 use Rattle.store_commands.specs.declared.told.Told.TheVariants.{Nothing}
 use Rattle.store_commands.specs.declared.status.Status.{Status}
-use Rattle.store_commands.specs.declared.status.Status.TheVariants.{Fault}
+use Rattle.store_commands.specs.declared.status.Status.TheVariants.{Fault, Unanswered}
 use Rattle.command_words.specs.declared.words.Report.{Report}
 use Rattle.command_words.specs.declared.words.Report.TheVariants.{Dump, Verify}
 use Rattle.command_words.specs.declared.words.Task.{Task}
@@ -31,6 +32,10 @@ use Rattle.store_commands.proofs.Snapshots.{snapshot_breaks, snapshot_fault, sna
 use Rattle.store_commands.proofs.Upgrades.{forms_break, forms_fault, forms_of_no_opening, forms_taken, forms_written, upgrade_breaks, upgrade_fault, upgrade_of_no_opening, upgrade_taken, upgrade_writes}
 use Rattle.world_forms.specs.declared.export.Content.{Content}
 use Rattle.store_commands.proofs.Statuses.{end_at, taken_at_end}
+
+-- a session that answered nothing met no fault
+no_fault : (number : ℕ) → Unanswered ≡ Fault number → ⊥
+no_fault number is = absurd (cc)
 
 -- after a fault, with nothing read and nothing written
 module _ (functions : Functions) (input had : List ℕ) (left written : Option (List ℕ)) where
@@ -103,7 +108,22 @@ module _ (functions : Functions) {D R : Type 0} (state : D → State) (macros : 
   performs_session : (disk back : D) (folder : Text) (wanted : Wanted) (status : Status) → (folder ≡ [] → ⊥)
       → CarriesOut functions state macros whole remaining contents input left held written disk back (Run wanted) status told
       → PerformedHere folder (Run wanted) status
-  performs_session disk back folder wanted status named (ended, is, tells, session) = record {
+  performs_session disk back folder wanted status named (ended, inr (strict, at_end, is), tells, session) =
+      let served = subst (λ (e : Ended). ServesWanted functions state wanted session.opened session.closed session.is_opened.world
+      (remaining input) (remaining left) (contents held) (contents written) e) at_end session.serves in
+      record {
+        taken = subst TakesWords (sym is) tt;
+        nameless = λ none. absurd (named none);
+        unread = λ none. absurd (true≢false none);
+        unopened = λ number fault of. absurd (no_fault number (sym is ∙ fault));
+        fault = λ number fault. absurd (no_fault number (sym is ∙ fault));
+        reads = λ text had. subst (λ (s : Status). ReadsToEnd s (remaining left)) (sym is)
+            (reads_to_end functions wanted state session.opened session.closed session.is_opened.world _ _ _ _ End served text had);
+        writes = λ text had reads holds. subst (λ (s : Status). AnswersInput functions wanted s told text had (contents written)) (sym is)
+            (strict, answers_input functions wanted state session.opened session.closed session.is_opened.world _ _ _ _ End told tt served text had reads holds);
+        breaks_off = λ text had number reads holds fault. absurd (no_fault number (sym is ∙ fault));
+      }
+  performs_session disk back folder wanted status named (ended, inl is, tells, session) = record {
     taken = taken_at_end status status ended refl is;
     nameless = λ none. absurd (named none);
     unread = λ none. absurd (true≢false none);
@@ -207,7 +227,7 @@ module _ (functions : Functions) {D R : Type 0} (state : D → State) (macros : 
 
   -- what a session, and what a report, is over a disk
   pub does_run : (disk back : D) (task : Task) (status : Status) (wanted : Wanted) (ended : Ended) → task ≡ Run wanted
-      → status ≡ status_of_ended ended → IsToldOf ended told
+      → IsStatusAfter functions wanted ended status → IsToldOf ended told
       → IsSession functions wanted state disk macros (remaining input) (remaining left) (contents held) (contents written) ended back
       → DoesOn functions state macros whole remaining contents input left held written disk back task status told
   does_run disk back task status wanted ended is ends tells session =

@@ -18,7 +18,7 @@ use Rattle.store_commands.specs.Report.{HasNoValue, TellsForms, TellsUpgrade, Te
 use Rattle.store_commands.specs.Status.{HasFaultNumber, TakesWords}
 use Rattle.store_commands.specs.Texts.{TellsText}
 use Rattle.store_commands.specs.declared.status.Status.{Status}
-use Rattle.store_commands.specs.declared.status.Status.TheVariants.{Done, Helped, FormRefused, WordsRefused, LeftOut, Fault}
+use Rattle.store_commands.specs.declared.status.Status.TheVariants.{Done, Helped, FormRefused, Unanswered, WordsRefused, LeftOut, Fault}
 use Rattle.command_words.specs.declared.words.Task.TheVariants.{Export, Upgrade}
 use Rattle.store_commands.proofs.Reports.{text_fault, text_front, text_of_no_opening, text_taken}
 use Rattle.store_commands.proofs.Snapshots.{no_value, refused_fault, refused_opening}
@@ -64,6 +64,7 @@ module _ (functions : Functions) {D R : Type 0} (state : D → State) (old new :
       version_told (Fault number) told = tt
       version_told Helped told = tt
       version_told FormRefused told = absurd told
+      version_told Unanswered told = absurd told
       version_told WordsRefused told = tt
       version_told LeftOut told = absurd told
 
@@ -92,6 +93,7 @@ module _ (held written : Option (List ℕ)) (world : WorldState) (content : Cont
   forms_taken (Fault number) told = tt
   forms_taken Helped told = absurd told
   forms_taken FormRefused told = absurd told
+  forms_taken Unanswered told = absurd told
   forms_taken WordsRefused told = absurd told
 
   pub forms_fault : (status : Status) → Tells status → HasFaultNumber status
@@ -100,6 +102,7 @@ module _ (held written : Option (List ℕ)) (world : WorldState) (content : Cont
   forms_fault (Fault number) told = text_fault held written (forms world content) (Fault number) told
   forms_fault Helped told = absurd told
   forms_fault FormRefused told = absurd told
+  forms_fault Unanswered told = absurd told
   forms_fault WordsRefused told = absurd told
 
   pub forms_of_no_opening : (status : Status) (number : ℕ) → status ≡ Fault number → Tells status → is_of_opening number ≡ true → ⊥
@@ -113,6 +116,7 @@ module _ (held written : Option (List ℕ)) (world : WorldState) (content : Cont
     forms_written (Fault number) told = tt
     forms_written Helped told = absurd told
     forms_written FormRefused told = absurd told
+    forms_written Unanswered told = absurd told
     forms_written WordsRefused told = absurd told
 
     pub forms_break : (functions : Functions) (status : Status) (number : ℕ) (input : List ℕ) → status ≡ Fault number

@@ -13,7 +13,7 @@ use Rattle.prevalence_store.specs.calls.Open.{IsUnopened}
 use Rattle.prevalence_store.specs.declared.outcome.Ended.{Ended}
 use Rattle.prevalence_store.specs.declared.outcome.Wanted.{Wanted}
 use Rattle.store_commands.specs.Report.{DumpsWorld, IsExport, IsReport, IsSnapshot, IsUpgrade, TellsHalf, TellsVersion, WritesForms, half_line, version_line}
-use Rattle.store_commands.specs.Session.{AnswersInput, IsBrokenOff, IsSession, ReadsToEnd, half_limit}
+use Rattle.store_commands.specs.Session.{AnswersInput, IsBrokenOff, IsSession, IsStatusAfter, ReadsToEnd, half_limit}
 use Rattle.store_commands.specs.Sessions.{AreSessions}
 use Rattle.store_commands.specs.Status.{HasFaultNumber, IsCarriedOut, TakesWords, status_of_ended, status_of_host}
 use Rattle.diagnostics.specs.Texts.{IsFront}
@@ -89,7 +89,7 @@ module _ (functions : Functions) {D R : Type 0} (state : D → State) (macros : 
   -- taken, the store was upgraded or exported, or something was told of it. The disk is left as the store that was closed left it.
   abbrev pub CarriesOut : D → D → Task → Status → Told → Type 0
   CarriesOut disk back (Run wanted) status told =
-      (ended : Ended) × (status ≡ status_of_ended ended) × IsToldOf ended told
+      (ended : Ended) × IsStatusAfter functions wanted ended status × IsToldOf ended told
       × IsSession functions wanted state disk macros (remaining input) (remaining left) (contents held) (contents written) ended back
   CarriesOut disk back Snapshot status told =
       IsSnapshot functions state disk macros (contents held) (contents written) status back × (left ≡ input)

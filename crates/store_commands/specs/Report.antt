@@ -18,7 +18,7 @@ use Rattle.prevalence_store.specs.calls.Streams.{Writes}
 use Rattle.store_commands.specs.Texts.{TellsText}
 use Rattle.store_commands.specs.Session.{half_limit}
 use Rattle.store_commands.specs.declared.status.Status.{Status}
-use Rattle.store_commands.specs.declared.status.Status.TheVariants.{Done, Helped, FormRefused, WordsRefused, LeftOut, Fault}
+use Rattle.store_commands.specs.declared.status.Status.TheVariants.{Done, Helped, FormRefused, Unanswered, WordsRefused, LeftOut, Fault}
 use Rattle.command_words.specs.declared.words.Report.{Report}
 use Rattle.command_words.specs.declared.words.Report.TheVariants.{Dump, Verify}
 
@@ -107,6 +107,7 @@ TellsForms Done held written forms left_out lines = TellsText Done held written 
 TellsForms (Fault number) held written forms left_out lines = TellsText (Fault number) held written forms
 TellsForms Helped held written forms left_out lines = ⊥
 TellsForms FormRefused held written forms left_out lines = ⊥
+TellsForms Unanswered held written forms left_out lines = ⊥
 TellsForms WordsRefused held written forms left_out lines = ⊥
 
 -- The store that a disk holds was opened with these macro functions, the forms of its world were written, and it was closed: this is its
@@ -124,6 +125,7 @@ pub record IsExport (functions : Functions) {D R : Type 0} (state : D → State)
 abbrev pub DumpsWorld : Status → List ℕ → Option (List ℕ) → Type 0
 DumpsWorld Done held written = (world : WorldState) × (written ≡ Some (held ++ snapshot world))
 DumpsWorld FormRefused held written = ⊥
+DumpsWorld Unanswered held written = ⊥
 DumpsWorld Helped held written = Unit {0}
 DumpsWorld WordsRefused held written = Unit {0}
 DumpsWorld LeftOut held written = ⊥
@@ -133,6 +135,7 @@ DumpsWorld (Fault number) held written = Unit {0}
 abbrev pub TellsHalf : Status → List ℕ → Option (List ℕ) → Type 0
 TellsHalf Done held written = (half : Half) × (generation : ℕ) × (records : ℕ) × (written ≡ Some (held ++ half_line half generation records))
 TellsHalf FormRefused held written = ⊥
+TellsHalf Unanswered held written = ⊥
 TellsHalf Helped held written = Unit {0}
 TellsHalf WordsRefused held written = Unit {0}
 TellsHalf LeftOut held written = ⊥
@@ -142,6 +145,7 @@ TellsHalf (Fault number) held written = Unit {0}
 abbrev pub TellsVersion : Status → List ℕ → Option (List ℕ) → Type 0
 TellsVersion Done held written = (version : ℕ) × (written ≡ Some (held ++ version_line version))
 TellsVersion FormRefused held written = ⊥
+TellsVersion Unanswered held written = ⊥
 TellsVersion Helped held written = Unit {0}
 TellsVersion WordsRefused held written = Unit {0}
 TellsVersion LeftOut held written = ⊥
@@ -154,6 +158,7 @@ WritesForms content Done lines held written =
 WritesForms content LeftOut lines held written =
     (world : WorldState) × (written ≡ Some (held ++ forms world content)) × (lines ≡ left_out_lines world)
 WritesForms content FormRefused lines held written = ⊥
+WritesForms content Unanswered lines held written = ⊥
 WritesForms content Helped lines held written = Unit {0}
 WritesForms content WordsRefused lines held written = Unit {0}
 WritesForms content (Fault number) lines held written = Unit {0}

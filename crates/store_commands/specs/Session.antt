@@ -5,6 +5,7 @@ use Rattle.lisp_reading.specs.Reading.{empty, refused}
 use Rattle.plist_state.specs.State.{WorldState}
 use Rattle.prevalence_store.specs.declared.mode.Mode.{Mode}
 use Rattle.prevalence_store.specs.declared.outcome.Ended.{Ended}
+use Rattle.prevalence_store.specs.declared.outcome.Ended.TheVariants.{End}
 use Rattle.prevalence_store.specs.declared.outcome.Place.{Place}
 use Rattle.prevalence_store.specs.declared.outcome.Wanted.{Wanted}
 use Rattle.prevalence_store.specs.meaning.Acceptance.{read_in}
@@ -14,8 +15,9 @@ use Rattle.prevalence_store.specs.meaning.Answers.{Progress, after_forms, last_l
 use Rattle.prevalence_store.specs.calls.Serve.{IsPlace, IsUnaccepted, ServesWanted}
 use Rattle.prevalence_store.specs.calls.Store.{StoreView}
 use Rattle.diagnostics.specs.declared.refusal.Refusal.{Refusal}
+use Rattle.store_commands.specs.Status.{status_of_ended}
 use Rattle.store_commands.specs.declared.status.Status.{Status}
-use Rattle.store_commands.specs.declared.status.Status.TheVariants.{Done, Helped, FormRefused, WordsRefused, LeftOut, Fault}
+use Rattle.store_commands.specs.declared.status.Status.TheVariants.{Done, Helped, FormRefused, Unanswered, WordsRefused, LeftOut, Fault}
 use Rattle.store_commands.specs.declared.told.Told.{Told}
 use Rattle.store_commands.specs.declared.told.Told.TheVariants.{Refused}
 
@@ -89,11 +91,20 @@ module _ (functions : Functions) (wanted : Wanted) where
       ⊎ ((stopped : IsAtPlace world input refusal.place (IsStopped refusal))
       × (written ≡ Some (held ++ (stopped.far.lines ++ refusal_line refusal.number))))
 
-  -- The input was answered as the store of some world answers it: to its end, or to a refusal, which is told.
-  abbrev pub AnswersInput : Status → Told → List ℕ → List ℕ → Option (List ℕ) → Type 0
-  AnswersInput Done told input held written =
+  -- The input was answered to its end; in a strict session no form was refused.
+  abbrev pub AnswersWhole : List ℕ → List ℕ → Option (List ℕ) → Type 0
+  AnswersWhole input held written =
       (world : WorldState) × (lines : IsWritten functions wanted.mode world input held written [])
       × (read_in functions lines.far.world wanted.mode lines.far.rest ≡ empty) × (wanted.strict ≡ true → lines.far.refused ≡ [])
+
+  -- the status after a session that ended so; a strict one may have answered nothing of a text
+  abbrev pub IsStatusAfter : Ended → Status → Type 0
+  IsStatusAfter ended status = (status ≡ status_of_ended ended) ⊎ ((wanted.strict ≡ true) × (ended ≡ End) × (status ≡ Unanswered))
+
+  -- The input was answered as the store of some world answers it: to its end, or to a refusal, which is told.
+  abbrev pub AnswersInput : Status → Told → List ℕ → List ℕ → Option (List ℕ) → Type 0
+  AnswersInput Done told input held written = AnswersWhole input held written
+  AnswersInput Unanswered told input held written = (wanted.strict ≡ true) × AnswersWhole input held written
   AnswersInput FormRefused told input held written =
       (world : WorldState) × (refusal : Refusal) × (told ≡ Refused refusal) × AnswersToRefusal world refusal input held written
   AnswersInput Helped told input held written = Unit {0}
@@ -104,6 +115,7 @@ module _ (functions : Functions) (wanted : Wanted) where
 -- at the end of the input nothing of it is left
 abbrev pub ReadsToEnd : Status → Option (List ℕ) → Type 0
 ReadsToEnd Done left = left ≡ Some []
+ReadsToEnd Unanswered left = left ≡ Some []
 ReadsToEnd FormRefused left = Unit {0}
 ReadsToEnd Helped left = Unit {0}
 ReadsToEnd WordsRefused left = Unit {0}

@@ -1,5 +1,5 @@
 -- Exit statuses, and when each comes.
-use Rattle.std.specs.Prelude.{◌≡◌, ◌≤◌, ◌⊎◌, ℕ, [], ◌∷◌, Result, Ok, Err}
+use Rattle.std.specs.Prelude.{◌≡◌, ◌≤◌, ◌⊎◌, ◌&&◌, if◌then◌else◌, ℕ, Bool, [], ◌∷◌, Result, Ok, Err}
 use Rattle.clap.specs.Words.{Kinds}
 use Rattle.clap.specs.declared.error.kind.ErrorKind.{ErrorKind}
 use Rattle.clap.specs.declared.error.kind.ErrorKind.TheVariants.{DisplayHelp, DisplayVersion, OutOfMemory}
@@ -10,13 +10,14 @@ use Rattle.prevalence_store.specs.declared.outcome.Ended.{Ended}
 use Rattle.prevalence_store.specs.declared.outcome.Ended.TheVariants.{End, Store, Unaccepted, Unreadable}
 use Rattle.diagnostics.specs.declared.fault.Unwritten.{Unwritten}
 use Rattle.store_commands.specs.declared.status.Status.{Status}
-use Rattle.store_commands.specs.declared.status.Status.TheVariants.{Done, Helped, FormRefused, WordsRefused, LeftOut, Fault}
+use Rattle.store_commands.specs.declared.status.Status.TheVariants.{Done, Helped, FormRefused, Unanswered, WordsRefused, LeftOut, Fault}
 
 -- the exit status
 abbrev pub code_of : Status → ℕ
 code_of Done = 0
 code_of Helped = 0
 code_of FormRefused = 1
+code_of Unanswered = 1
 code_of WordsRefused = 2
 code_of LeftOut = 3
 code_of (Fault number) = 3
@@ -27,6 +28,13 @@ status_of_ended End = Done
 status_of_ended (Unreadable number place) = FormRefused
 status_of_ended (Unaccepted number place) = FormRefused
 status_of_ended (Store number) = Fault number
+
+-- the same, where the session was strict or not, and it is known or not that nothing of a text was answered
+abbrev pub status_after : (strict unanswered : Bool) → Ended → Status
+status_after strict unanswered End = if strict && unanswered then Unanswered else Done
+status_after strict unanswered (Unreadable number place) = FormRefused
+status_after strict unanswered (Unaccepted number place) = FormRefused
+status_after strict unanswered (Store number) = Fault number
 
 -- after a text that was written, or not whole
 abbrev pub status_of_output : Result Unit Unwritten → Status
@@ -45,9 +53,9 @@ status_of_kind DisplayVersion = Helped
 status_of_kind OutOfMemory = Fault NO_MEMORY
 status_of_kind _ = WordsRefused
 
--- the command was carried out: to its end, or to a refusal that ended the session
+-- the command was carried out: to its end, perhaps with nothing answered, or to a refusal that ended the session
 abbrev pub IsCarriedOut : Status → Type 0
-IsCarriedOut status = (status ≡ Done) ⊎ (status ≡ FormRefused)
+IsCarriedOut status = (status ≡ Done) ⊎ ((status ≡ Unanswered) ⊎ (status ≡ FormRefused))
 
 -- nothing is told on standard error
 abbrev pub IsQuiet : Status → Type 0
@@ -67,6 +75,7 @@ TakesWords Helped = ⊥
 TakesWords WordsRefused = ⊥
 TakesWords Done = Unit {0}
 TakesWords FormRefused = Unit {0}
+TakesWords Unanswered = Unit {0}
 TakesWords LeftOut = Unit {0}
 TakesWords (Fault number) = Unit {0}
 
@@ -78,6 +87,7 @@ IsAfterWords kind status = (status ≡ status_of_kind kind) ⊎ ((status_of_kind
 abbrev pub IsOfWords : Status → Type 0
 IsOfWords Done = ⊥
 IsOfWords FormRefused = ⊥
+IsOfWords Unanswered = ⊥
 IsOfWords LeftOut = ⊥
 IsOfWords Helped = Unit {0}
 IsOfWords WordsRefused = Unit {0}

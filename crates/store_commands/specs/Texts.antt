@@ -4,7 +4,7 @@ use Rattle.lisp_object.specs.declared.refusal.TheConstants.{OUTPUT, NO_MEMORY}
 use Rattle.prevalence_store.specs.calls.Streams.{Writes}
 use Rattle.diagnostics.specs.Texts.{WritesFront}
 use Rattle.store_commands.specs.declared.status.Status.{Status}
-use Rattle.store_commands.specs.declared.status.Status.TheVariants.{Done, Helped, FormRefused, WordsRefused, LeftOut, Fault}
+use Rattle.store_commands.specs.declared.status.Status.TheVariants.{Done, Helped, FormRefused, Unanswered, WordsRefused, LeftOut, Fault}
 
 -- The text was written and flushed; or a part of it from its front, and the output failed, perhaps at the flush after all of it;
 -- or nothing, as memory was refused.
@@ -13,5 +13,6 @@ TellsText Done held written text = Writes held written text
 TellsText (Fault number) held written text = ((number ≡ OUTPUT) × WritesFront held written text) ⊎ ((number ≡ NO_MEMORY) × (written ≡ held))
 TellsText Helped held written text = ⊥
 TellsText FormRefused held written text = ⊥
+TellsText Unanswered held written text = ⊥
 TellsText WordsRefused held written text = ⊥
 TellsText LeftOut held written text = ⊥

@@ -1,5 +1,5 @@
 -- What is told on standard error as the program ends.
-use Rattle.std.specs.Prelude.{◌≡◌, ◌⊎◌, ℕ, List, [], Option}
+use Rattle.std.specs.Prelude.{◌≡◌, ◌⊎◌, ℕ, List, [], Option, codes}
 use Rattle.prevalence_store.specs.declared.outcome.Ended.{Ended}
 use Rattle.prevalence_store.specs.declared.outcome.Ended.TheVariants as ways
 use Rattle.diagnostics.specs.Faults.{IsFaultText}
@@ -22,6 +22,10 @@ TellsRefusal Nothing held written = written ≡ held
 TellsRefusal (Cause error) held written = written ≡ held
 TellsRefusal (LeftOut lines) held written = written ≡ held
 
+-- the line after a strict session that answered nothing of a text
+abbrev pub unanswered_line : List ℕ
+unanswered_line = codes "no form of the input was answered: the readtable makes comments of it; --rescue reads under the standard one\n"
+
 -- the lines on what was left out of an export
 abbrev pub left_out_of : Told → List ℕ
 left_out_of (LeftOut lines) = lines.items
@@ -29,10 +33,12 @@ left_out_of Nothing = []
 left_out_of (Cause error) = []
 left_out_of (Refused refusal) = []
 
--- After a fault that is told, after an export what was left out of it, and after a refusal that ended the session where that was.
+-- After a fault that is told, after an export what was left out of it, after a refusal that ended the session where that was, and after
+-- a strict session that answered nothing a line.
 abbrev pub TellsFault : Status → Told → Option (List ℕ) → Option (List ℕ) → Type 0
 TellsFault (statuses.Fault number) told held written = (text : List ℕ) × IsFaultText number text × WritesSome held written text
 TellsFault statuses.FormRefused told held written = TellsRefusal told held written
+TellsFault statuses.Unanswered told held written = WritesSome held written unanswered_line
 TellsFault statuses.LeftOut told held written = WritesSome held written (left_out_of told)
 TellsFault statuses.Done told held written = Unit {0}
 TellsFault statuses.Helped told held written = Unit {0}

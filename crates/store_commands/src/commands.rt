@@ -15,6 +15,7 @@ use crate::folders::{Folders, TellsCause, open_folder};
 use crate::report::report_on;
 use crate::session::serve_on;
 use crate::sessions::sessions_on;
+use crate::shown::Shown;
 use crate::snapshot::snapshot_on;
 use crate::status::Status;
 use crate::terminal::Sessions;
@@ -29,6 +30,7 @@ use plist_state::Seed;
 use prevalence_store::{Unopened, Wanted};
 use std::alloc::Global;
 use std::convert::AsStr;
+use std::fmt::Write as WriteText;
 use std::io::Write;
 use std::random::RandomSource;
 use user_macros::MacroFunctions;
@@ -228,7 +230,8 @@ fn answer_words<O: Write, F: Write>(error: &Error, output: &mut O, faults: &mut 
     match Status::of_kind(error.kind()) {
         Status::Helped => write_help(error, output),
         Status::WordsRefused => {
-            let _ = write!(faults, "{error}");
+            let mut shown = Shown::new(faults);
+            let _ = write!(shown, "{error}");
             Status::WordsRefused
         }
         status => status,
@@ -338,7 +341,7 @@ where
     match task {
         Task::Run(wanted) => match serve_on(alloc, disk, macros, seed, wanted, input, output) {
             Ok((ended, disk, _macros)) => (
-                Status::of_ended(ended),
+                Status::after_session(ended, wanted.strict, input.is_unanswered()),
                 disk,
                 Told::of_session(ended, input),
             ),

@@ -7,6 +7,8 @@
 //!   writes the forms that make the world, and `report_on` writes what is told of a store (modules `session`, `snapshot`, `upgrade`,
 //!   `export` and `report`).
 //! - `sessions_on` serves sessions in a row (module `sessions`), and `terminal` has the input that asks for them, with its prompts.
+//! - `answers` has an output that tells what was answered, and an input that knows whether anything was; `streams` has streams on which
+//!   a signal ends no session, and `shown` a writer that lets no control character through to a terminal.
 //! - `command_words` has the command line; `diagnostics` writes the line of a fault, and that on the refusal that ended a session, and
 //!   has the input that tells lines and columns; `half_line` writes that on the half in use.
 //! - `folders` has what opens the files of a folder, and the disk that they are. `existing_stores_are_open` (module `laws`): with
@@ -14,6 +16,7 @@
 //! - `meaning` says what the macro functions of the program mean, and `macro_functions` has those that compute an object.
 #![tactic(auto)]
 
+mod answers;
 mod commands;
 mod export;
 mod folders;
@@ -24,12 +27,15 @@ mod meaning;
 mod report;
 mod session;
 mod sessions;
+mod shown;
 mod snapshot;
 mod status;
+mod streams;
 mod terminal;
 mod told;
 mod upgrade;
 
+pub use answers::{Answers, Heard, Piped};
 pub use command_words::{Report, Task};
 pub use commands::{program, program_at_terminal};
 pub use diagnostics::{
@@ -46,6 +52,7 @@ pub use session::{HALF_LIMIT, serve_on};
 pub use sessions::sessions_on;
 pub use snapshot::snapshot_on;
 pub use status::Status;
-pub use terminal::{Answers, Sessions, Terminal};
+pub use streams::Uninterrupted;
+pub use terminal::{Sessions, Terminal};
 pub use told::end_with;
 pub use upgrade::upgrade_on;

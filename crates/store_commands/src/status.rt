@@ -1,6 +1,6 @@
 // How the program ends.
 ghost use Rattle.std.specs.Prelude.{◌≡◌};
-ghost use Rattle.store_commands.specs.Status.{code_of, status_of_ended, status_of_host, status_of_kind};
+ghost use Rattle.store_commands.specs.Status.{code_of, status_of_ended, status_of_host, status_of_kind, status_after};
 
 use clap::error::ErrorKind;
 use disk_trait::HostError;
@@ -16,6 +16,8 @@ pub enum Status {
     Helped,
     /// A form was refused, which ended the session: by the reader, or, if the session was strict, by its evaluation.
     FormRefused,
+    /// A strict session came to the end of an input that has text, and no form of it was answered.
+    Unanswered,
     /// The words of the command line were refused.
     WordsRefused,
     /// What no form can make was left out of an export; the rest was written.
@@ -25,14 +27,14 @@ pub enum Status {
 }
 
 impl Status {
-    /// The exit status: 0 if the command was carried out and after help, 1 after a refusal that ended the session, 2 for words
-    /// that are refused, 3 after a fault and if something was left out of an export.
+    /// The exit status: 0 if the command was carried out and after help, 1 after a refusal that ended the session and where a strict one
+    /// answered nothing, 2 for words that are refused, 3 after a fault and if something was left out of an export.
     pub fn code(self) -> u8
         ensures { result ≡ code_of self }
     {
         match self {
             Status::Done | Status::Helped => 0,
-            Status::FormRefused => 1,
+            Status::FormRefused | Status::Unanswered => 1,
             Status::WordsRefused => 2,
             Status::LeftOut | Status::Fault(_) => 3,
         }
@@ -46,6 +48,16 @@ impl Status {
             Ended::End => Status::Done,
             Ended::Unreadable(..) | Ended::Unaccepted(..) => Status::FormRefused,
             Ended::Store(number) => Status::Fault(number),
+        }
+    }
+
+    /// The status after a session that ended so, where it was strict or not, and it is known or not that nothing of a text was answered.
+    pub fn after_session(ended: Ended, strict: bool, unanswered: bool) -> Status
+        ensures { result ≡ status_after strict unanswered ended }
+    {
+        match ended {
+            Ended::End if strict && unanswered => Status::Unanswered,
+            ended => Status::of_ended(ended),
         }
     }
 

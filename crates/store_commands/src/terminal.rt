@@ -2,6 +2,8 @@
 ghost use Rattle.std.specs.Prelude.{◌≡◌};
 ghost use Rattle.store_commands.specs.Sessions.{Drops, DropsByte};
 
+use crate::answers::{Heard, is_blank};
+use arrayvec::ArrayVec;
 use diagnostics::{Places, Refusal, Spot, write_refusal, write_text};
 use std::cell::Cell;
 use std::io;
@@ -13,7 +15,22 @@ const PROMPT: &[u8] = b"> ";
 /// The prompt before a line inside a form.
 const INNER_PROMPT: &[u8] = b". ";
 
-const WELCOME: &[u8] = b"Type a form and Enter; Ctrl-D ends.\n";
+const WELCOME: &[u8] =
+    b"Type a form and Enter; help tells more, Ctrl-D ends. For editing lines: rlwrap ./pazturrok run DIR\n";
+
+const HELP: &[u8] =
+    b"(SETF (GET 'APPLE 'PRICE) 7) sets a property, (GET 'APPLE 'PRICE) gives it, (SYMBOL-PLIST 'APPLE) gives all of a symbol.\nAn answer that begins with ! is a refusal: docs/use/refusals.md has the numbers, docs/use/operators.md the operators.\nCtrl-D at the beginning of a line ends. Each answer is in the store by then.\n";
+
+const LEAVING: &[u8] = b"Ctrl-D at the beginning of a line ends.\n";
+
+const UNKNOWN_OPERATOR: &[u8] =
+    b"The current package finds no operator of this name: docs/use/operators.md has all. If none is found any more, the package does not\nuse COMMON-LISP, and (COMMON-LISP:IN-PACKAGE \"CL-USER\") leads back.\n";
+
+const UNANSWERED: &[u8] =
+    b"Nothing was answered: a form is open, or the readtable makes comments of what is typed; --rescue reads under the standard one.\n";
+
+/// After so many lines that leave a form open the terminal tells that nothing is answered.
+const PATIENCE: u8 = 4;
 
 const DROPPED: &[u8] = b"The rest of the line was dropped, and a new session begins.\n";
 
@@ -31,10 +48,18 @@ pub trait Sessions: Places {
 pub struct Terminal<'a, I, P> {
     input: I,
     prompts: P,
-    // whether an answer was written since the last byte was given
-    answered: &'a Cell<bool>,
+    // what was answered since the last byte was given
+    heard: &'a Cell<Heard>,
     line: Line,
     last: u8,
+    // the line that is typed, if it is a short one
+    typed: ArrayVec<u8, 8>,
+    // how many lines were typed that left a form open since the last answer
+    open_lines: u8,
+    gave_text: bool,
+    has_answered: bool,
+    // whether it was told how to go on after an unknown operator, since the last other answer
+    told_operators: bool,
     // how many bytes were given, and how many of them before the present session
     given: u64,
     start: u64,
@@ -55,15 +80,20 @@ enum Line {
 
 impl<'a, I, P> Terminal<'a, I, P> {
     /// Before the first line. The cell is that of the output's `Answers`.
-    pub fn new(input: I, prompts: P, answered: &'a Cell<bool>) -> Terminal<'a, I, P>
+    pub fn new(input: I, prompts: P, heard: &'a Cell<Heard>) -> Terminal<'a, I, P>
         ensures { result.input ≡ input }
     {
         Terminal {
             input,
             prompts,
-            answered,
+            heard,
             line: Line::Closed,
             last: b'\n',
+            typed: ArrayVec::new(),
+            open_lines: 0,
+            gave_text: false,
+            has_answered: false,
+            told_operators: false,
             given: 0,
             start: 0,
             is_new: true,
@@ -91,6 +121,17 @@ impl<I, P: Write> Terminal<'_, I, P> {
         let _ = write_text(&mut self.prompts, prompt);
     }
 
+    // Takes note of the end, and tells if nothing was answered.
+    fn end(&mut self)
+        ensures { self.new.input ≡ self.old.input }
+    {
+        self.has_ended = true;
+        let _ = write_text(&mut self.prompts, b"\n");
+        if self.gave_text && !self.has_answered {
+            let _ = write_text(&mut self.prompts, UNANSWERED);
+        }
+    }
+
     // Takes note of a byte that is given.
     fn give(&mut self, byte: u8)
         ensures input { self.new.input ≡ self.old.input }
@@ -98,22 +139,41 @@ impl<I, P: Write> Terminal<'_, I, P> {
     {
         self.given = self.given.saturating_add(1);
         self.last = byte;
+        self.gave_text |= !is_blank(byte);
+        if byte != b'\n' {
+            // a longer line is no word that is looked for
+            let _ = self.typed.try_push(byte);
+        }
     }
 
-    // What the last byte left open.
+    // What the last byte left open, and what is to be told of it.
     fn settle(&mut self)
         ensures { self.new.input ≡ self.old.input }
     {
-        if self.answered.get() {
-            self.answered.set(false);
+        let heard = self.heard.get();
+        self.heard.set(Heard::Nothing);
+        if heard == Heard::Nothing {
+            self.leave_open();
+        } else {
+            self.has_answered = true;
+            self.open_lines = 0;
             // a token may be ended by the parenthesis that begins the next form
             self.line = if self.last == b'(' {
                 Line::Open
             } else {
                 Line::Closed
             };
-            return;
+            self.hint(heard);
         }
+        if self.last == b'\n' {
+            self.typed.clear();
+        }
+    }
+
+    // What a byte that was not answered left open.
+    fn leave_open(&mut self)
+        ensures { self.new.input ≡ self.old.input }
+    {
         self.line = match (self.line, self.last) {
             (Line::Closed, b';') => Line::Comment,
             (Line::Comment, b'\n') => Line::Closed,
@@ -121,6 +181,37 @@ impl<I, P: Write> Terminal<'_, I, P> {
             (Line::Closed, _) => Line::Open,
             (line, _) => line,
         };
+        if self.last == b'\n' && self.line == Line::Open {
+            self.open_lines = self.open_lines.saturating_add(1);
+            if self.open_lines == PATIENCE {
+                let _ = write_text(&mut self.prompts, UNANSWERED);
+            }
+        }
+    }
+
+    // Tells how to go on after an answer: to a word that asks for help, or that would leave, and to an unknown operator.
+    fn hint(&mut self, heard: Heard)
+        ensures { self.new.input ≡ self.old.input }
+    {
+        if self.last == b'\n' {
+            let _ = write_text(&mut self.prompts, told_of(self.typed.as_slice()));
+        }
+        let is_unknown = heard == Heard::UnknownOperator;
+        if is_unknown && !self.told_operators {
+            let _ = write_text(&mut self.prompts, UNKNOWN_OPERATOR);
+        }
+        self.told_operators = is_unknown;
+    }
+}
+
+// What is told after a line that is one of these words.
+fn told_of(typed: &[u8]) -> &'static [u8] {
+    if typed.eq_ignore_ascii_case(b"help") {
+        HELP
+    } else if typed.eq_ignore_ascii_case(b"quit") || typed.eq_ignore_ascii_case(b"exit") {
+        LEAVING
+    } else {
+        b""
     }
 }
 
@@ -135,8 +226,7 @@ impl<I: Read, P: Write> Read for Terminal<'_, I, P> {
         self.prompt();
         let count = self.input.read(&mut buf[..1])?;
         if count == 0 {
-            self.has_ended = true;
-            let _ = write_text(&mut self.prompts, b"\n");
+            self.end();
         } else {
             self.give(buf[0]);
         }
@@ -191,36 +281,10 @@ impl<I: Places, P: Write> Sessions for Terminal<'_, I, P> {
         let _ = write_text(&mut self.prompts, DROPPED);
         self.start = self.given;
         self.line = Line::Closed;
-        self.answered.set(false);
+        self.has_answered = true;
+        self.open_lines = 0;
+        self.typed.clear();
+        self.heard.set(Heard::Nothing);
         true
-    }
-}
-
-/// An output that tells when an answer was written to it.
-#[derive(Drop)]
-pub struct Answers<'a, O> {
-    output: O,
-    answered: &'a Cell<bool>,
-}
-
-impl<'a, O> Answers<'a, O> {
-    /// The output, and the cell of the input's `Terminal`.
-    pub fn new(output: O, answered: &'a Cell<bool>) -> Answers<'a, O>
-        ensures { result.output ≡ output }
-    {
-        Answers { output, answered }
-    }
-}
-
-impl<O: Write> Write for Answers<'_, O> {
-    ghost contents = { λ a. O.contents a.output };
-
-    fn write(&mut self, buf: &[u8]) -> io::Result<usize> {
-        self.answered.set(true);
-        self.output.write(buf)
-    }
-
-    fn flush(&mut self) -> io::Result<()> {
-        self.output.flush()
     }
 }

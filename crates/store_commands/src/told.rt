@@ -9,6 +9,10 @@ use disk_trait::HostError;
 use prevalence_store::Ended;
 use std::io::Write;
 
+/// The line after a strict session that answered nothing of a text.
+const UNANSWERED: &[u8] =
+    b"no form of the input was answered: the readtable makes comments of it; --rescue reads under the standard one\n";
+
 /// What is told on standard error beside the line of a fault.
 #[derive(Drop)]
 pub enum Told {
@@ -31,7 +35,8 @@ pub fn end_with<F: Write>(faults: &mut F, status: Status) -> Status
 }
 
 /// Ends so: after a fault its line is written, and after one of the device a line with the cause, if it is known; after an export
-/// what was left out of it; and after a refusal that ended the session the line on it.
+/// what was left out of it; after a refusal that ended the session the line on it; and a line after a strict session that answered
+/// nothing.
 pub(crate) fn end_with_told<F: Write>(faults: &mut F, status: Status, told: &Told) -> Status
     ensures status { result ≡ status }
     ensures told { TellsFault status told.now (F.contents faults.old) (F.contents faults.new) }
@@ -48,6 +53,10 @@ pub(crate) fn end_with_told<F: Write>(faults: &mut F, status: Status, told: &Tol
         }
         Status::FormRefused => {
             tell_refusal(faults, told);
+            status
+        }
+        Status::Unanswered => {
+            let _ = write_text(faults, UNANSWERED);
             status
         }
         _ => status,

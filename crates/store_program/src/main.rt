@@ -14,8 +14,8 @@ use std::env;
 use std::io::{ErrorKind, IsTerminal, Write};
 use std::process::ExitCode;
 use store_commands::{
-    Answers, Lines, SixFunctions, Status, Terminal, end_with, macro_functions, program,
-    program_at_terminal,
+    Answers, Heard, Lines, Piped, SixFunctions, Status, Terminal, Uninterrupted, end_with,
+    macro_functions, program, program_at_terminal,
 };
 use user_macros::{Answer, Call, Cause, MacroFn, MacroFunctions, Macros, Refusal};
 
@@ -39,20 +39,29 @@ fn serve<M: MacroFunctions + Drop, F: Write>(rt: &HostRuntime, macros: M, faults
         Ok(words) if rt.stdin().is_terminal() => {
             serve_at_terminal(rt, macros, words.as_slice(), faults)
         }
-        Ok(words) => program(
-            rt,
-            macros,
-            words.as_slice(),
-            &mut Lines::new(rt.alloc(), rt.stdin()),
-            &mut rt.stdout(),
-            faults,
-        ),
+        Ok(words) => serve_pipe(rt, macros, words.as_slice(), faults),
         Err(Status::WordsRefused) => {
             let _ = writeln!(faults, "error: a word of the command line is no text");
             Status::WordsRefused
         }
         Err(status) => end_with(faults, status),
     }
+}
+
+// The same where standard input is no terminal.
+fn serve_pipe<M: MacroFunctions + Drop, F: Write>(
+    rt: &HostRuntime,
+    macros: M,
+    words: &[String],
+    faults: &mut F,
+) -> Status
+    requires answers { M.answers macros }
+{
+    let heard = Cell::new(Heard::Nothing);
+    let lines = Lines::new(rt.alloc(), Uninterrupted::new(rt.stdin()));
+    let mut input = Piped::new(lines, &heard);
+    let mut output = Answers::new(Uninterrupted::new(rt.stdout()), &heard);
+    program(rt, macros, words, &mut input, &mut output, faults)
 }
 
 // The same at a terminal, whose prompts go to standard error.
@@ -64,10 +73,10 @@ fn serve_at_terminal<M: MacroFunctions + Drop, F: Write>(
 ) -> Status
     requires answers { M.answers macros }
 {
-    let answered = Cell::new(false);
-    let lines = Lines::new(rt.alloc(), rt.stdin());
-    let mut input = Terminal::new(lines, rt.stderr(), &answered);
-    let mut output = Answers::new(rt.stdout(), &answered);
+    let heard = Cell::new(Heard::Nothing);
+    let lines = Lines::new(rt.alloc(), Uninterrupted::new(rt.stdin()));
+    let mut input = Terminal::new(lines, rt.stderr(), &heard);
+    let mut output = Answers::new(Uninterrupted::new(rt.stdout()), &heard);
     program_at_terminal(rt, macros, words, &mut input, &mut output, faults)
 }
 

@@ -1,6 +1,11 @@
 -- The forms of a world: given one after the other to a new store, they make it. They are read under the standard readtable, in base
 -- 10, in COMMON-LISP-USER.
-use Rattle.std.specs.Prelude.{ℕ, List, [], ◌++◌, codes, decimal}
+use Rattle.std.specs.Prelude.{ℕ, ◌==◌, if◌then◌else◌, List, [], ◌∷◌, ◌++◌, codes, decimal}
+use Rattle.std.specs.Option.{option_map_or}
+use Rattle.std.specs.FinMap as finite
+use Rattle.readtable_core.specs.Characters.{syntax_number}
+use Rattle.readtable_core.specs.Tables.{Table, entry_at}
+use Rattle.readtable_core.specs.declared.characters.Syntax.TheVariants.{Whitespace}
 use Rattle.package_table.specs.Table.{keyword}
 use Rattle.plist_state.specs.State.{WorldState}
 use Rattle.canon_printer.specs.Written.{printed_text}
@@ -10,6 +15,10 @@ use Rattle.world_forms.specs.Tokens.{line, value_text}
 use Rattle.world_forms.specs.Packages.{package_lines}
 use Rattle.world_forms.specs.Properties.{property_lines}
 use Rattle.world_forms.specs.Readtables.{readtable_lines}
+
+-- a newline under a readtable, if that discards it
+abbrev pub newline_in : Table → List ℕ
+newline_in t = if syntax_number (entry_at t 10).syntax == syntax_number Whitespace then 10 ∷ [] else []
 
 module _ (s : WorldState) where
   -- what makes the package, the base of numbers and the readtable current
@@ -31,7 +40,14 @@ module _ (s : WorldState) where
   unfoldable pub current_form : Content → List ℕ
   current_form content = codes "(PROGN " ++ package_form ++ reading_forms content ++ codes ")"
 
-  -- the forms of what is exported, with a newline between each two
+  -- The end of the last line, which is read under the readtable that is then current: a newline, if that has it as whitespace.
+  unfoldable pub last_newline : Content → List ℕ
+  last_newline World = option_map_or newline_in (finite.get s.readtables s.current_readtable) []
+  last_newline Data = 10 ∷ []
+
+  -- the forms of what is exported, with a newline after each
   unfoldable pub forms : Content → List ℕ
-  forms World = line (codes "(IN-READTABLE :STANDARD)") ++ package_lines s.packages ++ property_lines s ++ readtable_lines s ++ current_form World
-  forms Data = package_lines s.packages ++ property_lines s ++ current_form Data
+  forms World =
+      line (codes "(IN-READTABLE :STANDARD)") ++ package_lines s.packages ++ property_lines s ++ readtable_lines s ++ current_form World
+      ++ last_newline World
+  forms Data = package_lines s.packages ++ property_lines s ++ current_form Data ++ last_newline Data

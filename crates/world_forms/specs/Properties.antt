@@ -13,7 +13,7 @@ use Rattle.plist_state.specs.Properties.{Symbol}
 use Rattle.plist_state.specs.State.{WorldState}
 use Rattle.plist_state.specs.Changes.{plist}
 use Rattle.plist_state.specs.Readers.{symbols_with_properties}
-use Rattle.world_forms.specs.Tokens.{line, symbol_text, quoted_text}
+use Rattle.world_forms.specs.Tokens.{line, symbol_text, quoted_text, told_text}
 
 -- the form that sets a property of a symbol
 unfoldable pub property_form : Table → Symbol → Symbol × Object → List ℕ
@@ -43,7 +43,7 @@ module _ (t : Table) (x : Symbol) where
   unfoldable pub left_out_line : Symbol × Object → List ℕ
   left_out_line p =
       if is_form t (property_form t x p) then []
-      else line (symbol_text x.0 x.1 ++ codes " " ++ symbol_text p.0.0 p.0.1)
+      else line (told_text (symbol_text x.0 x.1 ++ codes " " ++ symbol_text p.0.0 p.0.1))
 
 module _ (s : WorldState) where
   unfoldable pub plist_lines : Symbol → List ℕ

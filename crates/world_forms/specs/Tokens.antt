@@ -1,5 +1,5 @@
 -- Names, symbols and texts as they stand in the forms of a world, which are read in COMMON-LISP-USER.
-use Rattle.std.specs.Prelude.{ℕ, ◌+◌, ◌==◌, Bool, false, ◌&&◌, ◌||◌, nat_lt, if◌then◌else◌, List, [], ◌∷◌, ◌++◌, length, codes}
+use Rattle.std.specs.Prelude.{ℕ, ◌+◌, ◌/◌, ◌%◌, ◌==◌, Bool, false, ◌&&◌, ◌||◌, nat_lt, if◌then◌else◌, List, [], ◌∷◌, ◌++◌, length, codes}
 use Rattle.std.specs.List.{list_all, flat_map}
 use Rattle.std.specs.Char.{is_ascii_digit, is_ascii_uppercase}
 use Rattle.std.specs.Str.{byte, bytes_eq}
@@ -69,3 +69,17 @@ keyword_argument name = codes " " ++ symbol_text keyword name
 
 abbrev pub character_argument : ℕ → List ℕ
 character_argument c = codes " " ++ printed_character c
+
+-- ---- what a terminal is told
+
+-- a digit of base 16
+abbrev pub hex_digit : ℕ → ℕ
+hex_digit n = if nat_lt n 10 then n + 48 else n + 87
+
+-- a character that a terminal would obey, by its number in base 16; each other one as it is
+abbrev pub told_character : ℕ → List ℕ
+told_character c = if nat_lt c 32 || c == 127 then codes "\\x" ++ hex_digit (c / 16) ∷ hex_digit (c % 16) ∷ [] else c ∷ []
+
+-- a text for a terminal
+abbrev pub told_text : List ℕ → List ℕ
+told_text = flat_map told_character

@@ -1,7 +1,8 @@
 //! All forms of a world.
-ghost use Rattle.std.specs.Prelude.{◌≡◌, decimal, IfOk, OnOk};
+ghost use Rattle.std.specs.Prelude.{◌≡◌, [], decimal, option_map, IfOk, OnOk};
+ghost use Rattle.std.specs.Option.{option_map_or};
 ghost use Rattle.canon_printer.specs.Written.{Writes};
-ghost use Rattle.world_forms.specs.Forms.{package_form, base_form, readtable_form, reading_forms, current_form, forms};
+ghost use Rattle.world_forms.specs.Forms.{package_form, base_form, readtable_form, reading_forms, current_form, forms, last_newline, newline_in};
 ghost use Rattle.world_forms.specs.Properties.{left_out_lines};
 
 use crate::packages::push_packages;
@@ -10,6 +11,7 @@ use crate::readtables::push_readtables;
 use crate::texts::{push_text, push_value};
 use package_table::standardized::KEYWORD;
 use plist_state::World;
+use readtable_core::{Readtable, Syntax};
 use std::alloc::{AllocError, Global};
 
 /// What of a world is exported.
@@ -24,7 +26,8 @@ pub enum Content {
 /// The forms of a world.
 #[derive(Drop)]
 pub struct Export {
-    /// The forms, with a newline between each two: none after the last, which would be read under the readtable of the world.
+    /// The forms, with a newline after each. After the last, where it is read under the readtable of the world, only if that
+    /// discards it.
     pub forms: Vec<u8>,
     /// The properties that no form can set, since a form has limits: a line each, of the symbol and its indicator.
     pub left_out: Vec<u8>,
@@ -59,6 +62,7 @@ fn world_forms(alloc: Global, world: &World) -> Result<Export, AllocError>
     push_properties(alloc, &mut forms, &mut left_out, world)?;
     push_readtables(alloc, &mut forms, world)?;
     push_current(&mut forms, world, Content::World)?;
+    push_last_newline(&mut forms, world, Content::World)?;
     Ok(Export { forms, left_out })
 }
 
@@ -74,6 +78,7 @@ fn data_forms(alloc: Global, world: &World) -> Result<Export, AllocError>
     push_packages(alloc, &mut forms, world.packages())?;
     push_properties(alloc, &mut forms, &mut left_out, world)?;
     push_current(&mut forms, world, Content::Data)?;
+    push_last_newline(&mut forms, world, Content::Data)?;
     Ok(Export { forms, left_out })
 }
 
@@ -87,6 +92,35 @@ fn push_current(forms: &mut Vec<u8>, world: &World, content: Content) -> Result<
     push_package(forms, world)?;
     push_reading(forms, world, content)?;
     forms.extend_from_slice(b")")
+}
+
+/// Ends the last line. What makes the readtable of the world current is read by then, so a newline that it does not discard would be
+/// read as a form.
+#[tactic(auto, unfolding(crate::specs::Forms::last_newline))]
+fn push_last_newline(forms: &mut Vec<u8>, world: &World, content: Content) -> Result<(), AllocError>
+    ensures { OnOk result (Writes forms.old forms.new (last_newline world.now.0 content)) }
+{
+    match content {
+        Content::World => push_newline_in(forms, world.readtable(world.current_readtable())),
+        Content::Data => {
+            forms.push(b'\n')?;
+            Ok(())
+        }
+    }
+}
+
+/// Adds a newline, if this readtable discards it.
+fn push_newline_in(forms: &mut Vec<u8>, readtable: Option<&Readtable>) -> Result<(), AllocError>
+    ensures { OnOk result (Writes forms.old forms.new
+        (option_map_or newline_in (option_map (λ table. table.now) readtable.entry) [])) }
+{
+    match readtable {
+        Some(readtable) if readtable.syntax(b'\n') == Syntax::Whitespace => {
+            forms.push(b'\n')?;
+            Ok(())
+        }
+        _ => Ok(()),
+    }
 }
 
 /// What makes the package of a world current.

@@ -8,10 +8,10 @@ ghost use Rattle.form_reader.specs.Reader.{IsOutcome};
 ghost use Rattle.plist_state.specs.Readers.{borrowed_symbol, borrowed_symbols};
 ghost use Rattle.plist_state.specs.Shown.{property_of};
 ghost use Rattle.canon_printer.specs.Written.{Writes};
-ghost use Rattle.world_forms.specs.Tokens.{line, symbol_text, quoted_text};
+ghost use Rattle.world_forms.specs.Tokens.{line, symbol_text, quoted_text, told_text};
 ghost use Rattle.world_forms.specs.Properties.{form_setting, ends_at, property_form, is_form, property_line, left_out_line, plist_lines, plist_left_out, property_lines, left_out_lines};
 
-use crate::texts::{push_symbol, push_value};
+use crate::texts::{push_symbol, push_told, push_value};
 use canon_printer::print;
 use form_reader::{Limits, ReadOutcome, read_one};
 use package_table::Packages;
@@ -105,19 +105,35 @@ fn is_form(
     Ok(ends_at(&read, text.len()))
 }
 
-/// Adds the line of a property that no form can set: the symbol and its indicator.
+/// A symbol and an indicator of it.
+fn names_of(
+    alloc: Global,
+    home: &[u8],
+    name: &[u8],
+    property: &Property<'_>,
+) -> Result<Vec<u8>, AllocError>
+    ensures { IfOk result (λ names. names.items ≡ symbol_text home.now name.now
+        ++ codes " " ++ symbol_text property.now.home.now property.now.name.now) }
+{
+    let mut names = Vec::new(alloc);
+    push_symbol(&mut names, home, name)?;
+    names.push(b' ')?;
+    push_symbol(&mut names, property.home, property.name)?;
+    Ok(names)
+}
+
+/// Adds the line of a property that no form can set, for a terminal: the symbol and its indicator.
 fn push_names(
     left_out: &mut Vec<u8>,
     home: &[u8],
     name: &[u8],
     property: &Property<'_>,
 ) -> Result<(), AllocError>
-    ensures { OnOk result (Writes left_out.old left_out.new (line (symbol_text home.now name.now
-        ++ codes " " ++ symbol_text property.now.home.now property.now.name.now))) }
+    ensures { OnOk result (Writes left_out.old left_out.new (line (told_text (symbol_text home.now name.now
+        ++ codes " " ++ symbol_text property.now.home.now property.now.name.now)))) }
 {
-    push_symbol(left_out, home, name)?;
-    left_out.push(b' ')?;
-    push_symbol(left_out, property.home, property.name)?;
+    let names = names_of(*left_out.allocator(), home, name, property)?;
+    push_told(left_out, names.as_slice())?;
     left_out.push(b'\n')?;
     Ok(())
 }

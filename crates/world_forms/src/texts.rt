@@ -6,6 +6,7 @@ ghost use Rattle.canon_printer.specs.Written.{Writes, printed_text};
 ghost use Rattle.package_table.specs.Readers.{names_of};
 ghost use Rattle.world_forms.specs.Tokens.{is_plain, is_plain_after, name_text, prefix_text, symbol_text, prefix_length, is_too_long};
 ghost use Rattle.world_forms.specs.Tokens.{text_argument, call_text, value_text, quoted_text, character_argument, keyword_argument};
+ghost use Rattle.world_forms.specs.Tokens.{hex_digit, told_character, told_text};
 
 use canon_printer::print;
 use lisp_object::Datum;
@@ -212,4 +213,34 @@ pub(crate) fn push_character(
     let printed = print(alloc, &Datum::Char(character), packages, COMMON_LISP_USER)?;
     text.push(b' ')?;
     text.extend_from_slice(printed.as_slice())
+}
+
+/// A digit of base 16.
+fn hex_digit(n: u8) -> u8
+    requires { n < 16 }
+    ensures { result ≡ hex_digit n }
+{
+    if n < 10 { n + b'0' } else { n + 87 }
+}
+
+/// Adds a character for a terminal: one that a terminal would obey by its number.
+fn push_told_character(text: &mut Vec<u8>, c: u8) -> Result<(), AllocError>
+    ensures { OnOk result (Writes text.old text.new (told_character c)) }
+{
+    if c < 32 || c == 127 {
+        let escape = [b'\\', b'x', hex_digit(c / 16), hex_digit(c % 16)];
+        return text.extend_from_slice(&escape);
+    }
+    text.push(c)?;
+    Ok(())
+}
+
+/// Adds a text for a terminal.
+pub(crate) fn push_told(text: &mut Vec<u8>, bytes: &[u8]) -> Result<(), AllocError>
+    ensures { OnOk result (Writes text.old text.new (told_text bytes.now)) }
+{
+    for byte in bytes {
+        push_told_character(text, *byte)?;
+    }
+    Ok(())
 }

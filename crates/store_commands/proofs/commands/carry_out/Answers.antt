@@ -3,7 +3,6 @@ use Rattle.store_commands.specs.Folders.{OpensStore}
 use Rattle.store_commands.proofs.FolderLaws.{named_by, opening_failed, opening_gave}
 use Rattle.store_commands.proofs.Statuses.{early_after}
 use Rattle.store_commands.proofs.Tasks.{performs_nothing, performs_on, told_so}
-use Rattle.store_commands.proofs.commands.carry_out.Given as given
 use Rattle.store_commands.proofs.commands.carry_out.Goals as goal
 
 pub returns-in_default-clause-performs : goal.returns-in_default-clause-performs

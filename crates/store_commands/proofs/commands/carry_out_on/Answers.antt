@@ -1,10 +1,12 @@
 use Rattle.std.proofs.Common.{refl}
+use Rattle.store_commands.proofs.Statuses.{status_so}
 use Rattle.store_commands.proofs.Tasks.{does_export, does_not, does_run, does_snapshot, does_tell, does_upgrade}
 use Rattle.store_commands.proofs.commands.carry_out_on.Goals as goal
 
 pub returns-in-Ok : goal.returns-in-Ok
 returns-in-Ok g c =
-    does_run _ _ _ _ g.I.Read.remaining g.O.Write.contents _ _ _ _ _ _ _ c.args.task c.of_ended.result c.in-Run.wanted c.in-Ok.ended c.in-Run.is c.of_ended.ensures c.of_session.ensures c.in-Ok.ensures.served
+    does_run _ _ _ _ g.I.Read.remaining g.O.Write.contents _ _ _ _ _ _ _ c.args.task c.after_session.result c.in-Run.wanted c.in-Ok.ended c.in-Run.is
+    (status_so c.in-Run.wanted c.in-Ok.ended c.is_unanswered.result c.after_session.result c.after_session.ensures) c.of_session.ensures c.in-Ok.ensures.served
 
 pub returns-in-Err : goal.returns-in-Err
 returns-in-Err g c =

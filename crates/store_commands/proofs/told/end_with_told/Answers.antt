@@ -1,5 +1,5 @@
 use Rattle.std.proofs.Common.{subst, sym}
-use Rattle.store_commands.specs.Told.{TellsFault, WritesSome}
+use Rattle.store_commands.specs.Told.{TellsFault, WritesSome, unanswered_line}
 use Rattle.store_commands.specs.declared.status.Status.{Status}
 use Rattle.diagnostics.proofs.Fronts.{either_part}
 use Rattle.store_commands.proofs.told.end_with_told.Goals as goal
@@ -21,3 +21,10 @@ pub returns-in-FormRefused-clause-told : goal.returns-in-FormRefused-clause-told
 returns-in-FormRefused-clause-told g c =
     subst (λ (s : Status). TellsFault s c.args.told.now (g.F.Write.contents c.args.faults.now) (g.F.Write.contents c.tell_refusal.new.faults)) (sym c.in-FormRefused.is)
     c.tell_refusal.ensures
+
+pub returns-in-Unanswered-clause-told : goal.returns-in-Unanswered-clause-told
+returns-in-Unanswered-clause-told g c =
+    let held = g.F.Write.contents c.args.faults.now in
+    let written = g.F.Write.contents c.write_text-in-Unanswered.new.writer in
+    subst (λ (s : Status). TellsFault s c.args.told.now held written) (sym c.in-Unanswered.is)
+    (either_part c.write_text-in-Unanswered.result held written unanswered_line c.write_text-in-Unanswered.ensures)

@@ -1,0 +1,6 @@
+use Rattle.std.specs.Io.KnownBytes.{Keeps}
+use Rattle.store_commands.proofs.streams.UninterruptedWrite.write.Given as goal
+
+-- nothing was written so far
+abbrev pub invariant-again : goal.invariant-again
+invariant-again g l = Keeps (g.S.Write.contents l.fn.self.stream) (g.S.Write.contents l.self.stream)

@@ -1,0 +1,105 @@
+// What was answered, as the output sees it, and an input that knows whether anything was.
+ghost use Rattle.std.specs.Prelude.{◌≡◌, ◌==◌};
+ghost use Rattle.readtable_core.specs.Characters.{standard_syntax, syntax_number};
+ghost use Rattle.readtable_core.specs.declared.characters.Syntax.TheVariants.{Whitespace};
+
+use diagnostics::{Places, Spot};
+use std::cell::Cell;
+use std::io;
+use std::io::{Read, Write};
+
+/// What an output was handed last.
+#[derive(Clone, Copy, Debug, PartialEq, Eq)]
+pub enum Heard {
+    Nothing,
+    /// The line of a form.
+    Answer,
+    /// The refusal of an operator that is none.
+    UnknownOperator,
+}
+
+/// An output that tells what was written to it.
+#[derive(Drop)]
+pub struct Answers<'a, O> {
+    output: O,
+    heard: &'a Cell<Heard>,
+}
+
+impl<'a, O> Answers<'a, O> {
+    /// The output, and the cell of the input: a `Terminal` or a `Piped`.
+    pub fn new(output: O, heard: &'a Cell<Heard>) -> Answers<'a, O>
+        ensures { result.output ≡ output }
+    {
+        Answers { output, heard }
+    }
+}
+
+impl<O: Write> Write for Answers<'_, O> {
+    ghost contents = { λ a. O.contents a.output };
+
+    fn write(&mut self, buf: &[u8]) -> io::Result<usize> {
+        self.heard.set(if buf.starts_with(b"! 31 ") {
+            Heard::UnknownOperator
+        } else {
+            Heard::Answer
+        });
+        self.output.write(buf)
+    }
+
+    fn flush(&mut self) -> io::Result<()> {
+        self.output.flush()
+    }
+}
+
+/// An input that is no terminal, of which it is known whether it gave text and nothing was answered.
+#[derive(Drop)]
+pub struct Piped<'a, I> {
+    input: I,
+    heard: &'a Cell<Heard>,
+    gave_text: bool,
+}
+
+impl<'a, I> Piped<'a, I> {
+    /// Before the first byte. The cell is that of the output's `Answers`.
+    pub fn new(input: I, heard: &'a Cell<Heard>) -> Piped<'a, I>
+        ensures { result.input ≡ input }
+    {
+        Piped {
+            input,
+            heard,
+            gave_text: false,
+        }
+    }
+}
+
+/// Whether the standard readtable has this character as whitespace.
+pub(crate) fn is_blank(c: u8) -> bool
+    ensures { result ≡ syntax_number (standard_syntax c) == syntax_number Whitespace }
+{
+    match c {
+        b'\t' | b'\n' | 12 | b'\r' | b' ' | 127 => true,
+        _ => false,
+    }
+}
+
+impl<I: Read> Read for Piped<'_, I> {
+    ghost remaining = { λ p. I.remaining p.input };
+
+    fn read(&mut self, buf: &mut [u8]) -> io::Result<usize> {
+        let count = self.input.read(buf)?;
+        if !self.gave_text {
+            self.gave_text = !buf[..count].iter().all(|c| is_blank(*c));
+        }
+        Ok(count)
+    }
+}
+
+impl<I: Places> Places for Piped<'_, I> {
+    fn spot_at(&self, bytes: u64) -> Option<Spot> {
+        self.input.spot_at(bytes)
+    }
+
+    fn is_unanswered(&self) -> bool {
+        self.gave_text && self.heard.get() == Heard::Nothing
+    }
+}

@@ -1,0 +1,35 @@
+// Text of somebody else's that goes to a terminal.
+use std::{fmt, io};
+
+/// A writer of text that shows each control character but the newline by its number in base 16, so that no terminal obeys it.
+#[derive(Drop)]
+pub(crate) struct Shown<'a, W> {
+    writer: &'a mut W,
+}
+
+impl<'a, W> Shown<'a, W> {
+    pub(crate) fn new(writer: &'a mut W) -> Shown<'a, W> {
+        Shown { writer }
+    }
+}
+
+/// Whether a terminal may obey it: a control character of ASCII or of Latin-1.
+fn is_obeyed(c: char) -> bool {
+    (c < ' ' && c != '\n') || ('\x7f' <= c && c <= '\u{9f}')
+}
+
+impl<W: io::Write> fmt::Write for Shown<'_, W> {
+    fn write_str(&mut self, text: &str) -> fmt::Result {
+        for c in text.chars() {
+            let written = if is_obeyed(c) {
+                write!(self.writer, "\\x{:02x}", c as u32)
+            } else {
+                write!(self.writer, "{c}")
+            };
+            if written.is_err() {
+                return Err(fmt::Error);
+            }
+        }
+        Ok(())
+    }
+}
