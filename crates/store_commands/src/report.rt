@@ -73,7 +73,11 @@ fn write_report<D: Disk, M: MacroFunctions, O: Write>(
 }
 
 // Writes the text of the world of an open store.
-fn write_world<D: Disk, M: MacroFunctions, O: Write>(alloc: Global, store: &Store<D, M>, output: &mut O) -> Status
+fn write_world<D: Disk, M: MacroFunctions, O: Write>(
+    alloc: Global,
+    store: &Store<D, M>,
+    output: &mut O,
+) -> Status
     requires known { IsSome store.now.world }
     ensures { IfSome store.now.world (λ world.
         TellsText result (O.contents output.old) (O.contents output.new) (snapshot world)) }
@@ -89,7 +93,10 @@ fn write_world<D: Disk, M: MacroFunctions, O: Write>(alloc: Global, store: &Stor
 }
 
 /// Writes the line on the half in use of an open store, and answers how that ended.
-pub(crate) fn write_half<D: Disk, M: MacroFunctions, O: Write>(store: &Store<D, M>, output: &mut O) -> Status
+pub(crate) fn write_half<D: Disk, M: MacroFunctions, O: Write>(
+    store: &Store<D, M>,
+    output: &mut O,
+) -> Status
     ensures { TellsText result (O.contents output.old) (O.contents output.new)
         (half_line_of store.now) }
 {
