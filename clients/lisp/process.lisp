@@ -9,6 +9,13 @@
   "A program that runs, or that has ended. ERRORS is a file without a name, which takes its standard error."
   process to from errors (overdue-p nil))
 
+#+ecl (ffi:clines "#include <fcntl.h>")
+
+(defun keep-from-children (stream)
+  "On ECL a program inherits what the image has open, and a pipe to it would stay open in one started later."
+  #-ecl (declare (ignore stream))
+  #+ecl (ffi:c-inline ((si:file-stream-fd stream)) (:int) :int "fcntl(#0, F_SETFD, FD_CLOEXEC)" :one-liner t))
+
 (defun launch (words)
   "Starts the program. Characters are bytes here: what is over 127 is judged later."
   (uiop:with-temporary-file (:pathname path)
@@ -17,10 +24,13 @@
                                                :error-output path :if-error-output-exists :append
                                                :external-format :latin-1))
            (to (uiop:process-info-input process))
-           (from (uiop:process-info-output process)))
-      (make-program :process process :errors errors
-                    :to (if (typep to 'two-way-stream) (two-way-stream-output-stream to) to)
-                    :from (if (typep from 'two-way-stream) (two-way-stream-input-stream from) from)))))
+           (from (uiop:process-info-output process))
+           (program (make-program
+                     :process process :errors errors
+                     :to (if (typep to 'two-way-stream) (two-way-stream-output-stream to) to)
+                     :from (if (typep from 'two-way-stream) (two-way-stream-input-stream from) from))))
+      (mapc #'keep-from-children (list errors (program-to program) (program-from program)))
+      program)))
 
 (defun kill (program)
   (ignore-errors (uiop:terminate-process (program-process program) :urgent t)))
@@ -44,7 +54,8 @@ so it does not wait for anybody to read what it may still have to say."
   (ignore-errors (close (program-to program) :abort t))
   (ignore-errors (close (program-from program) :abort t))
   (wait-for-end program *end-limit*)
-  (when (uiop:process-alive-p (program-process program)) (kill program))
+  ;; On ECL a program that is stopped is not alive to UIOP; and one that has ended cannot be killed there.
+  (when (or #+ecl t (uiop:process-alive-p (program-process program))) (kill program))
   (let ((status (uiop:wait-process (program-process program))))
     (multiple-value-prog1 (values status (all-errors program))
       (close (program-errors program)))))
