@@ -53,6 +53,7 @@ function in another way leaves it broken."
   (let ((program (store-program store)))
     (setf (store-state store) :broken
           (program-overdue-p program) nil)
+    (when (listen (program-from program)) (malformed "" "more was answered than was asked"))
     (flet ((say ()
              (dolist (text texts) (write-line text (program-to program)))
              (finish-output (program-to program))
