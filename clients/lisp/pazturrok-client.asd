@@ -1,4 +1,28 @@
 (defsystem "pazturrok-client"
+  :version "0.2.0"
   :description "Starts Pazturrok over a folder, sends it forms and reads its answers."
   :depends-on ("uiop")
-  :components ((:file "pazturrok-client")))
+  :serial t
+  :components ((:file "package")
+               (:file "conditions")
+               (:file "names")
+               (:file "printer")
+               (:file "answers")
+               (:file "texts")
+               (:file "process")
+               (:file "store"))
+  :in-order-to ((test-op (test-op "pazturrok-client/tests"))))
+
+(defsystem "pazturrok-client/tests"
+  :description "Checks of the client, which need the program: PAZTURROK_PROGRAM is its path."
+  :depends-on ("pazturrok-client")
+  ;; checks/lisp of the repository; ECL takes no "../" here.
+  :pathname #.(merge-pathnames "checks/lisp/" (uiop:pathname-parent-directory-pathname
+                                               (uiop:pathname-parent-directory-pathname *load-truename*)))
+  :serial t
+  :components ((:file "harness")
+               (:file "texts")
+               (:file "store")
+               (:file "hostile"))
+  :perform (test-op (operation component)
+             (uiop:symbol-call "PAZTURROK-CHECK" "TEST")))

@@ -1,0 +1,93 @@
+;;;; The running program: its streams, its end, and a limit on how long it may take.
+
+(in-package "PAZTURROK-CLIENT")
+
+(defparameter *end-limit* 10
+  "How many seconds the program may take to end, before it is killed. A kill loses nothing that was answered.")
+
+(defstruct (program (:copier nil))
+  "A program that runs, or that has ended. ERRORS is a file without a name, which takes its standard error."
+  process to from errors (overdue-p nil))
+
+#+ecl (ffi:clines "#include <fcntl.h>")
+
+(defun keep-from-children (stream)
+  "On ECL a program inherits what the image has open, and a pipe to it would stay open in one started later."
+  #-ecl (declare (ignore stream))
+  #+ecl (ffi:c-inline ((si:file-stream-fd stream)) (:int) :int "fcntl(#0, F_SETFD, FD_CLOEXEC)" :one-liner t))
+
+(defun launch (words)
+  "Starts the program. Characters are bytes here: what is over 127 is judged later."
+  (uiop:with-temporary-file (:pathname path)
+    (let* ((errors (open path :external-format :latin-1))
+           (process (uiop:launch-program words :input :stream :output :stream
+                                               :error-output path :if-error-output-exists :append
+                                               :external-format :latin-1))
+           (to (uiop:process-info-input process))
+           (from (uiop:process-info-output process))
+           (program (make-program
+                     :process process :errors errors
+                     :to (if (typep to 'two-way-stream) (two-way-stream-output-stream to) to)
+                     :from (if (typep from 'two-way-stream) (two-way-stream-input-stream from) from))))
+      (mapc #'keep-from-children (list errors (program-to program) (program-from program)))
+      program)))
+
+(defun kill (program)
+  (ignore-errors (uiop:terminate-process (program-process program) :urgent t)))
+
+(defun wait-for-end (program seconds)
+  "Waits until the program has ended, at most so long."
+  (loop with end = (+ (get-internal-real-time) (* seconds internal-time-units-per-second))
+        for pause = 1/1000 then (min 1/20 (* 2 pause))
+        while (and (uiop:process-alive-p (program-process program)) (< (get-internal-real-time) end))
+        do (sleep pause)))
+
+(defun all-errors (program)
+  "What the program wrote to standard error, at most 65,536 characters of it; or NIL."
+  (let* ((text (make-string 65536))
+         (end (ignore-errors (read-sequence text (program-errors program)))))
+    (and end (plusp end) (string-right-trim '(#\Newline) (subseq text 0 end)))))
+
+(defun end (program)
+  "Ends the program, and gives its status and what it wrote to standard error. Both pipes are closed first:
+so it does not wait for anybody to read what it may still have to say."
+  (ignore-errors (close (program-to program) :abort t))
+  (ignore-errors (close (program-from program) :abort t))
+  (wait-for-end program *end-limit*)
+  ;; On ECL a program that is stopped is not alive to UIOP; and one that has ended cannot be killed there.
+  (when (or #+ecl t (uiop:process-alive-p (program-process program))) (kill program))
+  (let ((status (uiop:wait-process (program-process program))))
+    (multiple-value-prog1 (values status (all-errors program))
+      (close (program-errors program)))))
+
+;;; Time limits. Where there are threads the program is killed when the time is over, so that whatever
+;;; waits for it ends. Elsewhere reading looks at the clock, and only a form that is longer than the pipe
+;;; may wait longer.
+
+(defvar *deadline* nil "When reading has to have ended, in the units of GET-INTERNAL-REAL-TIME; or NIL.")
+
+(defun call-with-limit (program seconds function)
+  "Calls FUNCTION, which waits for the program. After so many seconds the program is killed, and is overdue."
+  (declare (ignorable program))
+  #+sb-thread
+  (let ((timer (sb-ext:make-timer (lambda () (setf (program-overdue-p program) t) (kill program)) :thread t)))
+    (sb-ext:schedule-timer timer seconds)
+    (unwind-protect (funcall function) (sb-ext:unschedule-timer timer)))
+  #-sb-thread
+  (let ((*deadline* (+ (get-internal-real-time) (ceiling (* seconds internal-time-units-per-second)))))
+    (funcall function)))
+
+(defun next-before-deadline (program)
+  (loop for pause = 1/10000 then (min 1/100 (* 2 pause))
+        for char = (read-char-no-hang (program-from program) nil :end)
+        do (cond ((eq char :end) (return nil))
+                 (char (return char))
+                 ((>= (get-internal-real-time) *deadline*)
+                  (setf (program-overdue-p program) t)
+                  (kill program)
+                  (return nil)))
+           (sleep pause)))
+
+(defun next-character (program)
+  "The next character of the program's output, or NIL at its end."
+  (if *deadline* (next-before-deadline program) (read-char (program-from program) nil)))

@@ -1,0 +1,274 @@
+;;;; A store: forms are sent to it, one after the other or many at once, and their values come back.
+
+(in-package "PAZTURROK-CLIENT")
+
+(defstruct (store (:constructor make-store (words naming time-limit opening-limit)) (:copier nil))
+  "A program over a folder. It belongs to one thread at a time."
+  words
+  naming
+  time-limit
+  opening-limit
+  (program nil)
+  (state :closed :type (member :good :broken :ended :closed))
+  (homes '() :type list)                        ; packages that the store is known to have
+  (round-trips 0 :type unsigned-byte))
+
+(setf (documentation 'store-state 'function)
+      ":GOOD if each form that was sent has its whole answer; :BROKEN if one was left within its answer;
+:ENDED if a text that could not be read ended the session, and the next form opens the store again; :CLOSED."
+      (documentation 'store-round-trips 'function)
+      "How often something was sent, and answers were waited for.")
+
+(defmethod print-object ((store store) stream)
+  (print-unreadable-object (store stream :type t :identity t)
+    (format stream "~A ~A" (third (store-words store)) (store-state store))))
+
+(defun store-process (store)
+  "The process of the program, as UIOP has it, or NIL."
+  (and (store-program store) (program-process (store-program store))))
+
+;;; Texts to and fro
+
+(defun end-session (store state)
+  "Ends the program, and gives its status and what it wrote to standard error."
+  (setf (store-state store) state)
+  (end (store-program store)))
+
+(defun stop (store seconds)
+  "Signals why the program says no more."
+  (let ((overdue-p (program-overdue-p (store-program store))))
+    (multiple-value-bind (status fault) (end-session store :broken)
+      (if overdue-p
+          (error 'timed-out :seconds seconds)
+          (error 'stopped :status status :fault fault)))))
+
+(defun ends-session-p (store answer)
+  (let ((number (refusal-of answer)))
+    (and number (or (<= number 25) (member "--strict" (store-words store) :test #'equal)))))
+
+(defun exchange (store texts receive seconds)
+  "Sends the texts of whole forms, and calls RECEIVE with the text of each answer, up to one that ends the
+session. The store is broken before anything is sent, and good when all is read: whatever leaves this
+function in another way leaves it broken."
+  (let ((program (store-program store)))
+    (setf (store-state store) :broken
+          (program-overdue-p program) nil)
+    (when (listen (program-from program)) (malformed "" "more was answered than was asked"))
+    (flet ((say ()
+             (dolist (text texts) (write-line text (program-to program)))
+             (finish-output (program-to program))
+             (loop repeat (length texts)
+                   for answer = (answer-text (lambda () (or (next-character program) (stop store seconds))))
+                   do (funcall receive answer)
+                   until (ends-session-p store answer))))
+      (handler-case (if seconds (call-with-limit program seconds #'say) (say))
+        (stream-error () (stop store seconds))))
+    (when (program-overdue-p program) (stop store seconds))
+    (incf (store-round-trips store))
+    (setf (store-state store) :good)))
+
+(defun answer-to (store text seconds)
+  "The text of the answer to the text of one form."
+  (let ((answer nil))
+    (exchange store (list text) (lambda (text) (setf answer text)) seconds)
+    answer))
+
+;;; Opening and closing
+
+(defparameter *naming-question*
+  (format nil "(LIST *PACKAGE* 'IN-READTABLE~{ '~A~})" *operators*)
+  "What the current package is, and which symbols of COMMON-LISP are printed in it without a prefix.")
+
+(defun ask-naming (store seconds)
+  "Asks how symbols are printed. The store is good when that is known."
+  (let* ((answer (answer-to store *naming-question* seconds))
+         (named (progn (setf (store-state store) :broken)
+                       (parse-answer answer (lambda (prefix name) (if prefix nil name))))))
+    (unless (and (consp named) (every #'stringp (remove nil named)))
+      (malformed answer "no package and names"))
+    (setf (naming-current (store-naming store)) (first named)
+          (naming-bare (store-naming store)) (remove nil (rest named))
+          (store-state store) :good)))
+
+(defun open-program (store)
+  "Starts the program, and waits until the store is open."
+  (setf (store-state store) :broken
+        (store-homes store) '()
+        (store-program store) (launch (store-words store)))
+  (unwind-protect (ask-naming store (store-opening-limit store))
+    (unless (eq (store-state store) :good) (end-session store :broken))))
+
+(defun make-ready (store)
+  "Sees to it that the store can be sent to, or signals that it cannot."
+  (ecase (store-state store)
+    (:good)
+    (:ended (open-program store))
+    (:broken (error 'broken))
+    (:closed (error 'closed))))
+
+(defun open-store (program folder &key (package *package*) intern time-limit opening-time-limit options)
+  "Starts PROGRAM over FOLDER, and gives the store when it is open.
+
+PACKAGE stands for the store's COMMON-LISP-USER: symbols without a prefix are those that it finds. A name in
+an answer that the image has no symbol for becomes a symbol of a package of the client's own, as
+PAZTURROK/COMMON-LISP-USER; with INTERN true it becomes one of PACKAGE, as READ would make it.
+TIME-LIMIT is how many seconds an answer may take, OPENING-TIME-LIMIT how many the opening, NIL for any time.
+OPTIONS are further words of the command line, as (\"--snapshot-every\" \"1000\")."
+  (let* ((path (if (pathnamep folder) (uiop:native-namestring folder) folder))
+         (own '("--rescue" "--group"))
+         (further (remove-if (lambda (option) (member option own :test #'equal)) options))
+         (store (make-store (append (list program "run" path) own further)
+                            (make-naming :package (find-package package) :interns-p intern)
+                            time-limit opening-time-limit)))
+    (open-program store)
+    store))
+
+(defun close-store (store)
+  "Ends the session, and gives the status of the program. What was answered is in the store. It waits ten
+seconds at most for the program, and then kills it."
+  (when (store-program store)
+    (values (end-session store :closed))))
+
+(defun reopen-store (store)
+  "Ends the program if it still runs, and opens the store again."
+  (close-store store)
+  (open-program store)
+  store)
+
+(defmacro with-store ((store program folder &rest options) &body body)
+  "Evaluates BODY with STORE bound to what OPEN-STORE gives, and closes it. PACKAGE is the package in which
+BODY was read, if the options have none."
+  `(let ((,store (open-store ,program ,folder ,@options :package ,(package-name *package*))))
+     (unwind-protect (progn ,@body) (close-store ,store))))
+
+;;; Forms
+
+(defun check-homes (store homes form seconds)
+  "Signals that FORM cannot be sent if it names a package that the store has not."
+  (dolist (home (set-difference homes (store-homes store) :test #'string=))
+    (make-ready store)
+    (when (refusal-of (answer-to store (format nil "(IMPORT NIL ~A)" (string-text home)) seconds))
+      (cannot-send form "the store has no package ~S" home))
+    (push home (store-homes store))))
+
+(defun sendable-text (store form seconds)
+  "The text of a form that is an object."
+  (multiple-value-bind (text homes) (form-text form (store-naming store))
+    (check-homes store homes form seconds)
+    text))
+
+(defun check-text (text)
+  (check-characters text text)
+  (unless (one-form-p text) (cannot-send text "it is not one whole form"))
+  (when (> (length text) +form-limit+) (cannot-send text "it is longer than ~D characters" +form-limit+))
+  text)
+
+(defun changes-naming-p (text)
+  "Whether the form may change how symbols are printed after it."
+  (let ((letters (remove-if (lambda (char) (find char "\\|")) text)))
+    (some (lambda (operator) (search operator letters :test #'char-equal))
+          '("IN-PACKAGE" "USE-PACKAGE" "IMPORT" "EXPORT"))))
+
+(defun outcome (store answer &optional place)
+  "The value that an answer tells; or the condition that the form was refused, or answered with nonsense."
+  (handler-case
+      (multiple-value-bind (number name) (refusal-of answer)
+        (if number
+            (make-condition 'refused :number number :name name :place place)
+            (let ((naming (store-naming store)))
+              (parse-answer answer (lambda (prefix name)
+                                     (symbol-of (home-named prefix name naming) name naming))))))
+    (malformed-answer (condition) condition)))
+
+(defun outcomes (store texts answers seconds)
+  "The outcomes of the forms that were answered. Only the last of TEXTS may change how symbols are printed."
+  (let* ((last (first (last answers)))
+         (before (mapcar (lambda (answer) (outcome store answer)) (butlast answers)))
+         (place (when (ends-session-p store last) (nth-value 1 (end-session store :ended)))))
+    (when (and (= (length answers) (length texts))
+               (eq (store-state store) :good)
+               (changes-naming-p (first (last texts))))
+      (ask-naming store seconds))
+    (append before (list (outcome store last place)))))
+
+(defun carry-out (store texts seconds)
+  "Sends the texts of forms at once. Gives the outcomes of those that were answered, which are the first
+ones, and the condition that kept it from going on, or NIL."
+  (let ((answers '()) (hindrance nil))
+    (handler-case
+        (progn (make-ready store)
+               (exchange store texts (lambda (answer) (push answer answers)) seconds))
+      (store-error (condition) (setf hindrance condition)))
+    (values (and answers (outcomes store texts (nreverse answers) seconds)) hindrance)))
+
+(defconstant +pipe-room+ 4000
+  "How many characters are sent before their answers are read: as many as any pipe takes. So no pipe is ever
+full while both programs write.")
+
+(defun first-texts (texts)
+  "How many of the first texts can be sent at once: at least one, and then as many as a pipe has room for; up
+to the first one that changes how symbols are printed."
+  (loop for text in texts
+        for count from 1
+        for room = (- +pipe-room+ 1 (length text)) then (- room 1 (length text))
+        when (and (minusp room) (> count 1)) return (1- count)
+        when (changes-naming-p text) return count
+        finally (return (length texts))))
+
+(defun send-texts (store texts seconds)
+  "The outcomes of all texts. A condition that keeps the store from going on is signalled."
+  (let ((outcomes '()))
+    (loop while texts
+          do (let ((group (subseq texts 0 (first-texts texts))))
+               (multiple-value-bind (done hindrance) (carry-out store group seconds)
+                 (setf outcomes (revappend done outcomes)
+                       texts (nthcdr (length done) texts))
+                 (when hindrance
+                   (restart-case (error hindrance)
+                     (retry-form ()
+                       :report "Open the store again, and send what was not answered once more."
+                       (let-open store))
+                     (skip-form ()
+                       :report "Open the store again; what was not answered is left, and its value is NIL."
+                       (let-open store)
+                       (loop repeat (- (length group) (length done))
+                             do (push nil outcomes) (pop texts))))))))
+    (nreverse outcomes)))
+
+(defun let-open (store)
+  "The next form opens the store again."
+  (close-store store)
+  (setf (store-state store) :ended))
+
+(defun settle (store text outcome seconds)
+  "The value of the form; or what its outcome is instead is signalled."
+  (loop while (typep outcome 'store-error)
+        do (restart-case (error outcome)
+             (retry-form ()
+               :report "Send the form once more."
+               (setf outcome (first (send-texts store (list text) seconds))))
+             (skip-form ()
+               :report "Leave the form; its value is NIL."
+               (setf outcome nil))))
+  outcome)
+
+(defun send-text (store text &key (time-limit (store-time-limit store)))
+  "Sends the text of one whole form, and gives its value. It is read under the standard readtable, in
+COMMON-LISP-USER, in base 10."
+  (let ((text (check-text text)))
+    (settle store text (first (send-texts store (list text) time-limit)) time-limit)))
+
+(defun send (store form &key (time-limit (store-time-limit store)))
+  "Sends a form as an object, and gives its value."
+  (let ((text (sendable-text store form time-limit)))
+    (settle store text (first (send-texts store (list text) time-limit)) time-limit)))
+
+(defun send-all (store forms &key (time-limit (store-time-limit store)) (on-refusal :signal))
+  "Sends many forms, without waiting for each answer, and gives the list of their values. All of them are
+done, whether one is refused or not. A refusal is signalled when all are answered; or, where ON-REFUSAL is
+:RETURN, its condition stands in the place of a value. TIME-LIMIT is for the answers of what is sent at once."
+  (let* ((texts (mapcar (lambda (form) (sendable-text store form time-limit)) forms))
+         (outcomes (send-texts store texts time-limit)))
+    (ecase on-refusal
+      (:return outcomes)
+      (:signal (mapcar (lambda (text outcome) (settle store text outcome time-limit)) texts outcomes)))))

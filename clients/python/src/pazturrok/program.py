@@ -1,0 +1,108 @@
+"""The running program: its pipes, its end, and a limit on how long an answer may take."""
+
+from __future__ import annotations
+
+import contextlib
+import os
+import selectors
+import subprocess
+import tempfile
+import time
+from collections.abc import Callable, Sequence
+
+from .answers import AnswerSplitter
+from .errors import MalformedAnswerError, StoppedError, TimeLimitError
+
+END_LIMIT = 10.0
+"""How many seconds the program may take to end, before it is killed. That loses nothing that was answered."""
+
+PIECE = 65536
+
+
+class Program:
+    """A program that runs, or that has ended."""
+
+    def __init__(self, words: Sequence[str]) -> None:
+        self._errors = tempfile.TemporaryFile()  # noqa: SIM115
+        try:
+            self.process = subprocess.Popen(
+                words, bufsize=0, stdin=subprocess.PIPE, stdout=subprocess.PIPE, stderr=self._errors
+            )
+        except BaseException:
+            self._errors.close()
+            raise
+        assert self.process.stdin and self.process.stdout
+        self._to, self._from = self.process.stdin, self.process.stdout
+        for pipe in (self._to, self._from):
+            os.set_blocking(pipe.fileno(), False)
+        self._splitter = AnswerSplitter()
+
+    def exchange(
+        self, texts: Sequence[str], answers: list[str], is_last: Callable[[str], bool], seconds: float | None
+    ) -> None:
+        """Sends texts, and appends the answer to each, up to one that is the last of the session.
+
+        It reads while it writes, so neither program waits for the other with its pipe full.
+        """
+        if self._read():
+            raise MalformedAnswerError("", "more was answered than was asked")
+        unsent = memoryview("".join(text + "\n" for text in texts).encode("ascii"))
+        end = None if seconds is None else time.monotonic() + seconds
+        with selectors.DefaultSelector() as selector:
+            selector.register(self._from, selectors.EVENT_READ)
+            selector.register(self._to, selectors.EVENT_WRITE)
+            while unsent or len(answers) < len(texts):
+                for key, _ in selector.select(None if end is None else max(0.0, end - time.monotonic())):
+                    if key.fileobj is self._to:
+                        unsent = unsent[self._write(unsent) :]
+                        if not unsent:
+                            selector.unregister(self._to)
+                    else:
+                        answers += self._read()
+                        if answers and is_last(answers[-1]):
+                            return
+                if end is not None and time.monotonic() >= end:
+                    self.end(0)
+                    raise TimeLimitError(seconds or 0)
+        if len(answers) > len(texts) or not self._splitter.is_empty:
+            raise MalformedAnswerError(answers[-1], "more was answered than was asked")
+
+    def _write(self, data: memoryview) -> int:
+        try:
+            return os.write(self._to.fileno(), data[:PIECE])
+        except BlockingIOError:
+            return 0
+        except OSError:
+            raise self.stopped() from None
+
+    def _read(self) -> list[str]:
+        try:
+            data = os.read(self._from.fileno(), PIECE)
+        except BlockingIOError:
+            return []
+        if not data:
+            raise self.stopped()
+        return self._splitter.feed(data)
+
+    def stopped(self) -> StoppedError:
+        """Ends the program, and tells how it ended."""
+        return StoppedError(*self.end())
+
+    def end(self, limit: float | None = None) -> tuple[int, str]:
+        """Ends the program, and gives its status and what it wrote to standard error.
+
+        Both pipes are closed first: so it does not wait for anybody to read what it may still have to say.
+        """
+        for pipe in (self._to, self._from):
+            with contextlib.suppress(OSError):
+                pipe.close()
+        try:
+            status = self.process.wait(END_LIMIT if limit is None else limit)
+        except subprocess.TimeoutExpired:
+            self.process.kill()
+            status = self.process.wait()
+        if self._errors.closed:
+            return status, ""
+        with self._errors:
+            self._errors.seek(0)
+            return status, self._errors.read(PIECE).decode("utf-8", "replace").rstrip("\n")

@@ -1,0 +1,273 @@
+"""A store: forms are sent to it, one after the other or many at once, and their values come back."""
+
+from __future__ import annotations
+
+import enum
+import os
+import re
+import threading
+from collections.abc import Iterable, Sequence
+from types import TracebackType
+from typing import Union
+
+from .answers import parse_answer, refusal_of
+from .errors import (
+    BrokenStoreError,
+    ClosedStoreError,
+    MalformedAnswerError,
+    RefusedError,
+    StoreError,
+    UnansweredError,
+    UnsendableError,
+)
+from .printer import FORM_LIMIT, check_characters, packages_of, printed, string_text
+from .program import Program
+from .texts import is_one_form
+from .values import LISP, OPERATORS, Symbol, Value
+
+Form = Union[str, "list[Value]"]
+Outcome = Union[Value, StoreError]
+
+NAMING_QUESTION = f"(LIST *PACKAGE* {' '.join(chr(39) + name for name in sorted(OPERATORS))})"
+"""What the current package is, and which symbols of COMMON-LISP are printed in it without a prefix."""
+
+CHANGES_NAMING = re.compile(r"IN-PACKAGE|USE-PACKAGE|IMPORT|EXPORT", re.IGNORECASE)
+"""What stands in a form that may change how symbols are printed, where its escapes and bars are left out."""
+
+
+class State(enum.Enum):
+    """What can be done with a store."""
+
+    GOOD = "each form that was sent has its whole answer"
+    BROKEN = "a form was left within its answer"
+    ENDED = "a text that could not be read ended the session: the next form opens the store again"
+    CLOSED = "the store was closed"
+
+
+class Store:
+    """A program over a folder. Threads may share it: each waits until the one before it has its answers.
+
+    `time_limit` is how many seconds an answer may take, `opening_time_limit` how many the opening, None for
+    any time. `options` are further words of the command line, as ("--snapshot-every", "1000").
+    """
+
+    def __init__(
+        self,
+        folder: str | os.PathLike[str],
+        program: str | os.PathLike[str] = "pazturrok",
+        *,
+        time_limit: float | None = None,
+        opening_time_limit: float | None = None,
+        options: Sequence[str] = (),
+    ) -> None:
+        own = ["--rescue", "--group"]
+        further = [word for word in options if word not in own]
+        self._words = [os.fspath(program), "run", os.fspath(folder), *own, *further]
+        self._time_limit = time_limit
+        self._opening_time_limit = opening_time_limit
+        self._lock = threading.RLock()
+        self._state = State.CLOSED
+        self._program: Program | None = None
+        self._round_trips = 0
+        self._open()
+
+    @property
+    def state(self) -> State:
+        """What can be done with the store."""
+        return self._state
+
+    @property
+    def round_trips(self) -> int:
+        """How often something was sent, and answers were waited for."""
+        return self._round_trips
+
+    @property
+    def pid(self) -> int | None:
+        """The number of the program's process."""
+        return self._program.process.pid if self._program else None
+
+    def __enter__(self) -> Store:
+        return self
+
+    def __exit__(
+        self, kind: type[BaseException] | None, error: BaseException | None, traceback: TracebackType | None
+    ) -> None:
+        self.close()
+
+    # Opening and closing
+
+    def _open(self) -> None:
+        self._state = State.BROKEN
+        self._packages: set[str] = set()
+        self._program = Program(self._words)
+        try:
+            self._ask_naming(self._opening_time_limit)
+        finally:
+            if self._state is not State.GOOD:
+                self._program.end()
+
+    def close(self) -> int | None:
+        """Ends the session, and gives the status of the program. What was answered is in the store.
+
+        It waits ten seconds at most for the program, and then kills it.
+        """
+        with self._lock:
+            self._state = State.CLOSED
+            return self._program.end()[0] if self._program else None
+
+    def reopen(self) -> None:
+        """Ends the program if it still runs, and opens the store again."""
+        with self._lock:
+            self.close()
+            self._open()
+
+    # Forms
+
+    def execute(self, form: Form, *, time_limit: float | None = None) -> Value:
+        """Sends a form, its text or the form as a list, and gives its value.
+
+        It is read under the standard readtable, in COMMON-LISP-USER, in base 10.
+        """
+        value = self.execute_all([form], time_limit=time_limit)[0]
+        assert not isinstance(value, StoreError)
+        return value
+
+    def execute_all(
+        self, forms: Iterable[Form], *, time_limit: float | None = None, raise_on_refusal: bool = True
+    ) -> list[Outcome]:
+        """Sends many forms, without waiting for each answer, and gives the list of their values.
+
+        All of them are done, whether one is refused or not. The first refusal is raised when all are
+        answered; or, without `raise_on_refusal`, its exception stands in the place of a value. `time_limit`
+        is for the answers of what is sent at once.
+        """
+        seconds = self._time_limit if time_limit is None else time_limit
+        with self._lock:
+            texts = [self._text(form, seconds) for form in forms]
+            outcomes: list[Outcome] = []
+            try:
+                while len(outcomes) < len(texts):
+                    self._carry_out(_first_texts(texts[len(outcomes) :]), outcomes, seconds)
+            except UnansweredError as error:
+                error.outcomes = outcomes
+                raise
+        if raise_on_refusal:
+            for outcome in outcomes:
+                if isinstance(outcome, StoreError):
+                    raise outcome
+        return outcomes
+
+    def _text(self, form: Form, seconds: float | None) -> str:
+        """The text of a form, which some session can read."""
+        if not isinstance(form, str):
+            text = printed(form)
+            self._check_packages(form, seconds)
+            return text
+        check_characters(form, form)
+        if not is_one_form(form):
+            raise UnsendableError(form, "it is not one whole form")
+        if len(form) > FORM_LIMIT:
+            raise UnsendableError(form, f"it is longer than {FORM_LIMIT} characters")
+        return form
+
+    def _check_packages(self, form: Value, seconds: float | None) -> None:
+        for package in sorted(set(packages_of(form)) - self._packages):
+            self._make_ready()
+            answer = self._answer(f"(IMPORT NIL {string_text(package)})", seconds)
+            if refusal_of(answer):
+                raise UnsendableError(form, f"the store has no package {package!r}")
+            self._packages.add(package)
+
+    def _make_ready(self) -> Program:
+        """The program of a store that can be sent to."""
+        if self._state is State.BROKEN:
+            raise BrokenStoreError
+        if self._state is State.CLOSED:
+            raise ClosedStoreError
+        if self._state is State.ENDED:
+            self._open()
+        assert self._program
+        return self._program
+
+    def _carry_out(self, texts: list[str], outcomes: list[Outcome], seconds: float | None) -> None:
+        """Sends texts at once, and appends the outcomes of those that were answered."""
+        self._make_ready()
+        answers: list[str] = []
+        try:
+            self._exchange(texts, answers, seconds)
+        except UnansweredError:
+            outcomes += map(self._outcome, answers)
+            raise
+        *before, last = answers
+        outcomes += map(self._outcome, before)
+        place = self._end_session() if self._ends_session(last) else None
+        if place is None and _changes_naming(texts[-1]):
+            self._ask_naming(seconds)
+        outcomes.append(self._outcome(last, place))
+
+    # Texts to and fro
+
+    def _exchange(self, texts: list[str], answers: list[str], seconds: float | None) -> None:
+        """Sends the texts of whole forms, and appends their answers, up to one that ends the session.
+
+        The store is broken before anything is sent, and good when all is read: whatever leaves this function
+        in another way leaves it broken.
+        """
+        assert self._program
+        self._state = State.BROKEN
+        self._program.exchange(texts, answers, self._ends_session, seconds)
+        self._round_trips += 1
+        self._state = State.GOOD
+
+    def _answer(self, text: str, seconds: float | None) -> str:
+        answers: list[str] = []
+        self._exchange([text], answers, seconds)
+        return answers[0]
+
+    def _ends_session(self, answer: str) -> bool:
+        refusal = refusal_of(answer)
+        return refusal is not None and (refusal[0] <= 25 or "--strict" in self._words)
+
+    def _end_session(self) -> str:
+        """Ends the session after its last refusal, and gives what standard error says of its place."""
+        assert self._program
+        self._state = State.ENDED
+        return self._program.end()[1]
+
+    def _ask_naming(self, seconds: float | None) -> None:
+        """Asks how symbols are printed. The store is good when that is known."""
+        answer = self._answer(NAMING_QUESTION, seconds)
+        self._state = State.BROKEN
+        named = parse_answer(answer, lambda prefix, name: "" if prefix else name)
+        if not isinstance(named, list) or not named or not all(isinstance(name, str) for name in named):
+            raise MalformedAnswerError(answer, "no package and names")
+        self._current, *bare = map(str, named)
+        self._bare = frozenset(bare) - {""}
+        self._state = State.GOOD
+
+    def _symbol(self, prefix: str | None, name: str) -> Value:
+        """The object for a symbol that an answer names so."""
+        package = prefix or (LISP if name in self._bare else self._current)
+        symbol = Symbol(name, package)
+        return [] if symbol == Symbol("NIL", LISP) else symbol
+
+    def _outcome(self, answer: str, place: str | None = None) -> Outcome:
+        """The value that an answer tells; or that the form was refused, or answered with nonsense."""
+        try:
+            refusal = refusal_of(answer)
+            return RefusedError(*refusal, place) if refusal else parse_answer(answer, self._symbol)
+        except MalformedAnswerError as error:
+            return error
+
+
+def _changes_naming(text: str) -> bool:
+    """Whether the form may change how symbols are printed after it."""
+    return CHANGES_NAMING.search(re.sub(r"[\\|]", "", text)) is not None
+
+
+def _first_texts(texts: list[str]) -> list[str]:
+    """The first texts, up to one that may change how symbols are printed."""
+    for place, text in enumerate(texts):
+        if _changes_naming(text):
+            return texts[: place + 1]
+    return texts
