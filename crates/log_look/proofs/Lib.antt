@@ -1,0 +1,3 @@
+pub mod Growing
+pub mod Looking
+pub mod Reading
