@@ -15,14 +15,14 @@ import tempfile
 import threading
 
 KEYS = 40
-# how a session is started: its words, and how long the texts are that make the files long
+# how a session is started: its words, how long the texts are that make the files long, and how many forms it is sent at most
 SESSIONS = [
-    (["--snapshot-every", "1"], 0),
-    (["--snapshot-every", "7"], 0),
-    (["--snapshot-every", "50", "--group"], 100),
-    (["--group"], 0),
-    ([], 20_000),
-    (["--snapshot-every", "3"], 2_000),
+    (["--snapshot-every", "1"], 0, 1_000_000),
+    (["--snapshot-every", "7"], 0, 1_000_000),
+    (["--snapshot-every", "50", "--group"], 100, 1_000_000),
+    (["--group"], 0, 20_000),
+    ([], 20_000, 300),
+    (["--snapshot-every", "3"], 2_000, 1_000_000),
 ]
 
 
@@ -33,11 +33,12 @@ class Deviation(Exception):
 class Writer(threading.Thread):
     """A session that is sent forms until it is stopped. `sent` and `answered` count forms."""
 
-    def __init__(self, program, folder, first, words, size):
+    def __init__(self, program, folder, first, words, size, most):
         super().__init__()
         self.session = subprocess.Popen([program, "run", folder, *words], stdin=subprocess.PIPE, stdout=subprocess.PIPE)
         self.sent = self.answered = first
         self.text = "x" * size
+        self.last = first + most
         self.ending = False
 
     def run(self):
@@ -45,6 +46,10 @@ class Writer(threading.Thread):
         reader.start()
         try:
             while not self.ending:
+                if self.sent == self.last:
+                    self.session.stdin.flush()
+                    threading.Event().wait(0.01)
+                    continue
                 number = self.sent + 1
                 # counted before it is written, so that `sent` is never behind what the program has read
                 self.sent = number
@@ -139,8 +144,7 @@ def trial(program, room, looks, chance):
     done = sessions = 0
     first = 0
     while done < looks:
-        words, size = SESSIONS[sessions % len(SESSIONS)]
-        writer = Writer(program, folder, first, words, size)
+        writer = Writer(program, folder, first, *SESSIONS[sessions % len(SESSIONS)])
         writer.start()
         try:
             for _ in range(min(chance.randint(40, 120), looks - done)):

@@ -9,19 +9,20 @@ use crate::live::LiveFiles;
 use disk_trait::Half;
 use std::alloc::Global;
 
-/// A piece of a half from offset `at` on.
+/// A piece of a half from offset `at` on, of `size` bytes at most.
 fn read_piece<F: LiveFiles>(
     alloc: Global,
     files: &mut F,
     half: Half,
     at: u64,
+    size: usize,
 ) -> Result<Vec<u8>, LookError>
     ensures later { Later (F.watch files.old) (F.watch files.new) }
     ensures piece { IfOk result (λ v. IsHonest (F.watch files.old)
-        → IsPiece (file_at half (F.watch files.old)) at 65536 v.items
+        → IsPiece (file_at half (F.watch files.old)) at size v.items
         (F.watch files.old).now (F.watch files.new).now) }
 {
-    let mut bytes = vec![in alloc; 0u8; PIECE]?;
+    let mut bytes = vec![in alloc; 0u8; size]?;
     let count = files.read(half, at, bytes.as_mut_slice())?;
     bytes.truncate(count);
     Ok(bytes)
@@ -40,7 +41,7 @@ pub(crate) fn read_whole<F: LiveFiles>(
 {
     let mut bytes = Vec::new(alloc);
     'pieces: for _ in 0..u64::MAX {
-        let piece = read_piece(alloc, files, half, bytes.len() as u64)?;
+        let piece = read_piece(alloc, files, half, bytes.len() as u64, PIECE)?;
         bytes.extend_from_slice(piece.as_slice())?;
         if piece.len() < PIECE {
             return Ok(Some(bytes));
