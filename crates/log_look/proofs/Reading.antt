@@ -3,7 +3,7 @@ use Rattle.std.proofs.Common.{◌≡◌, ℕ, ◌+◌, ◌<◌, ◌≤◌, List,
 use Rattle.std.proofs.lemmas.List.{length-append}
 use Rattle.disk_trait.specs.Disk.{Image, file_of}
 use Rattle.disk_trait.specs.declared.half.Half.{Half}
-use Rattle.log_look.specs.Live.{IsHead, IsHonest, IsPiece, IsRead, Later, Watch, file_at}
+use Rattle.log_look.specs.Live.{IsHonest, IsPiece, IsRead, Later, Watch, file_at}
 use Rattle.log_look.specs.Seen.{IsReadToEnd}
 
 -- time goes on in turn

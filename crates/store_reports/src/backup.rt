@@ -1,24 +1,20 @@
 //! A new store with the world of another one.
-ghost use Rattle.std.specs.Prelude.{◌≡◌, ◌-◌, ◌^◌, ◌<◌, true, IfOk, None, Some};
-ghost use Rattle.disk_trait.specs.Disk.{IsDurable, IsHonest};
+ghost use Rattle.std.specs.Prelude.{◌≡◌, ◌-◌, ◌^◌, ◌<◌, IfOk, None, Some};
+ghost use Rattle.disk_trait.specs.Disk.{IsHonest};
 ghost use Rattle.gate_log.specs.Log.{FilesMean};
-ghost use Rattle.prevalence_store.specs.meaning.Files.{MeansWorld};
-ghost use Rattle.snapshot_text.specs.Covered.{are_covered};
-ghost use Rattle.user_macros.specs.Functions.{Functions};
+ghost use Rattle.store_reports.specs.Backup.{HoldsWorld};
 
 use disk_trait::{Disk, HostDisk, HostError, IfMissing};
-use gate_log::{Halves, OpenRefusal, StartError};
-use lisp_object::refusal::{DAMAGED, DEVICE, NO_MEMORY, REOPEN, SNAPSHOT_TOO_LARGE, VERSION};
-use plist_state::{Seed, World};
-use prevalence_store::Store;
-use snapshot_text::write;
+use gate_log::{Halves, OpenRefusal, ReadError, StartError};
+use lisp_object::refusal::{DAMAGED, DEVICE, NO_MEMORY, SNAPSHOT_TOO_LARGE, VERSION};
+use plist_state::World;
 use std::alloc::{AllocError, Global};
 use std::fs::File;
 use std::path::Path;
 use std::rt::Files;
 use std::{fs, io};
 use thiserror::Error;
-use user_macros::MacroFunctions;
+use world_text::write;
 
 /// Why there is no backup.
 #[derive(Debug, Drop, Error)]
@@ -68,6 +64,15 @@ fn number_of(refusal: OpenRefusal) -> u16 {
     }
 }
 
+// The number of a half that was not read.
+fn number_of_read(error: ReadError) -> u16 {
+    match error {
+        ReadError::DeviceFault => DEVICE,
+        ReadError::Damaged => DAMAGED,
+        ReadError::OutOfMemory => NO_MEMORY,
+    }
+}
+
 // The number of a half that was not started.
 fn number_of_start(error: StartError) -> u16 {
     match error {
@@ -77,8 +82,8 @@ fn number_of_start(error: StartError) -> u16 {
     }
 }
 
-/// Begins the log of a disk on which no half is open, with a world as its snapshot, and gives the disk back. Of an honest disk: it then
-/// means this world, to a program that has its functions, and a crash leaves it so.
+/// Begins the log of a disk on which no half is open, with a world as its snapshot, and gives the disk back. Of an honest disk: the
+/// text of this world is what its log holds then, no record follows it, and a crash leaves it so.
 ///
 /// # Errors
 ///
@@ -91,14 +96,9 @@ pub fn backup_onto<D: Disk + Drop>(
     limit: u64,
 ) -> Result<D, BackupError>
     requires { (D.state disk).failures < 2 ^ 64 - 1 }
-    ensures means { IfOk result (λ back. (functions : Functions) → IsHonest (D.state disk)
-        → FilesMean None (D.state disk).reads
-        → are_covered functions.names world.now.0 ≡ true
-        → MeansWorld functions (D.state back).reads world.now.0) }
-    ensures durable { IfOk result (λ back. IsHonest (D.state disk)
-        → FilesMean None (D.state disk).reads → IsDurable (D.state back)) }
+    ensures holds { IfOk result (λ back. IsHonest (D.state disk)
+        → FilesMean None (D.state disk).reads → HoldsWorld world.now.0 (D.state back)) }
 {
-    world.soundness();
     let text = write(alloc, world)?;
     let mut log = match Halves::open(alloc, disk, limit) {
         Ok(log) => log,
@@ -113,35 +113,22 @@ pub fn backup_onto<D: Disk + Drop>(
     }
 }
 
-/// Makes a new store in `dir`, where there may be nothing yet, with the world of an open store as its snapshot. It is made in a folder
-/// beside it, whose name ends in `.partial`, synced, opened again and compared, and then gets its name; so nothing half made is ever
-/// at `dir`. After an error that folder is taken away.
+/// Makes a new store in `dir`, where there may be nothing yet, with a world as its snapshot, in halves of `limit` bytes at most. It is
+/// made in a folder beside it, whose name ends in `.partial`, synced, opened again and compared, and then gets its name; so nothing half
+/// made is ever at `dir`. After an error that folder is taken away.
 ///
 /// # Errors
 ///
 /// `Exists` where something is at `dir`. `Host` with the cause where a call of the system failed. `Refused` with its number. `Differs`
-/// where what was opened again is another world.
-pub fn backup<R, D, M>(
+/// where what was opened again has another text.
+pub fn backup<R: Files<File = File> + AllocGlobal>(
     rt: &R,
-    store: Store<D, M>,
+    world: &World,
     dir: &str,
-    seed: Seed,
     limit: u64,
-) -> Result<(), BackupError>
-where
-    R: Files<File = File> + AllocGlobal,
-    D: Disk + Drop,
-    M: MacroFunctions + Drop,
-    requires answers { M.answers store.macros }
-{
-    let partial = match begin(rt, dir) {
-        Ok(partial) => partial,
-        Err(error) => {
-            let _ = store.close();
-            return Err(error);
-        }
-    };
-    match make_at(rt, store, partial.as_str(), seed, limit) {
+) -> Result<(), BackupError> {
+    let partial = begin(rt, dir)?;
+    match make_at(rt, world, partial.as_str(), limit) {
         Ok(()) => put_in_place(rt, partial.as_str(), dir),
         Err(error) => {
             take_away(rt, partial.as_str());
@@ -163,64 +150,53 @@ fn begin<R: Files<File = File> + AllocGlobal>(rt: &R, dir: &str) -> Result<Strin
     Ok(partial)
 }
 
-// Makes the backup of an open store, and opens it again. The store is closed.
-fn make_at<R, D, M>(
+// Makes a backup, and opens it again.
+fn make_at<R: Files<File = File> + AllocGlobal>(
     rt: &R,
-    store: Store<D, M>,
+    world: &World,
     partial: &str,
-    seed: Seed,
     limit: u64,
-) -> Result<(), BackupError>
-where
-    R: Files<File = File> + AllocGlobal,
-    D: Disk + Drop,
-    M: MacroFunctions + Drop,
-    requires answers { M.answers store.macros }
-{
-    let written = write_at(rt, &store, partial, limit);
-    let (_disk, macros) = store.close();
-    let text = written?;
-    let disk = HostDisk::open_files(rt, partial, IfMissing::Refuse)?;
-    let again = match Store::open_with_seed(rt.alloc(), disk, macros, limit, seed) {
-        Ok(again) => again,
-        Err(unopened) => return Err(BackupError::Refused(unopened.number)),
-    };
-    let found = text_of(rt.alloc(), &again);
-    let _ = again.close();
-    if found? == text {
+) -> Result<(), BackupError> {
+    write_at(rt, world, partial, limit)?;
+    let text = write(rt.alloc(), world)?;
+    if holds_text(rt, partial, text.as_slice(), limit)? {
         Ok(())
     } else {
         Err(BackupError::Differs)
     }
 }
 
-// Writes the world of an open store to new files, which are closed then, and gives its text.
-fn write_at<R, D, M>(
+// Writes a world to new files, which are closed then.
+fn write_at<R: Files<File = File> + AllocGlobal>(
     rt: &R,
-    store: &Store<D, M>,
+    world: &World,
     partial: &str,
     limit: u64,
-) -> Result<Vec<u8>, BackupError>
-where
-    R: Files<File = File> + AllocGlobal,
-    D: Disk,
-{
-    let Some(world) = store.world() else {
-        return Err(BackupError::Refused(REOPEN));
-    };
+) -> Result<(), BackupError> {
     let disk = HostDisk::open_files(rt, partial, IfMissing::Make)?;
     let _disk = backup_onto(rt.alloc(), world, disk, limit)?;
-    let text = write(rt.alloc(), world)?;
-    Ok(text)
+    Ok(())
 }
 
-// The text of the world of an open store.
-fn text_of<D: Disk, M>(alloc: Global, store: &Store<D, M>) -> Result<Vec<u8>, BackupError> {
-    let Some(world) = store.world() else {
-        return Err(BackupError::Refused(REOPEN));
+// Whether the files of a folder hold this text and no record.
+fn holds_text<R: Files<File = File> + AllocGlobal>(
+    rt: &R,
+    dir: &str,
+    text: &[u8],
+    limit: u64,
+) -> Result<bool, BackupError> {
+    let disk = HostDisk::open_files(rt, dir, IfMissing::Refuse)?;
+    let mut log = match Halves::open(rt.alloc(), disk, limit) {
+        Ok(log) => log,
+        Err(error) => return Err(BackupError::Refused(number_of(error.refusal))),
     };
-    let text = write(alloc, world)?;
-    Ok(text)
+    if !log.is_started() || log.record_count() > 0 {
+        return Ok(false);
+    }
+    match log.snapshot_bytes(rt.alloc()) {
+        Ok(found) => Ok(found.as_slice() == text),
+        Err(error) => Err(BackupError::Refused(number_of_read(error))),
+    }
 }
 
 // Gives the folder its name. That it has it then lasts.

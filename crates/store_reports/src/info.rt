@@ -87,19 +87,20 @@ pub fn info(
         Half::A => "A",
         Half::B => "B",
     };
-    let log = format!(
-        in alloc;
+    let log = format!(in alloc;
         "half {letter}\nversion {}\ngeneration {}\nrecords {}\nbytes {}\n",
         half.version, half.generation, half.records, half.bytes
     )?;
     let packages = world.packages().package_names(alloc)?.len();
     let symbols = symbol_count(alloc, world.packages())?;
     let (owners, properties) = property_counts(alloc, world)?;
-    let counts = format!(
-        in alloc;
+    let counts = format!(in alloc;
         "packages {packages}\nsymbols {symbols}\nsymbols-with-properties {owners}\nproperties {properties}\n"
     )?;
-    let sizes = format!(in alloc; "half-a-bytes {}\nhalf-b-bytes {}\n", files.bytes_a, files.bytes_b)?;
+    let sizes = format!(in alloc;
+        "half-a-bytes {}\nhalf-b-bytes {}\n",
+        files.bytes_a, files.bytes_b
+    )?;
     let age_a = age_line(alloc, "half-a", files.age_a)?;
     let age_b = age_line(alloc, "half-b", files.age_b)?;
     format!(in alloc; "{log}{counts}{sizes}{age_a}{age_b}")

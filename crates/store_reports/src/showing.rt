@@ -73,7 +73,14 @@ fn push_list(
     for index in 0..properties.len() {
         let property = properties.at(index);
         if selection.takes_indicator(property.name) {
-            push_property(alloc, text, world.packages(), selection.layout, &symbol, &property)?;
+            push_property(
+                alloc,
+                text,
+                world.packages(),
+                selection.layout,
+                &symbol,
+                &property,
+            )?;
         }
     }
     Ok(())
@@ -102,7 +109,12 @@ fn push_property(
     }
 }
 
-fn push_line(text: &mut Vec<u8>, symbol: &[u8], indicator: &[u8], value: &[u8]) -> Result<(), AllocError> {
+fn push_line(
+    text: &mut Vec<u8>,
+    symbol: &[u8],
+    indicator: &[u8],
+    value: &[u8],
+) -> Result<(), AllocError> {
     push_escaped(text, symbol)?;
     text.push(b' ')?;
     push_escaped(text, indicator)?;
@@ -112,7 +124,12 @@ fn push_line(text: &mut Vec<u8>, symbol: &[u8], indicator: &[u8], value: &[u8]) 
     Ok(())
 }
 
-fn push_form(text: &mut Vec<u8>, symbol: &[u8], indicator: &[u8], value: &[u8]) -> Result<(), AllocError> {
+fn push_form(
+    text: &mut Vec<u8>,
+    symbol: &[u8],
+    indicator: &[u8],
+    value: &[u8],
+) -> Result<(), AllocError> {
     text.extend_from_slice(b"(SETF (GET '")?;
     text.extend_from_slice(symbol)?;
     text.extend_from_slice(b" '")?;
