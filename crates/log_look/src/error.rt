@@ -1,0 +1,82 @@
+//! Why a look was not had, or nothing is told of what was seen.
+ghost use Rattle.std.specs.Prelude.{◌≡◌};
+ghost use Rattle.log_look.specs.declared.error.LookError.TheVariants as looking;
+
+use disk_trait::DeviceFault;
+use gate_log::{OpenRefusal, ReadError};
+use std::alloc::{AllocError, AllocFailed};
+use thiserror::Error;
+
+/// Why a look was not had.
+#[derive(Clone, Copy, Debug, PartialEq, Eq, Error)]
+pub enum LookError {
+    /// There was no memory for the bytes.
+    #[error("out of memory")]
+    OutOfMemory,
+    /// The device failed.
+    #[error("the device failed")]
+    DeviceFault,
+    /// In each try a half was begun anew while it was read.
+    #[error("the store begins halves anew faster than they can be read")]
+    Changing,
+    /// In each try neither half was open, though half B is not empty.
+    #[error("no half is in use")]
+    Shut,
+}
+
+impl From<AllocError> for LookError {
+    ghost from_gives = { λ _ e. e ≡ looking.OutOfMemory };
+
+    fn from(_error: AllocError) -> LookError {
+        LookError::OutOfMemory
+    }
+}
+
+impl<T: Drop> From<AllocFailed<T>> for LookError {
+    ghost from_gives = { λ _ e. e ≡ looking.OutOfMemory };
+
+    fn from(_error: AllocFailed<T>) -> LookError {
+        LookError::OutOfMemory
+    }
+}
+
+impl From<DeviceFault> for LookError {
+    ghost from_gives = { λ _ e. e ≡ looking.DeviceFault };
+
+    fn from(_fault: DeviceFault) -> LookError {
+        LookError::DeviceFault
+    }
+}
+
+/// Why nothing is told of the records of a log.
+#[derive(Clone, Copy, Debug, PartialEq, Eq, Error)]
+pub enum LogError {
+    /// There was no memory.
+    #[error("out of memory")]
+    OutOfMemory,
+    /// There is no record of this number.
+    #[error("the half in use has {records} records")]
+    PastTheEnd {
+        /// How many there are.
+        records: u64,
+    },
+    /// The log was not opened.
+    #[error("{0}")]
+    Refused(OpenRefusal),
+}
+
+impl From<AllocError> for LogError {
+    fn from(_error: AllocError) -> LogError {
+        LogError::OutOfMemory
+    }
+}
+
+impl From<ReadError> for LogError {
+    fn from(error: ReadError) -> LogError {
+        match error {
+            ReadError::OutOfMemory => LogError::OutOfMemory,
+            ReadError::DeviceFault => LogError::Refused(OpenRefusal::DeviceFault),
+            ReadError::Damaged => LogError::Refused(OpenRefusal::Damaged),
+        }
+    }
+}

@@ -1,0 +1,46 @@
+//! A look into the log of a store that somebody else may be writing: read alone, with no lock and no right to write.
+//!
+//! A writer goes on while the two files are read, so that they are never seen at one moment. `look` reads the half in use from its
+//! start to its end, and the headers of both halves before and after. Where the half is still the one in use, and of the same
+//! generation, its bytes hold what it held at one moment in between (`WasMeant` in `specs/Seen.antt`): they were read forward, and the
+//! log writes a record behind its closed gate before it opens that gate. Else it looks again.
+//!
+//! What it rests on: nobody but the log of a store writes the two files (`IsKept` in `specs/Kept.antt`), and a read gives what was
+//! there when it was read (`LiveFiles`).
+//!
+//! # Modules
+//!
+//! - `live`: the trait `LiveFiles`, two files that somebody else may be writing. `host`: `HostFiles`, two of the operating system,
+//!   and `look_into`, a look into the files of a folder.
+//! - `tries`: the look, in tries. `whole` reads a file to its end, and `heads` the headers.
+//! - `sight`: `Sight`, the bytes that were seen, as a disk that takes no write.
+//! - `cut`: a sight with no more than its first records.
+//! - `error`: why a look was not had, or nothing is told of what was seen.
+#![tactic(auto)]
+
+mod cut;
+mod error;
+mod heads;
+mod host;
+mod live;
+mod sight;
+mod tries;
+mod whole;
+
+pub use cut::cut_after;
+pub use error::{LogError, LookError};
+pub use host::{Figures, HostFiles, look_into};
+pub use live::LiveFiles;
+pub use sight::Sight;
+pub use tries::look;
+
+/// The byte of an open gate. Every other byte is a closed one.
+const OPEN: u8 = 0xA5;
+/// The length of a header in bytes.
+const HEADER: usize = 15;
+/// The length of a record's head in bytes.
+const RECORD_HEAD: usize = 6;
+/// How many bytes of a half are read at a time.
+const PIECE: usize = 65_536;
+/// How often a look is tried.
+const TRIES: u32 = 1000;

@@ -1,0 +1,51 @@
+//! A file, read from its start to its end.
+ghost use Rattle.std.specs.Prelude.{◌≡◌, ◌<◌, ◌≤◌, length, IfOk, IfSome};
+ghost use Rattle.log_look.specs.Live.{IsHonest, IsPiece, Later, file_at};
+ghost use Rattle.log_look.specs.Seen.{IsReadToEnd};
+
+use crate::PIECE;
+use crate::error::LookError;
+use crate::live::LiveFiles;
+use disk_trait::Half;
+use std::alloc::Global;
+
+/// A piece of a half from offset `at` on, of `size` bytes at most.
+fn read_piece<F: LiveFiles>(
+    alloc: Global,
+    files: &mut F,
+    half: Half,
+    at: u64,
+    size: usize,
+) -> Result<Vec<u8>, LookError>
+    ensures later { Later (F.watch files.old) (F.watch files.new) }
+    ensures piece { IfOk result (λ v. IsHonest (F.watch files.old)
+        → IsPiece (file_at half (F.watch files.old)) at size v.items
+        (F.watch files.old).now (F.watch files.new).now) }
+{
+    let mut bytes = vec![in alloc; 0u8; size]?;
+    let count = files.read(half, at, bytes.as_mut_slice())?;
+    bytes.truncate(count);
+    Ok(bytes)
+}
+
+/// All bytes of a half, in pieces one after the other. `None` where no end was found.
+pub(crate) fn read_whole<F: LiveFiles>(
+    alloc: Global,
+    files: &mut F,
+    half: Half,
+) -> Result<Option<Vec<u8>>, LookError>
+    ensures later { Later (F.watch files.old) (F.watch files.new) }
+    ensures whole { IfOk result (λ found. IfSome found (λ v. IsHonest (F.watch files.old)
+        → IsReadToEnd (file_at half (F.watch files.old)) v.items
+        (F.watch files.old).now (F.watch files.new).now)) }
+{
+    let mut bytes = Vec::new(alloc);
+    'pieces: for _ in 0..u64::MAX {
+        let piece = read_piece(alloc, files, half, bytes.len() as u64, PIECE)?;
+        bytes.extend_from_slice(piece.as_slice())?;
+        if piece.len() < PIECE {
+            return Ok(Some(bytes));
+        }
+    }
+    Ok(None)
+}
