@@ -96,7 +96,7 @@ fn answers_of_two(alloc: Global, input: &[u8]) -> Result<(Vec<u8>, Vec<u8>), Tro
 
 const INPUT: &[u8] = b"(SETF (GET 'A 'B) 7) (GET 'A 'B)\n(CAR 'A) (SETF (GET 'A 'B) 8))";
 
-const ANSWERS: &[u8] = b"7\n7\n! 31 unknown-operator\n8\n! 4 stray-close\n";
+const ANSWERS: &[u8] = b"7\n7\n! 31 UNKNOWN-OPERATOR\n8\n! 4 STRAY-CLOSE\n";
 
 #[test]
 fn replicas_agree(rt: HostRuntime) -> Result<(), Fail> {
