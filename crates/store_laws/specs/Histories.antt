@@ -1,5 +1,5 @@
 -- Whatever may happen to a store and to the disk under it, one after the other in any order; and what follows from it.
-use Rattle.std.specs.Prelude.{◌≡◌, ℕ, ◌+◌, List, [], ◌∷◌, ◌++◌, length, take, Bool, Option, None, Some}
+use Rattle.std.specs.Prelude.{◌≡◌, ℕ, ◌+◌, ◌≤◌, List, [], ◌∷◌, ◌++◌, length, take, Bool, Option, None, Some}
 use Rattle.disk_trait.specs.Disk.{State, IsHonest, Throughout}
 use Rattle.gate_log.specs.Layout.{LogRecord}
 use Rattle.plist_state.specs.State.{WorldState}
@@ -24,6 +24,23 @@ pub data Event (D : Type 0) : Type 0 where
   -- a stop within an opening, which would have left the first of these disks, refused or not
   stopped_in_opening : D → D → Event D
 
+-- the disk that is there then, and the world of the open store: none is open after a device fault, a stop or a refused opening
+abbrev pub disk_by : {D : Type 0} → Event D → D
+disk_by (opened now world) = now
+disk_by (refused limit fault back) = back
+disk_by (called call) = call.disk
+disk_by (stopped now) = now
+disk_by (stopped_in_call call now) = now
+disk_by (stopped_in_opening there now) = now
+
+abbrev pub left_by : {D : Type 0} → Event D → Option WorldState
+left_by (opened now world) = Some world
+left_by (refused limit fault back) = None
+left_by (called call) = call.left
+left_by (stopped now) = None
+left_by (stopped_in_call call now) = None
+left_by (stopped_in_opening there now) = None
+
 -- ---- what has to be true of events
 
 -- The stop came at some moment between these two disks, and left an honest one: what a crash leaves of it, a crash might have left
@@ -38,7 +55,7 @@ module _ (functions : Functions) {D : Type 0} (state : D → State) where
   IsCall disk None call = ⊥
   IsCall disk (Some world) call = Survives functions (state disk) (state call.disk) world call.taken call.acknowledged call.left
 
-  -- An opening of this disk gave the other one, with this world.
+  -- an opening of this disk gave the other one, with this world
   pub record IsOpening (disk now : D) (world : WorldState) : Type 0 where
     pub reopens : Reopens functions (state disk) (state now) world
     pub honest : (state now).honest ≡ (state disk).honest
@@ -50,17 +67,23 @@ module _ (functions : Functions) {D : Type 0} (state : D → State) where
     pub unopened : IsUnopened functions state disk whole limit number back
     pub fault_is : unopened.fault ≡ fault
 
-  -- Each of these happened where the one before it ended: from this disk on, with this world in an open store, or with none.
-  -- After a device fault, a stop and a refused opening no store is open.
+  -- at each moment of an opening of this disk a crash leaves what some image meant before it, whether it is refused or not
+  abbrev pub IsOpenedOrNot : D → D → Type 0
+  IsOpenedOrNot disk there = Throughout (state disk) (state there) (MeansAsBefore functions (state disk))
+
+  -- this happened to a disk, where an open store had this world or none was open
+  abbrev pub Happens : D → Option WorldState → Event D → Type 0
+  Happens disk left (opened now world) = IsOpening disk now world
+  Happens disk left (refused limit fault back) = IsRefusal disk limit fault back
+  Happens disk left (called call) = IsCall disk left call
+  Happens disk left (stopped now) = IsStop state disk disk now
+  Happens disk left (stopped_in_call call now) = IsCall disk left call × IsStop state disk call.disk now
+  Happens disk left (stopped_in_opening there now) = IsOpenedOrNot disk there × IsStop state disk there now
+
+  -- each of these happened where the one before it ended
   abbrev pub Happened : D → Option WorldState → List (Event D) → Type 0
   Happened disk left [] = Unit {0}
-  Happened disk left (opened now world ∷ events) = IsOpening disk now world × Happened now (Some world) events
-  Happened disk left (refused limit fault back ∷ events) = IsRefusal disk limit fault back × Happened back None events
-  Happened disk left (called call ∷ events) = IsCall disk left call × Happened call.disk call.left events
-  Happened disk left (stopped now ∷ events) = IsStop state disk disk now × Happened now None events
-  Happened disk left (stopped_in_call call now ∷ events) = IsCall disk left call × IsStop state disk call.disk now × Happened now None events
-  Happened disk left (stopped_in_opening there now ∷ events) =
-      Throughout (state disk) (state there) (MeansAsBefore functions (state disk)) × IsStop state disk there now × Happened now None events
+  Happened disk left (event ∷ events) = Happens disk left event × Happened (disk_by event) (left_by event) events
 
 -- ---- what follows from them
 
@@ -88,3 +111,19 @@ module _ (functions : Functions) {D : Type 0} (state : D → State) (first : Wor
   Follows line sure disk left (stopped now ∷ events) = Follows line sure now None events
   Follows line sure disk left (stopped_in_call call now ∷ events) = Follows (line ++ call.taken) (length line) now None events
   Follows line sure disk left (stopped_in_opening there now ∷ events) = Follows line sure now None events
+
+  -- How it stands after these events, whichever they were: what was sure is still there, at the front of the line.
+  pub record StillStands (line : List LogRecord) (sure : ℕ) (disk : D) (left : Option WorldState) : Type 0 where
+    pub more : List LogRecord
+    pub now_sure : ℕ
+    pub no_less : sure ≤ now_sure
+    pub stands : Stands (take sure line ++ more) now_sure disk left
+
+-- the disk and the world of the open store after events
+abbrev pub last_disk : {D : Type 0} → D → List (Event D) → D
+last_disk disk [] = disk
+last_disk disk (event ∷ events) = last_disk (disk_by event) events
+
+abbrev pub last_left : {D : Type 0} → Option WorldState → List (Event D) → Option WorldState
+last_left left [] = left
+last_left left (event ∷ events) = last_left (left_by event) events

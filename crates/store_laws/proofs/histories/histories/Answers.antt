@@ -1,20 +1,32 @@
+use Rattle.std.proofs.Common.{[], None}
 use Rattle.plist_state.specs.State.{initial}
-use Rattle.store_laws.proofs.Histories.{begins, follow}
+use Rattle.store_laws.proofs.Histories.{begins, follow, in_call, in_opening, still}
 use Rattle.store_laws.proofs.histories.histories.Goals as goal
 
-pub returns-clause-of_files : goal.returns-clause-of_files
-returns-clause-of_files g c = λ functions start first events honest keeps happened.
+pub returns-clause-goes_on : goal.returns-clause-goes_on
+returns-clause-goes_on g c = λ functions first line sure disk left events stands happened.
     let state = g.D.Disk.state in
     let law = c.recoveries.ensures in
     let opens = λ begun now world line sure still some again. (law.opened functions begun now first world line sure still some again).0 in
     let refuses = λ begun back whole line sure limit number still some unopened.
     let all = law.refused functions begun back whole first line sure limit number still some unopened in
-    (all.0, all.1, all.3) in
-    let further = λ disk world line more sure fewer given some. law.further functions disk first world line more sure fewer given some in
-    let no_forms = λ disk world kept. (law.no_forms functions disk world).0 kept in
-    follow functions state g.met.D.Disk.sound first opens refuses further no_forms events [] 0 start _
-    (begins functions state g.met.D.Disk.sound first opens refuses further no_forms start honest keeps) happened
+    (all.0, all.1, all.3) in (
+      follow functions state g.met.D.Disk.sound first opens refuses events line sure disk left stands happened,
+      still functions state g.met.D.Disk.sound first opens refuses events line sure disk left stands happened,
+    )
+
+pub returns-clause-of_files : goal.returns-clause-of_files
+returns-clause-of_files g c = λ functions start first events honest keeps happened.
+    (returns-clause-goes_on g c functions first [] 0 start None events (begins functions g.D.Disk.state first start honest keeps) happened).0
 
 pub returns-clause-of_fresh_files : goal.returns-clause-of_fresh_files
 returns-clause-of_fresh_files g c = λ functions start events fresh happened.
     returns-clause-of_files g c functions start initial events fresh.honest (c.fresh_files.ensures functions start fresh) happened
+
+pub returns-clause-in_call : goal.returns-clause-in_call
+returns-clause-in_call g c = λ functions first line sure disk left call stands is image might.
+    in_call functions g.D.Disk.state first line sure disk left call stands is image might
+
+pub returns-clause-in_opening : goal.returns-clause-in_opening
+returns-clause-in_opening g c = λ functions first line sure disk there left stands is image might.
+    in_opening functions g.D.Disk.state first line sure disk left there stands is image might
