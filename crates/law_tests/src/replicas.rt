@@ -1,6 +1,7 @@
 //! Two stores that are handed the same input.
-ghost use Rattle.std.specs.Prelude.{◌≡◌, IfOk, IfSome, Some, true};
+ghost use Rattle.std.specs.Prelude.{◌≡◌, IfOk, IfSome, IsTrue, Some, true};
 ghost use Rattle.plist_state.specs.State.{WorldState};
+ghost use Rattle.store_laws.specs.Outcomes.{IsByInput};
 ghost use Rattle.user_macros.specs.Functions.{are_registered, no_functions};
 
 use crate::disks::{AMPLE, Trouble, trouble_of};
@@ -12,7 +13,9 @@ use store_laws::one_outcome;
 use user_macros::{MacroFunctions, Macros, NoFunctions};
 
 /// Whether a session came to the end of its input.
-fn is_complete(ended: Ended) -> bool {
+fn is_complete(ended: Ended) -> bool
+    ensures { IsTrue result → IsByInput ended }
+{
     matches!(ended, Ended::End | Ended::Unreadable(_, _))
 }
 

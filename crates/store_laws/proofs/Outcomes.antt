@@ -4,6 +4,7 @@ use Rattle.std.specs.Option.{option_and_then, option_map}
 use Rattle.std.proofs.lemmas.Bool.{cases_eq, cases_lt, cases_order}
 use Rattle.disk_trait.specs.Disk.{State}
 use Rattle.gate_log.specs.Layout.{LogRecord}
+use Rattle.lisp_object.specs.declared.refusal.TheConstants.{OUTPUT}
 use Rattle.lisp_reading.specs.Reading.{Outcome as Reading, form, empty, refused}
 use Rattle.plist_state.specs.State.{WorldState}
 use Rattle.prevalence_store.specs.declared.mode.Mode.{Mode}
@@ -14,7 +15,7 @@ use Rattle.prevalence_store.specs.declared.outcome.Place.{Place}
 use Rattle.prevalence_store.specs.declared.outcome.Wanted.{Wanted}
 use Rattle.prevalence_store.specs.meaning.Acceptance.{read_in}
 use Rattle.prevalence_store.specs.meaning.Answers.{Progress, after_forms, last_line, one_form, one_form_more, onward}
-use Rattle.prevalence_store.specs.calls.Serve.{Ends, HasRead, IsAfter, Serves, ServesInput, ServesWanted, StaysRefused}
+use Rattle.prevalence_store.specs.calls.Serve.{Ends, HasRead, IsAfter, IsUnwritten, Serves, ServesInput, ServesWanted, StaysRefused}
 use Rattle.prevalence_store.specs.calls.Store.{StoreView}
 use Rattle.prevalence_store.specs.calls.Streams.{Writes}
 use Rattle.store_laws.specs.Outcomes.{BreaksOff, Completes, HasForms, IsByInput, IsEndBy, answers}
@@ -194,12 +195,6 @@ module _ (functions : Functions) {D R : Type 0} (state : D → State) (old new :
 
   -- ---- a session that was cut short
 
-  -- of the answers to the forms that were taken this was written, and the store has the world after them, or none
-  pub record IsCut (mode : Mode) (far answered : Progress) (part : List ℕ) : Type 0 where
-    pub unwritten : List ℕ
-    pub front : answers functions mode far ≡ (answered.lines ++ part) ++ unwritten
-    pub left : (now : WorldState) → new.world ≡ Some now → now ≡ far.world
-
   known : (far : Progress) → IsAfter functions state old new w far → (now : WorldState) → new.world ≡ Some now → now ≡ far.world
   known far after_it now is = let left = after_it.left in cc
 
@@ -207,49 +202,103 @@ module _ (functions : Functions) {D R : Type 0} (state : D → State) (old new :
   unknown far none now is = absurd (cc)
 
   module _ (mode : Mode) (text : List ℕ) (held written : Option (List ℕ)) (group : Bool) (number : ℕ) (served : Serves functions state old new w mode text held written group (ending.Store number)) where
-    -- no part of a line was written
-    cut_between : served.part ≡ [] → ((now : WorldState) → new.world ≡ Some now → now ≡ served.far.world) → IsCut mode served.far served.answered served.part
-    cut_between no_part left =
+    abbrev bytes : List ℕ
+    bytes = served.answered.lines ++ served.part
+
+    -- what was written is the front of the lines of the forms that were taken; or the output failed in the line of a refusal of the
+    -- reader after them
+    abbrev IsWithin : Type 0
+    IsWithin = (rest : List ℕ) × (served.far.lines ≡ bytes ++ rest)
+
+    pub record IsInLast : Type 0 where
+      pub output : number ≡ OUTPUT
+      pub all : served.lines ≡ served.forms
+      pub rest : List ℕ
+      pub front : answers functions mode served.far ≡ bytes ++ rest
+
+    -- and the store has the world after them, or none
+    pub record IsCut : Type 0 where
+      pub front : IsWithin ⊎ IsInLast
+      pub left : (now : WorldState) → new.world ≡ Some now → now ≡ served.far.world
+
+    between : served.part ≡ [] → IsWithin
+    between no_part =
         let grown = fewer_first functions w mode text served.lines served.forms served.answered served.far served.at_most served.answered_is served.far_is in
-        let last = last_line (read_in functions served.far.world mode served.far.rest) in
-        let whole : served.answered.lines ++ served.part ≡ served.answered.lines = ap (λ l. served.answered.lines ++ l) no_part ∙ append-nil served.answered.lines in
-        record {
-          unwritten = grown.lines ++ last;
-          front = ap (λ l. l ++ last) grown.lines_are ∙ append_assoc served.answered.lines grown.lines last ∙ ap (λ l. l ++ (grown.lines ++ last)) (sym whole);
-          left = left;
-        }
+        let whole : bytes ≡ served.answered.lines = ap (λ l. served.answered.lines ++ l) no_part ∙ append-nil served.answered.lines in
+        (grown.lines, grown.lines_are ∙ ap (λ l. l ++ grown.lines) (sym whole))
 
-    cut : Ends functions state old new w mode text held written served.forms served.far served.lines served.answered served.part group (ending.Store number) → IsCut mode served.far served.answered served.part
-    cut (inl is) = cut_between is.no_part (unknown served.far is.failed.unknown)
-    cut (inr (inl is)) = cut_between is.no_part (unknown served.far is.failed.unknown)
-    cut (inr (inr (inl is))) = cut_between is.no_part (known served.far is.after)
-    cut (inr (inr (inr (inl is)))) = cut_between is.no_part (known served.far is.after)
-    cut (inr (inr (inr (inr (inl is))))) = cut_between is.no_part (known served.far is.after)
-    cut (inr (inr (inr (inr (inr (inl is)))))) = record {
-      unwritten = is.unwritten;
-      front = is.front ∙ sym (append_assoc served.answered.lines served.part is.unwritten);
-      left = known served.far is.after;
-    }
-    cut (inr (inr (inr (inr (inr (inr is)))))) = cut_between is.no_part (known served.far is.after)
+    in_a_form : (next : Progress) → after_forms functions (served.lines + 1) w mode text ≡ Some next → served.lines < served.forms → (rest : List ℕ) → next.lines ≡ served.answered.lines ++ served.part ++ rest
+        → IsWithin
+    in_a_form next next_is fewer rest parts =
+        let grown = fewer_first functions w mode text (served.lines + 1) served.forms next served.far (omega arith) next_is served.far_is in
+        (rest ++ grown.lines, grown.lines_are ∙ ap (λ l. l ++ grown.lines) (parts ∙ sym (append_assoc served.answered.lines served.part rest)) ∙ append_assoc bytes rest grown.lines)
 
-    pub cut_short : (forms : ℕ) (far : Progress) → HasForms functions w mode text forms far → BreaksOff functions state old new w mode text held written far forms
-    cut_short forms far all =
-        let some = cut served.ends in
-        let among = at_most functions w mode text forms served.forms far served.far all served.far_is in
-        let grown = fewer_first functions w mode text served.forms forms served.far far among served.far_is all.far_is in
-        let others = answers_first functions w mode text forms served.forms far served.far all served.far_is in record {
-          taken = served.forms;
-          among = among;
-          so_far = served.far;
-          so_far_is = served.far_is;
-          bytes = served.answered.lines ++ served.part;
-          unwritten = some.unwritten ++ others.0;
-          front = others.1 ∙ ap (λ l. l ++ others.0) some.front ∙ append_assoc (served.answered.lines ++ served.part) some.unwritten others.0;
-          output = served.output;
-          records_left = grown.records_;
-          records_are = grown.records_are;
-          left = some.left;
-        }
+    unwritten : IsUnwritten functions state old new w mode text held written served.forms served.far served.lines served.answered served.part number → IsWithin ⊎ IsInLast
+    unwritten is = elim (cases_eq served.lines served.forms) [
+      | inl same ↦ inr (record { output = is.output; all = same; rest = is.unwritten; front = is.front ∙ sym (append_assoc served.answered.lines served.part is.unwritten) })
+      | inr other ↦
+          let fewer : served.lines < served.forms = omega (arith, served.at_most) in
+          let form = is.in_form fewer in
+          inl (in_a_form form.0 form.1 fewer form.2.0 form.2.2)
+    ]
+
+    cut : Ends functions state old new w mode text held written served.forms served.far served.lines served.answered served.part group (ending.Store number) → IsCut
+    cut (inl is) = record { front = inl (between is.no_part); left = unknown served.far is.failed.unknown }
+    cut (inr (inl is)) = record { front = inl (between is.no_part); left = unknown served.far is.failed.unknown }
+    cut (inr (inr (inl is))) = record { front = inl (between is.no_part); left = known served.far is.after }
+    cut (inr (inr (inr (inl is)))) = record { front = inl (between is.no_part); left = known served.far is.after }
+    cut (inr (inr (inr (inr (inl is))))) = record { front = inl (between is.no_part); left = known served.far is.after }
+    cut (inr (inr (inr (inr (inr (inl is)))))) = record { front = unwritten is; left = known served.far is.after }
+    cut (inr (inr (inr (inr (inr (inr is)))))) = record { front = inl (between is.no_part); left = known served.far is.after }
+
+    -- of an input that goes on after what was read, and of which the forms that were taken are the first ones
+    pub cut_short : (left : List ℕ) → after_forms functions served.forms w mode (text ++ left) ≡ Some (record served.far { rest = served.far.rest ++ left })
+        → (number ≡ OUTPUT → served.lines ≡ served.forms → (left ≡ []) ⊎ ((refusal : ℕ) × StaysRefused functions w mode text served.forms served.far refusal))
+        → (forms : ℕ) (far : Progress) → HasForms functions w mode (text ++ left) forms far → BreaksOff functions state old new w mode (text ++ left) held written far forms
+    cut_short left taken last forms far all = record {
+      taken = served.forms;
+      among = among;
+      so_far = so_far;
+      so_far_is = taken;
+      bytes = bytes;
+      unwritten = (front some.front).0;
+      front = (front some.front).1;
+      output = served.output;
+      records_left = grown.records_;
+      records_are = grown.records_are;
+      left = some.left;
+    } where
+      some : IsCut
+      some = cut served.ends
+
+      so_far : Progress
+      so_far = record served.far { rest = served.far.rest ++ left }
+
+      among : served.forms ≤ forms
+      among = at_most functions w mode (text ++ left) forms served.forms far so_far all taken
+
+      grown : IsFrontOf functions w mode so_far far
+      grown = fewer_first functions w mode (text ++ left) served.forms forms so_far far among taken all.far_is
+
+      -- the reader refuses what is left in the same way
+      same_last : (left ≡ []) ⊎ ((refusal : ℕ) × StaysRefused functions w mode text served.forms served.far refusal)
+          → last_line (read_in functions served.far.world mode served.far.rest) ≡ last_line (read_in functions served.far.world mode (served.far.rest ++ left))
+      same_last (inl none) = ap (λ l. last_line (read_in functions served.far.world mode l)) (sym (ap (λ l. served.far.rest ++ l) none ∙ append-nil served.far.rest))
+      same_last (inr stays) =
+          let here = (stays.1 []).1 in
+          let there = (stays.1 left).1 in
+          ap last_line (subst (λ l. read_in functions served.far.world mode l ≡ refused stays.0 here.0) (append-nil served.far.rest) here.1) ∙ ap last_line (sym there.1)
+
+      front : IsWithin ⊎ IsInLast → (rest : List ℕ) × (answers functions mode far ≡ bytes ++ rest)
+      front (inl (rest, is)) =
+          let last_one = last_line (read_in functions far.world mode far.rest) in (
+            (rest ++ grown.lines) ++ last_one,
+            ap (λ l. l ++ last_one) (grown.lines_are ∙ ap (λ l. l ++ grown.lines) is ∙ append_assoc bytes rest grown.lines) ∙ append_assoc bytes (rest ++ grown.lines) last_one,
+          )
+      front (inr is) =
+          let others = answers_first functions w mode (text ++ left) forms served.forms far so_far all taken in
+          let same = ap (λ l. served.far.lines ++ l) (sym (same_last (last is.output is.all))) ∙ is.front in
+          (is.rest ++ others.0, others.1 ∙ ap (λ l. l ++ others.0) same ∙ append_assoc bytes is.rest others.0)
 
   none_left : (left : List ℕ) → ◌≡◌ {A = Option (List ℕ)} (Some []) (Some left) → left ≡ []
   none_left left is = cc
@@ -260,10 +309,13 @@ module _ (functions : Functions) {D R : Type 0} (state : D → State) (old new :
       let over = wants.0 in
       let read = over.reads input refl in
       let none : read.0 ≡ [] = none_left read.0 read.2.1 in
-      let same = all_read input over.text read.0 read.1 none in
-      subst (λ text. BreaksOff functions state old new w wanted.mode text held written far forms) same
-      (cut_short wanted.mode over.text held written wanted.group number over.serves forms far
-      (subst (λ text. HasForms functions w wanted.mode text forms far) (sym same) all))
+      let served = over.serves in
+      let far_is : after_forms functions served.forms w wanted.mode (over.text ++ read.0) ≡ Some (record served.far { rest = served.far.rest ++ read.0 }) =
+      subst (λ l. after_forms functions served.forms w wanted.mode (over.text ++ l) ≡ Some (record served.far { rest = served.far.rest ++ l })) (sym none)
+      (ap (after_forms functions served.forms w wanted.mode) (append-nil over.text) ∙ served.far_is ∙ ap (λ l. Some (record served.far { rest = l })) (sym (append-nil served.far.rest))) in
+      subst (λ text. BreaksOff functions state old new w wanted.mode text held written far forms) (sym read.1)
+      (cut_short wanted.mode over.text held written wanted.group number served read.0 far_is read.2.0 forms far
+      (subst (λ text. HasForms functions w wanted.mode text forms far) read.1 all))
 
 -- two sessions that came to the end of the same input
 pub both_complete : (functions : Functions) {D R E S : Type 0} (state : D → State) (other_state : E → State) (old new : StoreView D R) (before later : StoreView E S) (w : WorldState) (mode other_mode : Mode)
