@@ -1,7 +1,7 @@
 -- An input has one outcome, and a session that is cut short writes a front of it.
-use Rattle.std.proofs.Common.{◌≡◌, ◌≢◌, ◌⊎◌, ℕ, zero, suc, ◌+◌, ◌<◌, ◌≤◌, Bool, List, [], ◌++◌, Option, None, Some, inl, inr, refl, sym, ap, subst, ◌∙◌, arith, append-nil, append_assoc}
+use Rattle.std.proofs.Common.{◌≡◌, ◌⊎◌, ℕ, zero, suc, ◌+◌, ◌<◌, ◌≤◌, Bool, List, [], ◌++◌, Option, None, Some, inl, inr, refl, sym, ap, subst, ◌∙◌, arith, append-nil, append_assoc}
 use Rattle.std.specs.Option.{option_and_then, option_map}
-use Rattle.std.proofs.lemmas.Bool.{cases_eq, cases_lt, cases_order}
+use Rattle.std.proofs.lemmas.Bool.{cases_eq, cases_lt}
 use Rattle.disk_trait.specs.Disk.{State}
 use Rattle.gate_log.specs.Layout.{LogRecord}
 use Rattle.lisp_object.specs.declared.refusal.TheConstants.{OUTPUT}
@@ -83,15 +83,16 @@ module _ (functions : Functions) (world : WorldState) (mode : Mode) where
     records_are = second.records_are ∙ ap (λ l. l ++ second.records_) first.records_are ∙ append_assoc p.taken first.records_ second.records_;
   }
 
+  by_last : (p q : Progress) (before : Option Progress) → ((r : Progress) → before ≡ Some r → IsFrontOf p r) → option_and_then (one_form_more functions mode) before ≡ Some q → IsFrontOf p q
+  by_last p q (Some r) earlier made = front_both p r q (earlier r refl) (one_form_made r q _ made)
+  by_last p q None earlier made = absurd (cc)
+
   pub fewer_first : (text : List ℕ) (n m : ℕ) (p q : Progress) → n ≤ m → after n text ≡ Some p → after m text ≡ Some q → IsFrontOf p q
   fewer_first text n zero p q le few many = let none : n ≡ 0 = omega arith in let here : after 0 text ≡ Some p = subst (λ k. after k text ≡ Some p) none few in front_same p q (cc)
   fewer_first text n (suc m) p q le few many = elim (cases_eq n (suc m)) [
     | inl same ↦ let here : after (suc m) text ≡ Some p = subst (λ k. after k text ≡ Some p) same few in front_same p q (cc)
-    | inr other ↦ by_last (after m text) refl many
-  ] where
-    by_last : (before : Option Progress) → after m text ≡ before → option_and_then (one_form_more functions mode) before ≡ Some q → IsFrontOf p q
-    by_last (Some r) is made = front_both p r q (fewer_first text n m p r (omega arith) few is) (one_form_made r q _ made)
-    by_last None is made = absurd (cc)
+    | inr other ↦ by_last p q (after m text) (λ r is. fewer_first text n m p r (omega arith) few is) many
+  ]
 
   -- the answers to fewer forms, and to what the reader refuses after them
   answers_first : (text : List ℕ) (n m : ℕ) (far p : Progress) → HasForms functions world mode text n far → after m text ≡ Some p
@@ -231,11 +232,11 @@ module _ (functions : Functions) {D R : Type 0} (state : D → State) (old new :
         → IsWithin
     in_a_form next next_is fewer rest parts =
         let grown = fewer_first functions w mode text (served.lines + 1) served.forms next served.far (omega arith) next_is served.far_is in
-        (rest ++ grown.lines, grown.lines_are ∙ ap (λ l. l ++ grown.lines) (parts ∙ sym (append_assoc served.answered.lines served.part rest)) ∙ append_assoc bytes rest grown.lines)
+        (rest ++ grown.lines, grown.lines_are ∙ ap (λ l. l ++ grown.lines) parts ∙ append_assoc bytes rest grown.lines)
 
     unwritten : IsUnwritten functions state old new w mode text held written served.forms served.far served.lines served.answered served.part number → IsWithin ⊎ IsInLast
     unwritten is = elim (cases_eq served.lines served.forms) [
-      | inl same ↦ inr (record { output = is.output; all = same; rest = is.unwritten; front = is.front ∙ sym (append_assoc served.answered.lines served.part is.unwritten) })
+      | inl same ↦ inr (record { output = is.output; all = same; rest = is.unwritten; front = is.front })
       | inr other ↦
           let fewer : served.lines < served.forms = omega (arith, served.at_most) in
           let form = is.in_form fewer in

@@ -10,13 +10,13 @@
 //! - `groups_change_nothing`: so a session with groups gives what one without them gives
 //! - `version_1_opens`: a store that is opened on files of version 1 has the world that they meant to version 1
 //!
-//! The lemmas in `proofs` are of this crate alone: `Histories`, `Outcomes`.
+//! The lemmas in `proofs` are of this crate alone: `Events`, `Outcomes`.
 #![tactic(auto)]
 
-mod histories;
-mod one_outcome;
+mod history;
+mod outcome;
 mod version_1;
 
-pub use histories::histories;
-pub use one_outcome::{groups_change_nothing, one_outcome};
+pub use history::histories;
+pub use outcome::{groups_change_nothing, one_outcome};
 pub use version_1::version_1_opens;

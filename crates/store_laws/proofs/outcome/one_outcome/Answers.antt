@@ -1,6 +1,5 @@
-use Rattle.std.proofs.Common.{Some}
 use Rattle.store_laws.proofs.Outcomes.{both_complete, completed, front_of_all, one_count}
-use Rattle.store_laws.proofs.one_outcome.one_outcome.Goals as goal
+use Rattle.store_laws.proofs.outcome.one_outcome.Goals as goal
 
 pub returns-clause-one_count : goal.returns-clause-one_count
 returns-clause-one_count g c = λ functions world mode input forms others far other all all_others.

@@ -1,19 +1,16 @@
 use Rattle.std.proofs.Common.{[], None}
 use Rattle.plist_state.specs.State.{initial}
-use Rattle.store_laws.proofs.Histories.{begins, follow, in_call, in_opening, still}
-use Rattle.store_laws.proofs.histories.histories.Goals as goal
+use Rattle.store_laws.proofs.Events.{begins, both, in_call, in_opening}
+use Rattle.store_laws.proofs.history.histories.Goals as goal
 
 pub returns-clause-goes_on : goal.returns-clause-goes_on
 returns-clause-goes_on g c = λ functions first line sure disk left events stands happened.
-    let state = g.D.Disk.state in
     let law = c.recoveries.ensures in
-    let opens = λ begun now world line sure still some again. (law.opened functions begun now first world line sure still some again).0 in
-    let refuses = λ begun back whole line sure limit number still some unopened.
-    let all = law.refused functions begun back whole first line sure limit number still some unopened in
-    (all.0, all.1, all.3) in (
-      follow functions state g.met.D.Disk.sound first opens refuses events line sure disk left stands happened,
-      still functions state g.met.D.Disk.sound first opens refuses events line sure disk left stands happened,
-    )
+    both functions g.D.Disk.state g.met.D.Disk.sound first (λ start now world forms least honest some again. (law.opened functions start now first world forms least honest some again).0)
+    (λ start back whole forms least limit number honest some unopened.
+    let all = law.refused functions start back whole first forms least limit number honest some unopened in
+    (all.0, all.1, all.3))
+    events line sure disk left stands happened
 
 pub returns-clause-of_files : goal.returns-clause-of_files
 returns-clause-of_files g c = λ functions start first events honest keeps happened.

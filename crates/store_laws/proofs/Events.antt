@@ -7,7 +7,7 @@ use Rattle.plist_state.specs.State.{WorldState}
 use Rattle.prevalence_store.specs.meaning.Acceptance.{Acceptance, accepts, after, mode_of}
 use Rattle.prevalence_store.specs.calls.Open.{IsNoWord, IsUnopened, limit_of}
 use Rattle.prevalence_store.specs.Theorem.{Call, IsAfterSome, Keeps, KeepsSome, MeansSome, Reopens, Survives}
-use Rattle.store_laws.specs.Histories.{Event, StillStands, last_disk, last_left, opened, refused, called, stopped, stopped_in_call, stopped_in_opening, Follows, Happened, IsCall, IsOpenedOrNot, IsOpening, IsRefusal, IsStop, Stands}
+use Rattle.store_laws.specs.Histories.{Event, StillStands, last_disk, last_left, opened, refused, called, stopped, stopped_in_call, stopped_in_opening, Follows, Happened, IsCall, IsOpenedOrNot, IsStop, Stands}
 use Rattle.user_macros.specs.Functions.{Functions}
 
 module _ (functions : Functions) where
@@ -136,7 +136,7 @@ module _ (functions : Functions) where
 
     -- ---- all of them
 
-    pub follow : (events : List (Event D)) (line : List LogRecord) (sure : ℕ) (disk : D) (left : Option WorldState) → Stands functions state first line sure disk left
+    follow : (events : List (Event D)) (line : List LogRecord) (sure : ℕ) (disk : D) (left : Option WorldState) → Stands functions state first line sure disk left
         → Happened functions state disk left events → Follows functions state first line sure disk left events
     follow [] line sure disk left stands happened = stands
     follow (opened now world ∷ events) line sure disk left stands happened =
@@ -183,7 +183,7 @@ module _ (functions : Functions) where
         let some = stands.keeps (state disk).reads (sound disk stands.honest).reads_stay in
         omega (arith, some.enough, some.among)
 
-    pub still : (events : List (Event D)) (line : List LogRecord) (sure : ℕ) (disk : D) (left : Option WorldState) → Stands functions state first line sure disk left
+    still : (events : List (Event D)) (line : List LogRecord) (sure : ℕ) (disk : D) (left : Option WorldState) → Stands functions state first line sure disk left
         → Happened functions state disk left events → StillStands functions state first line sure (last_disk disk events) (last_left left events)
     still [] line sure disk left stands happened = record {
       more = drop sure line;
@@ -213,6 +213,10 @@ module _ (functions : Functions) where
         (still events (line ++ call.taken) (length line) now None (stands_stopped_in_call line sure disk left call now stands happened.0.0 happened.0.1) happened.1)
     still (stopped_in_opening there now ∷ events) line sure disk left stands happened =
         still events line sure now None (stands_stopped_in_opening line sure disk left there now stands happened.0.0 happened.0.1) happened.1
+
+    pub both : (events : List (Event D)) (line : List LogRecord) (sure : ℕ) (disk : D) (left : Option WorldState) → Stands functions state first line sure disk left → Happened functions state disk left events
+        → Follows functions state first line sure disk left events × StillStands functions state first line sure (last_disk disk events) (last_left left events)
+    both events line sure disk left stands happened = (follow events line sure disk left stands happened, still events line sure disk left stands happened)
 
   -- from files that mean the first world
   pub begins : {D : Type 0} (state : D → State) (first : WorldState) (start : D) → IsHonest (state start) → Keeps functions (state start) first → Stands functions state first [] 0 start None
