@@ -12,8 +12,6 @@ pub enum Trouble {
     /// The device failed: a disk in memory does where it finds none.
     Device,
     Memory,
-    /// A refusal of this number, where the test wants none.
-    Refused(u16),
 }
 
 impl From<AllocError> for Trouble {
@@ -25,15 +23,6 @@ impl From<AllocError> for Trouble {
 impl From<DeviceFault> for Trouble {
     fn from(_fault: DeviceFault) -> Trouble {
         Trouble::Device
-    }
-}
-
-/// What a refusal of this number is, where none is wanted.
-pub fn trouble_of(number: u16) -> Trouble {
-    match number {
-        90 => Trouble::Memory,
-        60 => Trouble::Device,
-        _ => Trouble::Refused(number),
     }
 }
 

@@ -1,10 +1,10 @@
 //! Two stores that are handed the same input.
-ghost use Rattle.std.specs.Prelude.{◌≡◌, IfOk, IfSome, IsTrue, Some, true};
+ghost use Rattle.std.specs.Prelude.{◌≡◌, ◌<◌, ◌-◌, ◌^◌, IfSome, IsTrue, Some, true};
 ghost use Rattle.plist_state.specs.State.{WorldState};
 ghost use Rattle.store_laws.specs.Outcomes.{IsByInput};
-ghost use Rattle.user_macros.specs.Functions.{are_registered, no_functions};
+ghost use Rattle.user_macros.specs.Functions.{are_registered};
 
-use crate::disks::{AMPLE, Trouble, trouble_of};
+use crate::disks::{AMPLE, Trouble};
 use disk_trait::{Disk, MemoryDisk};
 use prevalence_store::{Ended, Mode, Store, Wanted};
 use std::alloc::Global;
@@ -62,37 +62,45 @@ fn answered_twice<D: Disk, E: Disk, M: MacroFunctions>(
     Some((answers, others_answers))
 }
 
-/// A store over fresh files.
-fn fresh_store(alloc: Global) -> Result<Store<MemoryDisk, Macros<NoFunctions>>, Trouble>
-    ensures answers { IfOk result (λ store. ⟦<Macros<NoFunctions> as MacroFunctions>⟧.answers store.macros) }
-    ensures whole { IfOk result (λ store. are_registered no_functions
-        (⟦<Macros<NoFunctions> as MacroFunctions>⟧.functions store.macros) ≡ true) }
+/// The answers of two stores to an input, over disks that are opened for it. `None` also where one of them is not opened.
+fn served_twice<D: Disk + Drop, M: MacroFunctions + Drop>(
+    alloc: Global,
+    disks: (D, D),
+    macros: (M, M),
+    input: &[u8],
+) -> Option<(Vec<u8>, Vec<u8>)>
+    requires room { (D.state disks.0).failures < 2 ^ 64 - 1 }
+    requires others_room { (D.state disks.1).failures < 2 ^ 64 - 1 }
+    requires answers { M.answers macros.0 }
+    requires others_answers { M.answers macros.1 }
 {
-    let disk = MemoryDisk::new(alloc);
-    if disk.failures() > 0 {
-        return Err(Trouble::Device);
-    }
-    match Store::open(alloc, disk, Macros::new(alloc, NoFunctions), AMPLE) {
-        Ok(store) => Ok(store),
-        Err(unopened) => Err(trouble_of(unopened.number)),
-    }
-}
-
-/// The answers of two fresh stores to an input.
-fn answers_of_two(alloc: Global, input: &[u8]) -> Result<(Vec<u8>, Vec<u8>), Trouble> {
-    let mut one = fresh_store(alloc)?;
-    let mut other = match fresh_store(alloc) {
-        Ok(store) => store,
-        Err(trouble) => {
-            let _closed = one.close();
-            return Err(trouble);
-        }
+    let (disk, others_disk) = disks;
+    let (macros, others_macros) = macros;
+    let Ok(mut one) = Store::open(alloc, disk, macros, AMPLE) else {
+        return None;
+    };
+    let Ok(mut other) = Store::open(alloc, others_disk, others_macros, AMPLE) else {
+        let _closed = one.close();
+        return None;
     };
     let answers = answered_twice(alloc, &mut one, &mut other, input);
     let _closed = one.close();
     let _others_closed = other.close();
-    match answers {
-        Some(both) => Ok(both),
+    answers
+}
+
+/// The answers of two stores over fresh files.
+fn answers_of_two(alloc: Global, input: &[u8]) -> Result<(Vec<u8>, Vec<u8>), Trouble> {
+    let disks = (MemoryDisk::new(alloc), MemoryDisk::new(alloc));
+    if disks.0.failures() > 0 || disks.1.failures() > 0 {
+        return Err(Trouble::Device);
+    }
+    let macros = (
+        Macros::new(alloc, NoFunctions),
+        Macros::new(alloc, NoFunctions),
+    );
+    match served_twice(alloc, disks, macros, input) {
+        Some(answers) => Ok(answers),
         None => Err(Trouble::Memory),
     }
 }
