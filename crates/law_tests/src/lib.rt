@@ -1,0 +1,18 @@
+//! Callers of the laws of the store, over any disk and any macro functions, and runs of them.
+//!
+//! They are a crate of their own, so that the laws are not proved again for the sake of their tests.
+//!
+//! - `lives`: a store that is opened, stopped, refused once, opened again and called again
+//! - `replicas`: two stores that are handed the same input
+//! - `migration`: a store that is opened on files of version 1
+//! - `disks`: disks of these tests, and what may go wrong in them
+#![tactic(auto)]
+
+#[cfg(test)]
+mod disks;
+#[cfg(test)]
+mod lives;
+#[cfg(test)]
+mod migration;
+#[cfg(test)]
+mod replicas;

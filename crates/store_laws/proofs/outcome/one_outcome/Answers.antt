@@ -1,0 +1,20 @@
+use Rattle.store_laws.proofs.Outcomes.{both_complete, completed, front_of_all, one_count}
+use Rattle.store_laws.proofs.outcome.one_outcome.Goals as goal
+
+pub returns-clause-one_count : goal.returns-clause-one_count
+returns-clause-one_count g c = λ functions world mode input forms others far other all all_others.
+    one_count functions world mode input forms others far other all all_others
+
+pub returns-clause-completed : goal.returns-clause-completed
+returns-clause-completed g c = λ functions wanted old new world input has held written ended served by_input.
+    completed functions g.D.Disk.state old new world wanted input has held written ended served by_input
+
+pub returns-clause-same : goal.returns-clause-same
+returns-clause-same g c = λ functions wanted other old new before later world input has held written ended others_has others_held others_written ending mode served by_input others_served others_by_input.
+    both_complete functions g.D.Disk.state g.E.Disk.state old new before later world wanted.mode other.mode input held written others_held others_written ended ending mode
+    (completed functions g.D.Disk.state old new world wanted input has held written ended served by_input)
+    (completed functions g.E.Disk.state before later world other input others_has others_held others_written ending others_served others_by_input)
+
+pub returns-clause-front : goal.returns-clause-front
+returns-clause-front g c = λ functions wanted old new world input held written number forms far all served.
+    front_of_all functions g.D.Disk.state old new world wanted input held written number forms far all served

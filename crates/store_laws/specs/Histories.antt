@@ -1,0 +1,129 @@
+-- Whatever may happen to a store and to the disk under it, one after the other in any order; and what follows from it.
+use Rattle.std.specs.Prelude.{◌≡◌, ℕ, ◌+◌, ◌≤◌, List, [], ◌∷◌, ◌++◌, length, take, Bool, Option, None, Some}
+use Rattle.disk_trait.specs.Disk.{State, IsHonest, Throughout}
+use Rattle.gate_log.specs.Layout.{LogRecord}
+use Rattle.plist_state.specs.State.{WorldState}
+use Rattle.prevalence_store.specs.declared.open_fault.OpenFault.{OpenFault}
+use Rattle.prevalence_store.specs.meaning.Acceptance.{after}
+use Rattle.prevalence_store.specs.calls.Open.{IsNoWord, IsUnopened, limit_of}
+use Rattle.prevalence_store.specs.Theorem.{Call, IsAfterSome, IsStoppedBetween, Keeps, KeepsSome, MeansAsBefore, Reopens, Survives}
+use Rattle.user_macros.specs.Functions.{Functions}
+
+-- What happened, and the disk that is there then. A stop is a loss of power, or the end of the process while the machine goes on.
+pub data Event (D : Type 0) : Type 0 where
+  -- the disk was opened, and the store has this world
+  opened : D → WorldState → Event D
+  -- an opening under this limit was refused for this fault, and gave a disk back
+  refused : ℕ → OpenFault → D → Event D
+  -- a call of the open store came to its end, perhaps in a device fault
+  called : Call D → Event D
+  -- a stop between two of these
+  stopped : D → Event D
+  -- a stop within a call, which would have come to this end
+  stopped_in_call : Call D → D → Event D
+  -- a stop within an opening, which would have left the first of these disks, refused or not
+  stopped_in_opening : D → D → Event D
+
+-- the disk that is there then, and the world of the open store: none is open after a device fault, a stop or a refused opening
+abbrev pub disk_by : {D : Type 0} → Event D → D
+disk_by (opened now world) = now
+disk_by (refused limit fault back) = back
+disk_by (called call) = call.disk
+disk_by (stopped now) = now
+disk_by (stopped_in_call call now) = now
+disk_by (stopped_in_opening there now) = now
+
+abbrev pub left_by : {D : Type 0} → Event D → Option WorldState
+left_by (opened now world) = Some world
+left_by (refused limit fault back) = None
+left_by (called call) = call.left
+left_by (stopped now) = None
+left_by (stopped_in_call call now) = None
+left_by (stopped_in_opening there now) = None
+
+-- ---- what has to be true of events
+
+-- The stop came at some moment between these two disks, and left an honest one: what a crash leaves of it, a crash might have left
+-- at that moment. After a loss of power that is one image.
+pub record IsStop {D : Type 0} (state : D → State) (start now after : D) : Type 0 where
+  pub honest : IsHonest (state after)
+  pub between : IsStoppedBetween (state start) (state now) (state after)
+
+module _ (functions : Functions) {D : Type 0} (state : D → State) where
+  -- A call on this disk, of the store that has this world. There is none where no store is open.
+  abbrev pub IsCall : D → Option WorldState → Call D → Type 0
+  IsCall disk None call = ⊥
+  IsCall disk (Some world) call = Survives functions (state disk) (state call.disk) world call.taken call.acknowledged call.left
+
+  -- an opening of this disk gave the other one, with this world
+  pub record IsOpening (disk now : D) (world : WorldState) : Type 0 where
+    pub reopens : Reopens functions (state disk) (state now) world
+    pub honest : (state now).honest ≡ (state disk).honest
+
+  -- an opening of this disk was refused for this fault, and gave the other one back
+  pub record IsRefusal (disk : D) (limit : ℕ) (fault : OpenFault) (back : D) : Type 0 where
+    pub whole : Bool
+    pub number : ℕ
+    pub unopened : IsUnopened functions state disk whole limit number back
+    pub fault_is : unopened.fault ≡ fault
+
+  -- at each moment of an opening of this disk a crash leaves what some image meant before it, whether it is refused or not
+  abbrev pub IsOpenedOrNot : D → D → Type 0
+  IsOpenedOrNot disk there = Throughout (state disk) (state there) (MeansAsBefore functions (state disk))
+
+  -- this happened to a disk, where an open store had this world or none was open
+  abbrev pub Happens : D → Option WorldState → Event D → Type 0
+  Happens disk left (opened now world) = IsOpening disk now world
+  Happens disk left (refused limit fault back) = IsRefusal disk limit fault back
+  Happens disk left (called call) = IsCall disk left call
+  Happens disk left (stopped now) = IsStop state disk disk now
+  Happens disk left (stopped_in_call call now) = IsCall disk left call × IsStop state disk call.disk now
+  Happens disk left (stopped_in_opening there now) = IsOpenedOrNot disk there × IsStop state disk there now
+
+  -- each of these happened where the one before it ended
+  abbrev pub Happened : D → Option WorldState → List (Event D) → Type 0
+  Happened disk left [] = Unit {0}
+  Happened disk left (event ∷ events) = Happens disk left event × Happened (disk_by event) (left_by event) events
+
+-- ---- what follows from them
+
+module _ (functions : Functions) {D : Type 0} (state : D → State) (first : WorldState) where
+  -- How it stands after events. The line are the forms that were accepted since the first world, without those that a crash took
+  -- back; the first so many of them are sure, among them all that were acknowledged.
+  pub record Stands (line : List LogRecord) (sure : ℕ) (disk : D) (left : Option WorldState) : Type 0 where
+    pub honest : IsHonest (state disk)
+    -- whatever a crash now leaves means the world after some of the line, from the first on, and after those that are sure
+    pub keeps : KeepsSome functions (state disk) first line sure
+    -- an open store has the world after all of the line, and whatever a crash now leaves means that world
+    pub whole : (world : WorldState) → left ≡ Some world → (after functions first line ≡ Some world) × Keeps functions (state disk) world
+
+  -- What follows from these events, after such a line. An opening finds the world after some of the line, and after those that are
+  -- sure: these forms are the line from then on, and sure. A refused opening is no word on the files. A call adds the forms that it
+  -- took, of which those are sure that it acknowledged; of a call that was stopped none is.
+  abbrev pub Follows : (line : List LogRecord) (sure : ℕ) (disk : D) (left : Option WorldState) → List (Event D) → Type 0
+  Follows line sure disk left [] = Stands line sure disk left
+  Follows line sure disk left (opened now world ∷ events) =
+      (found : IsAfterSome functions first line sure world) × Follows (take found.count line) found.count now (Some world) events
+  Follows line sure disk left (refused limit fault back ∷ events) =
+      IsNoWord (limit_of limit) (state disk).reads fault × Follows line sure back None events
+  Follows line sure disk left (called call ∷ events) =
+      Follows (line ++ call.taken) (length line + call.acknowledged) call.disk call.left events
+  Follows line sure disk left (stopped now ∷ events) = Follows line sure now None events
+  Follows line sure disk left (stopped_in_call call now ∷ events) = Follows (line ++ call.taken) (length line) now None events
+  Follows line sure disk left (stopped_in_opening there now ∷ events) = Follows line sure now None events
+
+  -- How it stands after these events, whichever they were: what was sure is still there, at the front of the line.
+  pub record StillStands (line : List LogRecord) (sure : ℕ) (disk : D) (left : Option WorldState) : Type 0 where
+    pub more : List LogRecord
+    pub now_sure : ℕ
+    pub no_less : sure ≤ now_sure
+    pub stands : Stands (take sure line ++ more) now_sure disk left
+
+-- the disk and the world of the open store after events
+abbrev pub last_disk : {D : Type 0} → D → List (Event D) → D
+last_disk disk [] = disk
+last_disk disk (event ∷ events) = last_disk (disk_by event) events
+
+abbrev pub last_left : {D : Type 0} → Option WorldState → List (Event D) → Option WorldState
+last_left left [] = left
+last_left left (event ∷ events) = last_left (left_by event) events

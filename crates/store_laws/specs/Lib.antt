@@ -1,0 +1,4 @@
+-- whatever happened to a store, in any order
+pub mod Histories
+-- what a session over an input comes to
+pub mod Outcomes

@@ -1,0 +1,22 @@
+//! The laws of the store over whole histories and whole inputs, above the clauses of its calls. Each is the contract of a function
+//! that does nothing: who calls it has the law in his own proof.
+//!
+//! - `histories`: whatever happened to a store in any order (openings, calls, stops within them, refused openings, losses of power),
+//!   what a crash leaves is the world after some of the forms that were accepted, from the first on, and after all that were
+//!   acknowledged (`specs/Histories.antt`)
+//! - `one_outcome`: sessions over the same input, from the same world on, that come to the end of it write the same bytes and leave
+//!   the same world, whatever the disk, the pace of snapshots, groups or not; what a session wrote that was cut short is the front
+//!   of that (`specs/Outcomes.antt`)
+//! - `groups_change_nothing`: so a session with groups gives what one without them gives
+//! - `version_1_opens`: a store that is opened on files of version 1 has the world that they meant to version 1
+//!
+//! The lemmas in `proofs` are of this crate alone: `Events`, `Outcomes`.
+#![tactic(auto)]
+
+mod history;
+mod outcome;
+mod version_1;
+
+pub use history::histories;
+pub use outcome::{groups_change_nothing, one_outcome};
+pub use version_1::version_1_opens;
