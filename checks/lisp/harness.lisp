@@ -71,6 +71,7 @@
 
 (defun test ()
   "Runs all checks over the program that PAZTURROK_PROGRAM names, in a folder that is thrown away."
-  (let ((folder (uiop:ensure-directory-pathname (uiop:tmpize-pathname (uiop:default-temporary-directory)))))
-    (unwind-protect (unless (run (uiop:getenv "PAZTURROK_PROGRAM") folder) (error "a check has failed"))
-      (uiop:delete-directory-tree folder :validate t :if-does-not-exist :ignore))))
+  (uiop:with-temporary-file (:pathname path)
+    (let ((folder (uiop:ensure-directory-pathname (uiop:strcat (uiop:native-namestring path) "-stores"))))
+      (unwind-protect (unless (run (uiop:getenv "PAZTURROK_PROGRAM") folder) (error "a check has failed"))
+        (uiop:delete-directory-tree folder :validate t :if-does-not-exist :ignore)))))
