@@ -10,6 +10,7 @@
 
 (defvar *program* nil "The path of the program.")
 (defvar *folder* nil "A folder for the stores.")
+(defvar *long* 600 "As many seconds as nothing takes, on a slow machine either.")
 (defvar *passed* 0)
 (defvar *failed* 0)
 (defvar *checks* '() "The names of the checks, the last one first.")
@@ -45,16 +46,18 @@
 (defun subfolder (name)
   (uiop:native-namestring (uiop:subpathname *folder* name)))
 
-(defun seconds-of (function)
+(defun ends-p (function)
+  "Whether FUNCTION ends before what waits for the program would give it up."
   (let ((start (get-internal-real-time)))
     (funcall function)
-    (/ (- (get-internal-real-time) start) internal-time-units-per-second)))
+    (< (- (get-internal-real-time) start) (* 1/2 *long* internal-time-units-per-second))))
 
 (defun run (program folder)
   "Runs all checks over the program, with stores in the folder. Tells how many passed, and gives whether all did."
   (let ((*package* (find-package "PAZTURROK-CHECK"))
         (*program* program)
         (*folder* (uiop:ensure-directory-pathname folder))
+        (*end-limit* *long*)
         (*passed* 0)
         (*failed* 0))
     (dolist (check (reverse *checks*))
@@ -71,6 +74,7 @@
 
 (defun test ()
   "Runs all checks over the program that PAZTURROK_PROGRAM names, in a folder that is thrown away."
-  (let ((folder (uiop:ensure-directory-pathname (uiop:tmpize-pathname (uiop:default-temporary-directory)))))
-    (unwind-protect (unless (run (uiop:getenv "PAZTURROK_PROGRAM") folder) (error "a check has failed"))
-      (uiop:delete-directory-tree folder :validate t :if-does-not-exist :ignore))))
+  (uiop:with-temporary-file (:pathname path)
+    (let ((folder (uiop:ensure-directory-pathname (uiop:strcat (uiop:native-namestring path) "-stores"))))
+      (unwind-protect (unless (run (uiop:getenv "PAZTURROK_PROGRAM") folder) (error "a check has failed"))
+        (uiop:delete-directory-tree folder :validate t :if-does-not-exist :ignore)))))

@@ -94,7 +94,7 @@
     (expect "their round trips, and the one of the opening" 1001 (store-round-trips store))))
 
 (define-check many-forms-at-once ()
-  (with-new-store (store "many" :time-limit 60)
+  (with-new-store (store "many" :time-limit *long*)
     (let ((before (store-round-trips store)))
       (expect "5,000 forms" (loop for i from 1 to 5000 collect i)
               (send-all store (loop for i from 1 to 5000 collect `(setf (get 'counter 'count) ,i))))

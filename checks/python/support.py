@@ -9,10 +9,15 @@ import unittest
 from collections.abc import Iterator
 from typing import Any
 
+import pazturrok.program
 from pazturrok import Store
 
 PROGRAM = os.environ.get("PAZTURROK_PROGRAM", "pazturrok")
 FAKE = os.path.join(os.path.dirname(os.path.abspath(__file__)), "..", "lisp", "fake")
+
+LONG = 600.0
+"""As many seconds as nothing takes, on a slow machine either."""
+pazturrok.program.END_LIMIT = LONG
 
 
 class StoreTest(unittest.TestCase):

@@ -50,6 +50,7 @@
   "Sends the texts of whole forms, and calls RECEIVE with the text of each answer, up to one that ends the
 session. The store is broken before anything is sent, and good when all is read: whatever leaves this
 function in another way leaves it broken."
+  (check-type seconds (or null (real (0))))
   (let ((program (store-program store)))
     (setf (store-state store) :broken
           (program-overdue-p program) nil)
@@ -59,8 +60,9 @@ function in another way leaves it broken."
              (finish-output (program-to program))
              (loop repeat (length texts)
                    for answer = (answer-text (lambda () (or (next-character program) (stop store seconds))))
+                   for last-p = (ends-session-p store answer)
                    do (funcall receive answer)
-                   until (ends-session-p store answer))))
+                   until last-p)))
       (handler-case (if seconds (call-with-limit program seconds #'say) (say))
         (stream-error () (stop store seconds))))
     (when (program-overdue-p program) (stop store seconds))
@@ -114,14 +116,14 @@ an answer that the image has no symbol for becomes a symbol of a package of the 
 PAZTURROK/COMMON-LISP-USER; with INTERN true it becomes one of PACKAGE, as READ would make it.
 TIME-LIMIT is how many seconds an answer may take, OPENING-TIME-LIMIT how many the opening, NIL for any time.
 OPTIONS are further words of the command line, as (\"--snapshot-every\" \"1000\")."
-  (let* ((path (if (pathnamep folder) (uiop:native-namestring folder) folder))
-         (own '("--rescue" "--group"))
-         (further (remove-if (lambda (option) (member option own :test #'equal)) options))
-         (store (make-store (append (list program "run" path) own further)
-                            (make-naming :package (find-package package) :interns-p intern)
-                            time-limit opening-time-limit)))
-    (open-program store)
-    store))
+  (flet ((word (file) (if (pathnamep file) (uiop:native-namestring file) file)))
+    (let* ((own '("--rescue" "--group"))
+           (further (remove-if (lambda (option) (member option own :test #'equal)) options))
+           (store (make-store (append (list (word program) "run" (word folder)) own further)
+                              (make-naming :package (find-package package) :interns-p intern)
+                              time-limit opening-time-limit)))
+      (open-program store)
+      store)))
 
 (defun close-store (store)
   "Ends the session, and gives the status of the program. What was answered is in the store. It waits ten

@@ -44,7 +44,7 @@ class Program:
 
         It reads while it writes, so neither program waits for the other with its pipe full.
         """
-        if self._read():
+        if self._read() or not self._splitter.is_empty:
             raise MalformedAnswerError("", "more was answered than was asked")
         unsent = memoryview("".join(text + "\n" for text in texts).encode("ascii"))
         end = None if seconds is None else time.monotonic() + seconds

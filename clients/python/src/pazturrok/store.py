@@ -142,6 +142,8 @@ class Store:
         is for the answers of what is sent at once.
         """
         seconds = self._time_limit if time_limit is None else time_limit
+        if seconds is not None and seconds <= 0:
+            raise ValueError("a time limit is more than 0 seconds")
         with self._lock:
             texts = [self._text(form, seconds) for form in forms]
             outcomes: list[Outcome] = []
