@@ -60,9 +60,15 @@ pub enum LogError {
         /// How many there are.
         records: u64,
     },
-    /// The log was not opened.
-    #[error("{0}")]
-    Refused(OpenRefusal),
+    /// The device failed.
+    #[error("the device failed")]
+    DeviceFault,
+    /// The halves are damaged.
+    #[error("the halves are damaged")]
+    Damaged,
+    /// The half in use has a version that is not known.
+    #[error("the half in use has a version that is not known")]
+    UnknownVersion,
 }
 
 impl From<AllocError> for LogError {
@@ -71,12 +77,23 @@ impl From<AllocError> for LogError {
     }
 }
 
+impl From<OpenRefusal> for LogError {
+    fn from(refusal: OpenRefusal) -> LogError {
+        match refusal {
+            OpenRefusal::OutOfMemory => LogError::OutOfMemory,
+            OpenRefusal::DeviceFault => LogError::DeviceFault,
+            OpenRefusal::Damaged => LogError::Damaged,
+            OpenRefusal::UnknownVersion => LogError::UnknownVersion,
+        }
+    }
+}
+
 impl From<ReadError> for LogError {
     fn from(error: ReadError) -> LogError {
         match error {
             ReadError::OutOfMemory => LogError::OutOfMemory,
-            ReadError::DeviceFault => LogError::Refused(OpenRefusal::DeviceFault),
-            ReadError::Damaged => LogError::Refused(OpenRefusal::Damaged),
+            ReadError::DeviceFault => LogError::DeviceFault,
+            ReadError::Damaged => LogError::Damaged,
         }
     }
 }

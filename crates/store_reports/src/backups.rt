@@ -1,0 +1,217 @@
+//! A new store with the world of another one.
+ghost use Rattle.std.specs.Prelude.{◌≡◌, ◌-◌, ◌^◌, ◌<◌, IfOk, None, Some};
+ghost use Rattle.disk_trait.specs.Disk.{IsHonest};
+ghost use Rattle.gate_log.specs.Log.{FilesMean};
+ghost use Rattle.store_reports.specs.Backup.{HoldsWorld};
+
+use disk_trait::{Disk, HostDisk, HostError, IfMissing};
+use gate_log::{Halves, OpenRefusal, ReadError, StartError};
+use lisp_object::refusal::{DAMAGED, DEVICE, NO_MEMORY, SNAPSHOT_TOO_LARGE, VERSION};
+use plist_state::World;
+use std::alloc::{AllocError, Global};
+use std::fs::File;
+use std::path::Path;
+use std::rt::Files;
+use std::{fs, io};
+use thiserror::Error;
+use world_text::write;
+
+/// Why there is no backup.
+#[derive(Debug, Drop, Error)]
+pub enum BackupError {
+    /// Memory was refused.
+    #[error("out of memory")]
+    OutOfMemory,
+    /// There is something at the place already.
+    #[error("there is something of this name already; a backup is made in a new folder")]
+    Exists,
+    /// The files were not made.
+    #[error("{0}")]
+    Host(HostError),
+    /// The backup was not written, or not opened again: the number of the refusal.
+    #[error("the backup was refused with number {0}")]
+    Refused(u16),
+    /// What was opened again is another world.
+    #[error("the backup has another world than the store")]
+    Differs,
+}
+
+impl From<AllocError> for BackupError {
+    fn from(_error: AllocError) -> BackupError {
+        BackupError::OutOfMemory
+    }
+}
+
+impl From<io::Error> for BackupError {
+    fn from(error: io::Error) -> BackupError {
+        BackupError::Host(HostError::from(error))
+    }
+}
+
+impl From<HostError> for BackupError {
+    fn from(error: HostError) -> BackupError {
+        BackupError::Host(error)
+    }
+}
+
+// The number of a log that was not opened.
+fn number_of(refusal: OpenRefusal) -> u16 {
+    match refusal {
+        OpenRefusal::DeviceFault => DEVICE,
+        OpenRefusal::Damaged => DAMAGED,
+        OpenRefusal::UnknownVersion => VERSION,
+        OpenRefusal::OutOfMemory => NO_MEMORY,
+    }
+}
+
+// The number of a half that was not read.
+fn number_of_read(error: ReadError) -> u16 {
+    match error {
+        ReadError::DeviceFault => DEVICE,
+        ReadError::Damaged => DAMAGED,
+        ReadError::OutOfMemory => NO_MEMORY,
+    }
+}
+
+// The number of a half that was not started.
+fn number_of_start(error: StartError) -> u16 {
+    match error {
+        StartError::DeviceFault => DEVICE,
+        StartError::TooLarge => SNAPSHOT_TOO_LARGE,
+        StartError::OutOfMemory => NO_MEMORY,
+    }
+}
+
+/// Begins the log of a disk on which no half is open, with a world as its snapshot, and gives the disk back. Of an honest disk: the
+/// text of this world is what its log holds then, no record follows it, and a crash leaves it so.
+///
+/// # Errors
+///
+/// `Exists` where a half is open, and nothing is written then. `Refused` with the number where the log was not opened, or the half not
+/// begun.
+pub fn backup_onto<D: Disk + Drop>(
+    alloc: Global,
+    world: &World,
+    disk: D,
+    limit: u64,
+) -> Result<D, BackupError>
+    requires { (D.state disk).failures < 2 ^ 64 - 1 }
+    ensures holds { IfOk result (λ back. IsHonest (D.state disk)
+        → FilesMean None (D.state disk).reads → HoldsWorld world.now.0 (D.state back)) }
+{
+    let text = write(alloc, world)?;
+    let mut log = match Halves::open(alloc, disk, limit) {
+        Ok(log) => log,
+        Err(error) => return Err(BackupError::Refused(number_of(error.refusal))),
+    };
+    if log.is_started() {
+        return Err(BackupError::Exists);
+    }
+    match log.start_half(alloc, text.as_slice()) {
+        Ok(()) => Ok(log.into_disk()),
+        Err(error) => Err(BackupError::Refused(number_of_start(error))),
+    }
+}
+
+/// Makes a new store in `dir`, where there may be nothing yet, with a world as its snapshot, in halves of `limit` bytes at most. It is
+/// made in a folder beside it, whose name ends in `.partial`, synced, opened again and compared, and then gets its name; so nothing half
+/// made is ever at `dir`. After an error that folder is taken away.
+///
+/// # Errors
+///
+/// `Exists` where something is at `dir`. `Host` with the cause where a call of the system failed. `Refused` with its number. `Differs`
+/// where what was opened again has another text.
+pub fn backup<R: Files<File = File> + AllocGlobal>(
+    rt: &R,
+    world: &World,
+    dir: &str,
+    limit: u64,
+) -> Result<(), BackupError> {
+    let partial = begin(rt, dir)?;
+    match make_at(rt, world, partial.as_str(), limit) {
+        Ok(()) => put_in_place(rt, partial.as_str(), dir),
+        Err(error) => {
+            take_away(rt, partial.as_str());
+            Err(error)
+        }
+    }
+}
+
+// Makes the folder in which a backup is made, and gives its name.
+fn begin<R: Files<File = File> + AllocGlobal>(rt: &R, dir: &str) -> Result<String, BackupError> {
+    if dir.is_empty() {
+        return Err(BackupError::Host(HostError::NoName));
+    }
+    if fs::symlink_metadata(rt, dir).is_ok() {
+        return Err(BackupError::Exists);
+    }
+    let partial = format!(in rt.alloc(); "{dir}.partial")?;
+    fs::create_dir(rt, partial.as_str())?;
+    Ok(partial)
+}
+
+// Makes a backup, and opens it again.
+fn make_at<R: Files<File = File> + AllocGlobal>(
+    rt: &R,
+    world: &World,
+    partial: &str,
+    limit: u64,
+) -> Result<(), BackupError> {
+    write_at(rt, world, partial, limit)?;
+    let text = write(rt.alloc(), world)?;
+    if holds_text(rt, partial, text.as_slice(), limit)? {
+        Ok(())
+    } else {
+        Err(BackupError::Differs)
+    }
+}
+
+// Writes a world to new files, which are closed then.
+fn write_at<R: Files<File = File> + AllocGlobal>(
+    rt: &R,
+    world: &World,
+    partial: &str,
+    limit: u64,
+) -> Result<(), BackupError> {
+    let disk = HostDisk::open_files(rt, partial, IfMissing::Make)?;
+    let _disk = backup_onto(rt.alloc(), world, disk, limit)?;
+    Ok(())
+}
+
+// Whether the files of a folder hold this text and no record.
+fn holds_text<R: Files<File = File> + AllocGlobal>(
+    rt: &R,
+    dir: &str,
+    text: &[u8],
+    limit: u64,
+) -> Result<bool, BackupError> {
+    let disk = HostDisk::open_files(rt, dir, IfMissing::Refuse)?;
+    let mut log = match Halves::open(rt.alloc(), disk, limit) {
+        Ok(log) => log,
+        Err(error) => return Err(BackupError::Refused(number_of(error.refusal))),
+    };
+    if !log.is_started() || log.record_count() > 0 {
+        return Ok(false);
+    }
+    match log.snapshot_bytes(rt.alloc()) {
+        Ok(found) => Ok(found.as_slice() == text),
+        Err(error) => Err(BackupError::Refused(number_of_read(error))),
+    }
+}
+
+// Gives the folder its name. That it has it then lasts.
+fn put_in_place<R: Files<File = File> + AllocGlobal>(
+    rt: &R,
+    partial: &str,
+    dir: &str,
+) -> Result<(), BackupError> {
+    rt.rename(partial, dir)?;
+    let parent = Path::new(dir).join(rt.alloc(), "..")?;
+    File::open(rt, parent.as_path())?.sync_all()?;
+    Ok(())
+}
+
+// Takes a folder away in which no backup came about.
+fn take_away<R: Files<File = File> + AllocGlobal>(rt: &R, partial: &str) {
+    let _ = fs::remove_dir_all(rt, partial);
+}
