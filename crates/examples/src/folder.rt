@@ -1,12 +1,14 @@
 //! A store over a folder of the file system.
-use disk_trait::{DeviceFault, HostDisk};
+ghost use Rattle.std.specs.Prelude.{◌<◌, ◌-◌, ◌^◌};
+
+use disk_trait::{Disk, HostDisk};
 use lisp_object::Datum;
 use prevalence_store::{Mode, Outcome, Store};
-use std::alloc::AllocError;
+use std::alloc::{AllocError, Global};
 use std::fs::File;
 use std::rt::Files;
 use thiserror::Error;
-use user_macros::{Macros, NoFunctions};
+use user_macros::{MacroFunctions, Macros, NoFunctions};
 
 /// How many bytes each of the two files of the store may have.
 pub const HALF_LIMIT: u64 = 1 << 20;
@@ -35,8 +37,19 @@ pub fn next_number<R: Files<File = File> + AllocGlobal>(
     let Ok(disk) = HostDisk::open(rt, folder) else {
         return Err(StoreError::Device);
     };
-    let macros = Macros::new(rt.alloc(), NoFunctions);
-    let mut store = match Store::open(rt.alloc(), disk, macros, HALF_LIMIT) {
+    next_on(rt.alloc(), disk, Macros::new(rt.alloc(), NoFunctions))
+}
+
+/// The same over any disk, and with any macro functions: what holds a store is generic in both.
+fn next_on<D: Disk + Drop, M: MacroFunctions + Drop>(
+    alloc: Global,
+    disk: D,
+    macros: M,
+) -> Result<i128, StoreError>
+    requires room { (D.state disk).failures < 2 ^ 64 - 1 }
+    requires answers { M.answers macros }
+{
+    let mut store = match Store::open(alloc, disk, macros, HALF_LIMIT) {
         Ok(store) => store,
         Err(unopened) => return Err(StoreError::Refused(unopened.number)),
     };

@@ -82,6 +82,22 @@ fn lived(alloc: Global, first: &[u8], second: &[u8]) -> Result<(), Trouble> {
         return Err(Trouble::Device);
     }
     let macros = Macros::new(alloc, NoFunctions);
+    live(alloc, disk, stopped, macros, first, second)
+}
+
+/// The same on these disks. That ends early for want of memory alone.
+fn live<D: Disk + Drop, M: MacroFunctions + Drop>(
+    alloc: Global,
+    disk: D,
+    stopped: D,
+    macros: M,
+    first: &[u8],
+    second: &[u8],
+) -> Result<(), Trouble>
+    requires room { (D.state disk).failures < 2 ^ 64 - 1 }
+    requires room_again { (D.state stopped).failures < 2 ^ 64 - 2 }
+    requires answers { M.answers macros }
+{
     match live_on(alloc, disk, stopped, macros, first, second) {
         Some((_left, store)) => {
             let _disk = store.close();

@@ -41,7 +41,19 @@ fn migrated_half(alloc: Global) -> Result<(u16, u64), Trouble> {
     if disk.failures() > 0 {
         return Err(Trouble::Device);
     }
-    match migrated(alloc, disk, Macros::new(alloc, NoFunctions)) {
+    opened_half(alloc, disk, Macros::new(alloc, NoFunctions))
+}
+
+/// The same of a disk, once it is opened.
+fn opened_half<D: Disk + Drop, M: MacroFunctions + Drop>(
+    alloc: Global,
+    disk: D,
+    macros: M,
+) -> Result<(u16, u64), Trouble>
+    requires room { (D.state disk).failures < 2 ^ 64 - 1 }
+    requires answers { M.answers macros }
+{
+    match migrated(alloc, disk, macros) {
         Some(store) => {
             let half = (store.version(), store.record_count());
             let _disk = store.close();
