@@ -2,7 +2,7 @@
 
 /// How the program is called.
 pub const USAGE: &str =
-    "./pazturrok run DIR [--existing] [--rescue] [--strict] [--group] [--snapshot-every N]\n       ./pazturrok snapshot DIR [--existing]\n       ./pazturrok upgrade DIR [--existing]\n       ./pazturrok export DIR [--existing] [--data]\n       ./pazturrok dump DIR [--existing]\n       ./pazturrok verify DIR [--existing]";
+    "./pazturrok run DIR [--existing] [--rescue] [--strict] [--group] [--snapshot-every N]\n       ./pazturrok snapshot DIR [--existing]\n       ./pazturrok upgrade DIR [--existing]\n       ./pazturrok export DIR [--existing] [--data]\n       ./pazturrok dump DIR [--existing] [--at N]\n       ./pazturrok verify DIR [--existing]\n       ./pazturrok show DIR [--package NAME] [--indicator NAME] [--like NAME] [--forms]\n       ./pazturrok info DIR\n       ./pazturrok log DIR [--from N]\n       ./pazturrok backup DIR DEST";
 
 /// How each command is called.
 pub const RUN_USAGE: &str =
@@ -14,13 +14,22 @@ pub const UPGRADE_USAGE: &str = "./pazturrok upgrade DIR [--existing]";
 
 pub const EXPORT_USAGE: &str = "./pazturrok export DIR [--existing] [--data]";
 
-pub const DUMP_USAGE: &str = "./pazturrok dump DIR [--existing]";
+pub const DUMP_USAGE: &str = "./pazturrok dump DIR [--existing] [--at N]";
 
 pub const VERIFY_USAGE: &str = "./pazturrok verify DIR [--existing]";
 
+pub const SHOW_USAGE: &str =
+    "./pazturrok show DIR [--package NAME] [--indicator NAME] [--like NAME] [--forms]";
+
+pub const INFO_USAGE: &str = "./pazturrok info DIR";
+
+pub const LOG_USAGE: &str = "./pazturrok log DIR [--from N]";
+
+pub const BACKUP_USAGE: &str = "./pazturrok backup DIR DEST";
+
 /// The end of the help: a first form, the statuses, and where the documents are.
 pub const PROGRAM_HELP: &str =
-    "A first form, in a new folder:\n  echo \"(SETF (GET 'APPLE 'PRICE) 7)\" | ./pazturrok run store\n\nDIR holds the two files of the store, half-a and half-b. One process at a time serves it.\n\nExit status:\n  0  the command was carried out, or help or the version was asked for\n  1  a text was refused by the reader, which ends the session, or with --strict any form was; its\n     line is the last answer, and its place is told on standard error\n  2  the words of the command line were refused\n  3  a fault of the folder, the files, the input, the output or the memory, with the line\n     ! <number> <NAME> on standard error, and after 60 a line with its cause; or something was\n     left out of an export\n\nDocuments, beside ./pazturrok: README.md to begin with; docs/use/operators.md for every operator,\ndocs/use/language.md for the syntax, docs/use/refusals.md for the numbers, docs/operating.md for faults,\nsnapshots and backups, docs/protocol.md for programs that talk to a store.";
+    "A first form, in a new folder:\n  echo \"(SETF (GET 'APPLE 'PRICE) 7)\" | ./pazturrok run store\n\nDIR holds the two files of the store, half-a and half-b. One process at a time serves it.\n\nCommands that only look, also while a process serves the store; they take no lock, and write nothing\ninto DIR (`COMMAND --help` has each):\n  show    shows properties, as lines or as forms\n  info    tells figures of the store and of its files\n  log     writes the records of the half in use\n  backup  makes a new store in DEST, with the world of that in DIR\nSo do dump, verify and export with --existing, and dump with --at.\n\nExit status:\n  0  the command was carried out, or help or the version was asked for\n  1  a text was refused by the reader, which ends the session, or with --strict any form was; its\n     line is the last answer, and its place is told on standard error\n  2  the words of the command line were refused\n  3  a fault of the folder, the files, the input, the output or the memory, with the line\n     ! <number> <NAME> on standard error, and after 60 a line with its cause; or something was\n     left out of an export\n\nDocuments, beside ./pazturrok: README.md to begin with; docs/use/operators.md for every operator,\ndocs/use/language.md for the syntax, docs/use/refusals.md for the numbers, docs/operating.md for faults,\nsnapshots and backups, docs/protocol.md for programs that talk to a store.";
 
 /// The end of the help of each command.
 pub const RUN_HELP: &str =
@@ -36,7 +45,19 @@ pub const EXPORT_HELP: &str =
     "Over a new store the forms make the same world:\n  ./pazturrok export store > forms\n  ./pazturrok run copy < forms\n\nWith --data the readtables are left out, and the forms are Common Lisp. A property that no form can\nset, as its text would be longer than a form may be, is left out: its symbol and its indicator are told on\nstandard error, and the status is 3.\n\nDocuments: docs/operating.md.";
 
 pub const DUMP_HELP: &str =
-    "The text is that of a snapshot: the packages, the property lists and the readtables. Two stores\nhave the same world if they give the same text:\n  ./pazturrok dump store\n\nDocuments: docs/files.md, docs/operating.md.";
+    "The text is that of a snapshot: the packages, the property lists and the readtables. Two stores\nhave the same world if they give the same text:\n  ./pazturrok dump store\n\nWith --existing or --at the store is only looked into: no lock is taken and nothing is written, so it\nmay be served meanwhile. With --at N the text is that of the world after the first N records of the\nhalf in use; records before its snapshot are gone.\n\nDocuments: docs/files.md, docs/operating.md.";
 
 pub const VERIFY_HELP: &str =
-    "The store is opened, which finds all damage that an opening finds, and one line is written:\n  ./pazturrok verify store --existing\n  half A generation 1 records 120\n\nDocuments: docs/operating.md, \"Snapshots\".";
+    "The store is opened, which finds all damage that an opening finds, and one line is written:\n  ./pazturrok verify store --existing\n  half A generation 1 records 120\n\nWith --existing the store is only looked into: no lock is taken and nothing is written.\n\nDocuments: docs/operating.md, \"Snapshots\".";
+
+pub const SHOW_HELP: &str =
+    "Each property is a line: the symbol, the indicator and the value. With --forms it is the form that\nsets it. Names are given as the store has them, which is mostly in upper case:\n  ./pazturrok show store --like APPLE\n  APPLE PRICE 7\n\nThe store may be served meanwhile: no lock is taken, and what is shown is a world that it had.\n\nDocuments: docs/operating.md.";
+
+pub const INFO_HELP: &str =
+    "Lines with the half in use, its generation and records, what the next opening reads, how many\npackages, symbols and properties there are, and how long and how old the files are. The store may be\nserved meanwhile.\n\nDocuments: docs/operating.md.";
+
+pub const LOG_HELP: &str =
+    "Each record of the half in use is a line: its number, its mode and its form. A snapshot begins them\nanew. The store may be served meanwhile.\n\nDocuments: docs/operating.md.";
+
+pub const BACKUP_HELP: &str =
+    "The new store has one snapshot, of a world that the store had, and is opened again before the\ncommand ends. DEST must not be there. The store may be served meanwhile:\n  ./pazturrok backup store backup-1\n\nDocuments: docs/operating.md, \"Backup\".";

@@ -27,17 +27,17 @@ const SNAPSHOT: &str = "snapshot";
 
 const UPGRADE: &str = "upgrade";
 
-const EXPORT: &str = "export";
+pub(crate) const EXPORT: &str = "export";
 
-const DUMP: &str = "dump";
+pub(crate) const DUMP: &str = "dump";
 
-const VERIFY: &str = "verify";
+pub(crate) const VERIFY: &str = "verify";
 
-const DIRECTORY: &str = "DIR";
+pub(crate) const DIRECTORY: &str = "DIR";
 
-const EXISTING: &str = "existing";
+pub(crate) const EXISTING: &str = "existing";
 
-const DATA: &str = "data";
+pub(crate) const DATA: &str = "data";
 
 const RESCUE: &str = "rescue";
 
@@ -152,7 +152,7 @@ fn every_option<'a>(alloc: Global) -> Arg<'a>
         .value_parser(ValueParser::unsigned(1, 1_000_000))
 }
 
-fn data_option<'a>(alloc: Global) -> Arg<'a>
+pub(crate) fn data_option<'a>(alloc: Global) -> Arg<'a>
     ensures { (rule_of result ≡ data_rule) × (result.global ≡ false) }
 {
     Arg::new(alloc, DATA)
@@ -243,7 +243,7 @@ fn whole_command<'a>(alloc: Global) -> Result<Command<'a>, AllocError>
 }
 
 // Whether a flag is there, by its value.
-fn flag_is_set(flag: Option<&str>) -> bool
+pub(crate) fn flag_is_set(flag: Option<&str>) -> bool
     ensures { result ≡ is_set (option_map (λ value. value.now) flag.entry) }
 {
     match flag {
@@ -264,7 +264,7 @@ fn mode_for(flag: Option<&str>) -> Mode
 }
 
 // What is exported, by the value of the flag.
-fn content_for(flag: Option<&str>) -> Content
+pub(crate) fn content_for(flag: Option<&str>) -> Content
     ensures { result ≡ content_of_flag (option_map (λ value. value.now) flag.entry) }
 {
     if flag_is_set(flag) {

@@ -220,7 +220,11 @@ where
 }
 
 // Words that gave no command: the text on them is written.
-fn answer_words<O: Write, F: Write>(error: &Error, output: &mut O, faults: &mut F) -> Status
+pub(crate) fn answer_words<O: Write, F: Write>(
+    error: &Error,
+    output: &mut O,
+    faults: &mut F,
+) -> Status
     ensures status { IsAfterWords (kind_of error.now) result }
     ensures of_words { IsOfWords result }
     ensures refused { result ≡ Status.WordsRefused → output.new ≡ output.old }

@@ -95,7 +95,7 @@ fn open_existing<R: Folders>(rt: &R, folder: &str) -> Result<R::Disk, HostError>
 }
 
 // Whether one of both files is an open half.
-fn holds_store<D: Disk>(disk: &mut D) -> Result<bool, DeviceFault>
+pub(crate) fn holds_store<D: Disk>(disk: &mut D) -> Result<bool, DeviceFault>
     requires { (D.state disk.old).failures < 2 ^ 64 - 1 }
     ensures { LooksWhether HoldsStore (D.state disk.old) (D.state disk.new) result }
 {

@@ -11,6 +11,8 @@
 //!   a signal ends no session, and `shown` a writer that lets no control character through to a terminal.
 //! - `command_words` has the command line; `diagnostics` writes the line of a fault, and that on the refusal that ended a session, and
 //!   has the input that tells lines and columns; `half_line` writes that on the half in use.
+//! - `look` looks into a store that may be served meanwhile: `show`, `info`, `log`, `backup`, and the reports with `--existing`
+//!   (module `looks`, over `log_look` and `store_reports`).
 //! - `folders` has what opens the files of a folder, and the disk that they are. `existing_stores_are_open` (module `laws`): with
 //!   `--existing` one of both files of an honest disk is a half in use.
 //! - `meaning` says what the macro functions of the program mean, and `macro_functions` has those that compute an object.
@@ -22,6 +24,7 @@ mod export;
 mod folders;
 mod half_line;
 mod laws;
+mod looks;
 pub mod macro_functions;
 mod meaning;
 mod report;
@@ -36,7 +39,7 @@ mod told;
 mod upgrade;
 
 pub use answers::{Answers, Heard, Piped};
-pub use command_words::{Report, Task};
+pub use command_words::{Report, Task, asks_to_look};
 pub use commands::{program, program_at_terminal};
 pub use diagnostics::{
     Lines, Places, Refusal, Spot, Spots, Unwritten, write_fault, write_fault_with_cause,
@@ -46,6 +49,7 @@ pub use export::export_on;
 pub use folders::{Folders, TellsCause};
 pub use half_line::write_half_line;
 pub use laws::existing_stores_are_open;
+pub use looks::look;
 pub use meaning::SixFunctions;
 pub use report::report_on;
 pub use session::{HALF_LIMIT, serve_on};

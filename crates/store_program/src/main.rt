@@ -14,8 +14,8 @@ use std::env;
 use std::io::{ErrorKind, IsTerminal, Write};
 use std::process::ExitCode;
 use store_commands::{
-    Answers, Heard, Lines, Piped, SixFunctions, Status, Terminal, Uninterrupted, end_with,
-    macro_functions, program, program_at_terminal,
+    Answers, Heard, Lines, Piped, SixFunctions, Status, Terminal, Uninterrupted, asks_to_look,
+    end_with, look, macro_functions, program, program_at_terminal,
 };
 use user_macros::{Answer, Call, Cause, MacroFn, MacroFunctions, Macros, Refusal};
 
@@ -36,6 +36,13 @@ fn serve<M: MacroFunctions + Drop, F: Write>(rt: &HostRuntime, macros: M, faults
     requires whole { are_registered M.Meaning.functions (M.functions macros) ≡ true }
 {
     match words_given(rt) {
+        Ok(words) if asks_to_look(words.as_slice()) => look(
+            rt,
+            macros,
+            words.as_slice(),
+            &mut Uninterrupted::new(rt.stdout()),
+            faults,
+        ),
         Ok(words) if rt.stdin().is_terminal() => {
             serve_at_terminal(rt, macros, words.as_slice(), faults)
         }
