@@ -7,7 +7,7 @@ use Rattle.plist_state.specs.State.{WorldState}
 use Rattle.prevalence_store.specs.meaning.Acceptance.{Acceptance, accepts, after, mode_of}
 use Rattle.prevalence_store.specs.calls.Open.{IsNoWord, IsUnopened, limit_of}
 use Rattle.prevalence_store.specs.Theorem.{Call, IsAfterSome, Keeps, KeepsSome, MeansSome, Reopens, Survives}
-use Rattle.store_laws.specs.Histories.{Event, StillStands, last_disk, last_left, opened, refused, called, stopped, stopped_in_call, stopped_in_opening, Follows, Happened, IsCall, IsOpenedOrNot, IsStop, Stands}
+use Rattle.store_laws.specs.Histories.{Event, StillStands, disk_by, last_disk, last_left, left_by, opened, refused, called, stopped, stopped_in_call, stopped_in_opening, Follows, Happened, Happens, IsCall, IsOpenedOrNot, IsStop, Stands}
 use Rattle.user_macros.specs.Functions.{Functions}
 
 module _ (functions : Functions) where
@@ -134,42 +134,79 @@ module _ (functions : Functions) where
       whole = none_open line now;
     }
 
+    -- there are no more sure forms than forms
+    within : (line : List LogRecord) (sure : ℕ) (disk : D) (left : Option WorldState) → Stands functions state first line sure disk left → sure ≤ length line
+    within line sure disk left stands =
+        let some = stands.keeps (state disk).reads (sound disk stands.honest).reads_stay in
+        omega (arith, some.enough, some.among)
+
+    -- How it stands after one event, where the forms that were sure are still the first; and what follows from it and those after it.
+    record Steps (line : List LogRecord) (sure : ℕ) (disk : D) (left : Option WorldState) (event : Event D) : Type 0 where
+      next : List LogRecord
+      next_sure : ℕ
+      no_less : sure ≤ next_sure
+      same : take sure next ≡ take sure line
+      stands : Stands functions state first next next_sure (disk_by event) (left_by event)
+      follows : (events : List (Event D)) → Follows functions state first next next_sure (disk_by event) (left_by event) events
+          → Follows functions state first line sure disk left (event ∷ events)
+
+    step : (event : Event D) (line : List LogRecord) (sure : ℕ) (disk : D) (left : Option WorldState) → Stands functions state first line sure disk left → Happens functions state disk left event
+        → Steps line sure disk left event
+    step (opened now world) line sure disk left stands opening =
+        let found = opens disk now world line sure stands.honest stands.keeps opening.reopens in record {
+          next = take found.count line;
+          next_sure = found.count;
+          no_less = found.enough;
+          same = take-take sure found.count line found.enough;
+          stands = stands_opened line sure now world (subst IsTrue (sym opening.honest) stands.honest) found opening.reopens.kept;
+          follows = λ events rest. (found, rest);
+        }
+    step (refused limit fault back) line sure disk left stands refusal =
+        let after_it = refuses disk back refusal.whole line sure limit refusal.number stands.honest stands.keeps refusal.unopened in record {
+          next = line;
+          next_sure = sure;
+          no_less = omega arith;
+          same = refl;
+          stands = record { honest = after_it.0; keeps = after_it.1; whole = none_open line back };
+          follows = λ events rest. (subst (λ f. IsNoWord (limit_of limit) (state disk).reads f) refusal.fault_is after_it.2, rest);
+        }
+    step (called call) line sure disk left stands is =
+        let le = within line sure disk left stands in record {
+          next = line ++ call.taken;
+          next_sure = length line + call.acknowledged;
+          no_less = omega (arith, le);
+          same = take-append-le sure line call.taken le;
+          stands = stands_called line sure disk left call stands is;
+          follows = λ events rest. rest;
+        }
+    step (stopped now) line sure disk left stands stop =
+        record { next = line; next_sure = sure; no_less = omega arith; same = refl; stands = stands_stopped line sure disk left now stands stop; follows = λ events rest. rest }
+    step (stopped_in_call call now) line sure disk left stands (is, stop) =
+        let le = within line sure disk left stands in record {
+          next = line ++ call.taken;
+          next_sure = length line;
+          no_less = le;
+          same = take-append-le sure line call.taken le;
+          stands = stands_stopped_in_call line sure disk left call now stands is stop;
+          follows = λ events rest. rest;
+        }
+    step (stopped_in_opening there now) line sure disk left stands (opening, stop) = record {
+      next = line;
+      next_sure = sure;
+      no_less = omega arith;
+      same = refl;
+      stands = stands_stopped_in_opening line sure disk left there now stands opening stop;
+      follows = λ events rest. rest;
+    }
+
     -- ---- all of them
-
-    follow : (events : List (Event D)) (line : List LogRecord) (sure : ℕ) (disk : D) (left : Option WorldState) → Stands functions state first line sure disk left
-        → Happened functions state disk left events → Follows functions state first line sure disk left events
-    follow [] line sure disk left stands happened = stands
-    follow (opened now world ∷ events) line sure disk left stands happened =
-        let opening = happened.0 in
-        let found = opens disk now world line sure stands.honest stands.keeps opening.reopens in (
-          found,
-          follow events (take found.count line) found.count now (Some world)
-              (stands_opened line sure now world (subst IsTrue (sym opening.honest) stands.honest) found opening.reopens.kept) happened.1,
-        )
-    follow (refused limit fault back ∷ events) line sure disk left stands happened =
-        let refusal = happened.0 in
-        let after_it = refuses disk back refusal.whole line sure limit refusal.number stands.honest stands.keeps refusal.unopened in (
-          subst (λ f. IsNoWord (limit_of limit) (state disk).reads f) refusal.fault_is after_it.2,
-          follow events line sure back None (record { honest = after_it.0; keeps = after_it.1; whole = none_open line back }) happened.1,
-        )
-    follow (called call ∷ events) line sure disk left stands happened =
-        follow events (line ++ call.taken) (length line + call.acknowledged) call.disk call.left (stands_called line sure disk left call stands happened.0) happened.1
-    follow (stopped now ∷ events) line sure disk left stands happened =
-        follow events line sure now None (stands_stopped line sure disk left now stands happened.0) happened.1
-    follow (stopped_in_call call now ∷ events) line sure disk left stands happened =
-        follow events (line ++ call.taken) (length line) now None (stands_stopped_in_call line sure disk left call now stands happened.0.0 happened.0.1) happened.1
-    follow (stopped_in_opening there now ∷ events) line sure disk left stands happened =
-        follow events line sure now None (stands_stopped_in_opening line sure disk left there now stands happened.0.0 happened.0.1) happened.1
-
-    -- ---- what was sure stays
 
     -- the sure forms of one line are the first of the sure ones of the other
     still_first : (line longer : List LogRecord) (sure more : ℕ) (disk : D) (left : Option WorldState) → sure ≤ more → take sure longer ≡ take sure line → StillStands functions state first longer more disk left
         → StillStands functions state first line sure disk left
     still_first line longer sure more disk left le same still =
         let rest = drop sure (take more longer) in
-        let parts : take more longer ≡ take sure line ++ rest = sym (take-append-drop sure (take more longer)) ∙ ap (λ l. l ++ rest) (take-take sure more longer le ∙ same) in
-        record {
+        let parts : take more longer ≡ take sure line ++ rest = sym (take-append-drop sure (take more longer)) ∙ ap (λ l. l ++ rest) (take-take sure more longer le ∙ same) in record {
           more = rest ++ still.more;
           now_sure = still.now_sure;
           no_less = omega (arith, le, still.no_less);
@@ -177,46 +214,24 @@ module _ (functions : Functions) where
               (ap (λ l. l ++ still.more) parts ∙ append_assoc (take sure line) rest still.more) still.stands;
         }
 
-    -- there are no more sure forms than forms
-    within : (line : List LogRecord) (sure : ℕ) (disk : D) (left : Option WorldState) → Stands functions state first line sure disk left → sure ≤ length line
-    within line sure disk left stands =
-        let some = stands.keeps (state disk).reads (sound disk stands.honest).reads_stay in
-        omega (arith, some.enough, some.among)
-
-    still : (events : List (Event D)) (line : List LogRecord) (sure : ℕ) (disk : D) (left : Option WorldState) → Stands functions state first line sure disk left
-        → Happened functions state disk left events → StillStands functions state first line sure (last_disk disk events) (last_left left events)
-    still [] line sure disk left stands happened = record {
-      more = drop sure line;
-      now_sure = sure;
-      no_less = omega arith;
-      stands = subst (λ (l : List LogRecord). Stands functions state first l sure disk left) (sym (take-append-drop sure line)) stands;
-    }
-    still (opened now world ∷ events) line sure disk left stands happened =
-        let opening = happened.0 in
-        let found = opens disk now world line sure stands.honest stands.keeps opening.reopens in
-        still_first line (take found.count line) sure found.count _ _ found.enough (take-take sure found.count line found.enough)
-        (still events (take found.count line) found.count now (Some world)
-        (stands_opened line sure now world (subst IsTrue (sym opening.honest) stands.honest) found opening.reopens.kept) happened.1)
-    still (refused limit fault back ∷ events) line sure disk left stands happened =
-        let refusal = happened.0 in
-        let after_it = refuses disk back refusal.whole line sure limit refusal.number stands.honest stands.keeps refusal.unopened in
-        still events line sure back None (record { honest = after_it.0; keeps = after_it.1; whole = none_open line back }) happened.1
-    still (called call ∷ events) line sure disk left stands happened =
-        let le = within line sure disk left stands in
-        still_first line (line ++ call.taken) sure (length line + call.acknowledged) _ _ (omega (arith, le)) (take-append-le sure line call.taken le)
-        (still events (line ++ call.taken) (length line + call.acknowledged) call.disk call.left (stands_called line sure disk left call stands happened.0) happened.1)
-    still (stopped now ∷ events) line sure disk left stands happened =
-        still events line sure now None (stands_stopped line sure disk left now stands happened.0) happened.1
-    still (stopped_in_call call now ∷ events) line sure disk left stands happened =
-        let le = within line sure disk left stands in
-        still_first line (line ++ call.taken) sure (length line) _ _ le (take-append-le sure line call.taken le)
-        (still events (line ++ call.taken) (length line) now None (stands_stopped_in_call line sure disk left call now stands happened.0.0 happened.0.1) happened.1)
-    still (stopped_in_opening there now ∷ events) line sure disk left stands happened =
-        still events line sure now None (stands_stopped_in_opening line sure disk left there now stands happened.0.0 happened.0.1) happened.1
-
-    pub both : (events : List (Event D)) (line : List LogRecord) (sure : ℕ) (disk : D) (left : Option WorldState) → Stands functions state first line sure disk left → Happened functions state disk left events
+    pub follow : (events : List (Event D)) (line : List LogRecord) (sure : ℕ) (disk : D) (left : Option WorldState) → Stands functions state first line sure disk left
+        → Happened functions state disk left events
         → Follows functions state first line sure disk left events × StillStands functions state first line sure (last_disk disk events) (last_left left events)
-    both events line sure disk left stands happened = (follow events line sure disk left stands happened, still events line sure disk left stands happened)
+    follow [] line sure disk left stands happened = (
+      stands,
+      record {
+        more = drop sure line;
+        now_sure = sure;
+        no_less = omega arith;
+        stands = subst (λ (l : List LogRecord). Stands functions state first l sure disk left) (sym (take-append-drop sure line)) stands;
+      },
+    )
+    follow (event ∷ events) line sure disk left stands happened =
+        let one = step event line sure disk left stands happened.0 in
+        let rest = follow events one.next one.next_sure (disk_by event) (left_by event) one.stands happened.1 in (
+          one.follows events rest.0,
+          still_first line one.next sure one.next_sure (last_disk (disk_by event) events) (last_left (left_by event) events) one.no_less one.same rest.1,
+        )
 
   -- from files that mean the first world
   pub begins : {D : Type 0} (state : D → State) (first : WorldState) (start : D) → IsHonest (state start) → Keeps functions (state start) first → Stands functions state first [] 0 start None

@@ -1,12 +1,12 @@
 use Rattle.std.proofs.Common.{[], None}
 use Rattle.plist_state.specs.State.{initial}
-use Rattle.store_laws.proofs.Events.{begins, both, in_call, in_opening}
+use Rattle.store_laws.proofs.Events.{begins, follow, in_call, in_opening}
 use Rattle.store_laws.proofs.history.histories.Goals as goal
 
 pub returns-clause-goes_on : goal.returns-clause-goes_on
 returns-clause-goes_on g c = λ functions first line sure disk left events stands happened.
     let law = c.recoveries.ensures in
-    both functions g.D.Disk.state g.met.D.Disk.sound first (λ start now world forms least honest some again. (law.opened functions start now first world forms least honest some again).0)
+    follow functions g.D.Disk.state g.met.D.Disk.sound first (λ start now world forms least honest some again. (law.opened functions start now first world forms least honest some again).0)
     (λ start back whole forms least limit number honest some unopened.
     let all = law.refused functions start back whole first forms least limit number honest some unopened in
     (all.0, all.1, all.3))
