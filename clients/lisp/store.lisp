@@ -54,7 +54,11 @@ function in another way leaves it broken."
   (let ((program (store-program store)))
     (setf (store-state store) :broken
           (program-overdue-p program) nil)
-    (when (listen (program-from program)) (malformed "" "more was answered than was asked"))
+    ;; To ECL an end that was not read yet can be listened to, as a character can.
+    (case (read-char-no-hang (program-from program) nil :end)
+      ((nil))
+      (:end (stop store seconds))
+      (t (malformed "" "more was answered than was asked")))
     (flet ((say ()
              (dolist (text texts) (write-line text (program-to program)))
              (finish-output (program-to program))
