@@ -113,7 +113,7 @@ WANTED = {
         b'(MAKE-DISPATCH-MACRO-CHARACTER #\\@ NIL :OTHER)\n'
         b'(SET-DISPATCH-MACRO-CHARACTER #\\@ #\\S :SCALE :OTHER)\n'
         b'(COPY-READTABLE :STANDARD :USER)\n'
-        b'(PROGN (IN-PACKAGE "COMMON-LISP-USER") (SETF *READ-BASE* 10) (IN-READTABLE :OTHER))'
+        b'(PROGN (IN-PACKAGE "COMMON-LISP-USER") (SETF *READ-BASE* 10) (IN-READTABLE :OTHER))\n'
     )),
     "export of data": (0, (
         b'(MAKE-PACKAGE "P")\n'
@@ -134,6 +134,6 @@ WANTED = {
         b'(USE-PACKAGE "P" "COMMON-LISP-USER")\n'
         b"(SETF (GET 'A 'D) '42)\n"
         b'(SETF (GET \'P::NEWONE \'P::IND) \'(1 2 "three" #\\a #(1 2) P::|odd name| #:UN))\n'
-        b'(PROGN (IN-PACKAGE "COMMON-LISP-USER"))'
+        b'(PROGN (IN-PACKAGE "COMMON-LISP-USER"))\n'
     )),
 }
