@@ -3,6 +3,7 @@ ghost use Rattle.std.specs.Prelude.{◌≡◌, ◌<◌, ◌-◌, ◌^◌, IfOk, 
 use disk_trait::{
     Crash, DeviceFault, Disk, FuseDisk, Half, HostDisk, HostError, IfMissing, MemoryDisk, OnceDisk,
 };
+use std::alloc::AllocError;
 use std::fs::{File, OpenOptions};
 use std::os::unix::fs as unix;
 use std::os::unix::fs::{MetadataExt, PermissionsExt};
@@ -132,11 +133,12 @@ fn files_are_their_owners_alone(rt: HostRuntime) -> Result<(), Fail> {
 }
 
 /// Whether the files of a folder are refused as a link, and as no regular file.
-fn refused(rt: &HostRuntime, dir: &str, if_missing: IfMissing) -> (bool, bool) {
+fn refused(rt: &HostRuntime, dir: &str, if_missing: IfMissing) -> Result<(bool, bool), AllocError> {
     match HostDisk::open_files(rt, dir, if_missing) {
-        Err(HostError::Linked) => (true, false),
-        Err(HostError::NoFile) => (false, true),
-        _ => (false, false),
+        Err(HostError::OutOfMemory) => Err(AllocError),
+        Err(HostError::Linked) => Ok((true, false)),
+        Err(HostError::NoFile) => Ok((false, true)),
+        _ => Ok((false, false)),
     }
 }
 
@@ -151,16 +153,16 @@ fn a_link_is_never_followed(rt: HostRuntime) -> Result<(), Fail> {
             fs::write(&rt, other.as_str(), "abc")?;
             fs::remove_file(&rt, path.as_str())?;
             unix::symlink(&rt, "other", path.as_str())?;
-            assert_eq!(rt; refused(&rt, dir.as_str(), if_missing), (true, false));
+            assert_eq!(rt; refused(&rt, dir.as_str(), if_missing)?, (true, false));
             fs::remove_file(&rt, path.as_str())?;
             fs::hard_link(&rt, other.as_str(), path.as_str())?;
-            assert_eq!(rt; refused(&rt, dir.as_str(), if_missing), (true, false));
+            assert_eq!(rt; refused(&rt, dir.as_str(), if_missing)?, (true, false));
             fs::remove_file(&rt, path.as_str())?;
             unix::symlink(&rt, "missing", path.as_str())?;
-            assert_eq!(rt; refused(&rt, dir.as_str(), if_missing), (true, false));
+            assert_eq!(rt; refused(&rt, dir.as_str(), if_missing)?, (true, false));
             fs::remove_file(&rt, path.as_str())?;
             fs::create_dir(&rt, path.as_str())?;
-            assert_eq!(rt; refused(&rt, dir.as_str(), if_missing), (false, true));
+            assert_eq!(rt; refused(&rt, dir.as_str(), if_missing)?, (false, true));
             fs::remove_dir(&rt, path.as_str())?;
             assert_eq!(rt; fs::read_to_string(&rt, other.as_str())?.as_str(), "abc");
         }
