@@ -3,12 +3,12 @@ use std::{fmt, io};
 
 /// A writer of text that shows each control character but the newline by its number in base 16, so that no terminal obeys it.
 #[derive(Drop)]
-pub(crate) struct Shown<'a, W> {
+pub struct Shown<'a, W> {
     writer: &'a mut W,
 }
 
 impl<'a, W> Shown<'a, W> {
-    pub(crate) fn new(writer: &'a mut W) -> Shown<'a, W> {
+    pub fn new(writer: &'a mut W) -> Shown<'a, W> {
         Shown { writer }
     }
 }

@@ -1,5 +1,5 @@
 use Rattle.std.specs.Io.KnownBytes.{Keeps}
-use Rattle.store_commands.proofs.streams.UninterruptedWrite.write.Given as goal
+use Rattle.program_streams.proofs.uninterrupted.UninterruptedWrite.write.Given as goal
 
 -- nothing was written so far
 abbrev pub invariant-again : goal.invariant-again

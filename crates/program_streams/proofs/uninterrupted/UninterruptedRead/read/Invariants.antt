@@ -1,5 +1,5 @@
 use Rattle.std.specs.Io.KnownBytes.{Keeps}
-use Rattle.store_commands.proofs.streams.UninterruptedRead.read.Given as goal
+use Rattle.program_streams.proofs.uninterrupted.UninterruptedRead.read.Given as goal
 
 -- nothing was read so far
 abbrev pub invariant-again : goal.invariant-again
