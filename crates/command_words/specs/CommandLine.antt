@@ -1,5 +1,5 @@
--- The command line of the program, as clap reads it: `run DIR [--rescue] [--strict] [--group] [--snapshot-every N]`, `snapshot DIR`, `upgrade DIR`,
--- `export DIR [--data]`, `dump DIR` and `verify DIR`, each with `--existing`.
+-- The command line of the program, as clap reads it: `run DIR [--rescue] [--strict] [--group] [--snapshot-every N] [--quiet]`, `snapshot DIR`,
+-- `upgrade DIR`, `export DIR [--data]`, `dump DIR` and `verify DIR`, each with `--existing`.
 use Rattle.std.specs.Prelude.{◌≡◌, ◌≢◌, ◌≤◌, ◌^◌, ◌-◌, ◌⊎◌, ℕ, Bool, true, false, if◌then◌else◌, List, [], ◌∷◌, ◌++◌, Option, Some, None, codes, option_map, option_and_then}
 use Rattle.std.specs.Option.{option_map_or}
 use Rattle.std.specs.Str.{bytes_eq}
@@ -57,6 +57,13 @@ every_rule = record (new_rule (codes "snapshot-every")) {
   parser = Some (Unsigned 1 1000000);
 }
 
+-- --quiet: a flag, of which a session knows nothing
+abbrev pub quiet_rule : Rule
+quiet_rule = record (new_rule (codes "quiet")) {
+  long = Some (codes "quiet");
+  action = Some SetTrue;
+}
+
 -- --existing: a flag
 abbrev pub existing_rule : Rule
 existing_rule = record (new_rule (codes "existing")) {
@@ -69,7 +76,8 @@ abbrev pub folder_line : Text → App
 folder_line name = with_rule (with_rule (new_app name) directory_rule) existing_rule
 
 abbrev pub run_line : App
-run_line = with_rule (with_rule (with_rule (with_rule (folder_line (codes "run")) rescue_rule) strict_rule) group_rule) every_rule
+run_line =
+    with_rule (with_rule (with_rule (with_rule (with_rule (folder_line (codes "run")) rescue_rule) strict_rule) group_rule) every_rule) quiet_rule
 
 -- --data: a flag
 abbrev pub data_rule : Rule
@@ -83,7 +91,7 @@ export_line = with_rule (folder_line (codes "export")) data_rule
 
 -- the program, with its commands and its version
 abbrev pub program_line : App
-program_line = on_top (λ s. record s { subcommand_required = true; has_version = true }) (new_app (codes "store_program"))
+program_line = on_top (λ s. record s { subcommand_required = true; has_version = true }) (new_app (codes "pazturrok"))
 
 abbrev pub command_line : App
 command_line =
@@ -195,7 +203,7 @@ abbrev pub IsEvery : ℕ → Text → Type 0
 IsEvery every number = IsNumeral 10 number × (digits_value 10 number ≡ every) × (1 ≤ every) × (every ≤ 1000000)
 
 -- The words of a command on this folder that asks for this. A number of snapshots beside `--existing`, `--strict` or `--group` is not
--- among them.
+-- among them, nor is `--quiet`.
 abbrev pub IsLine : List Text → Text → Bool → Task → Type 0
 IsLine words folder false (Run wanted) =
     ((wanted.snapshot_every ≡ 0) × (words ≡ codes "run" ∷ folder ∷ (flag_for wanted.mode ++ (strict_for wanted.strict ++ (group_for wanted.group ++ [])))))

@@ -1,14 +1,18 @@
-//! The words of the command line, and what they ask for: `run DIR [--rescue] [--strict] [--group] [--snapshot-every N]`,
+//! The words of the command line, and what they ask for: `run DIR [--rescue] [--strict] [--group] [--snapshot-every N] [--quiet]`,
 //! `snapshot DIR`, `upgrade DIR`, `export DIR [--data]`, `dump DIR` and `verify DIR`, each with `--existing`.
 //!
-//! `asked_in` (module `words`) finds the command, its folder and its options, or the error of `clap`; `help` has the texts of its help.
-//! The commands that only look into a store are apart: `asks_to_look` tells whether the words ask for one, and `looked_in` (module
-//! `looks`) finds it.
+//! `way_of` (module `way`) tells how what they ask for is carried out, and who has them. `asked_in` (module `words`) finds one of these
+//! commands, its folder and its options, or the error of `clap`; `looked_in` (module `looks`) does so for the commands that only look
+//! into a store, and `checked_in` (module `check`) for the one that looks into a file. `help` has the texts of the help.
 #![tactic(auto)]
 
+mod check;
 mod help;
 mod looks;
+mod way;
 mod words;
 
-pub use looks::{Look, Looked, Shown, asks_to_look, looked_in};
+pub use check::{Check, checked_in};
+pub use looks::{Look, Looked, Shown, looked_in};
+pub use way::{Way, asks_for_quiet, way_of};
 pub use words::{Asked, Report, Task, asked_in};

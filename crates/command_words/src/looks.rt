@@ -1,28 +1,24 @@
-// The words of the commands that look into a store and change nothing: `show`, `info`, `log` and `backup`, `dump --at N`, and `dump`,
-// `verify` and `export` with `--existing`.
+// The words of the commands that only look into a store: `show`, `info`, `log` and `backup`, and `dump --at N`.
 ghost use Rattle.std.specs.Prelude.{◌≡◌};
 
 use crate::help::{
-    BACKUP_HELP, BACKUP_USAGE, DUMP_HELP, DUMP_USAGE, EXPORT_HELP, EXPORT_USAGE, INFO_HELP,
-    INFO_USAGE, LOG_HELP, LOG_USAGE, SHOW_HELP, SHOW_USAGE, USAGE, VERIFY_HELP, VERIFY_USAGE,
+    BACKUP_HELP, BACKUP_USAGE, DUMP_HELP, DUMP_USAGE, INFO_HELP, INFO_USAGE, LOG_HELP, LOG_USAGE,
+    SHOW_HELP, SHOW_USAGE, USAGE,
 };
-use crate::words::{
-    DATA, DIRECTORY, DUMP, EXISTING, EXPORT, VERIFY, content_for, data_option, flag_is_set,
-};
+use crate::words::{DIRECTORY, DUMP, EXISTING, PROGRAM, flag_is_set};
 use clap::builder::ValueParser;
 use clap::error::ErrorKind;
 use clap::{Arg, ArgAction, ArgMatches, Command, Error};
 use std::alloc::{AllocError, Global};
 use std::convert::AsStr;
-use world_forms::Content;
 
-const SHOW: &str = "show";
+pub(crate) const SHOW: &str = "show";
 
-const INFO: &str = "info";
+pub(crate) const INFO: &str = "info";
 
-const LOG: &str = "log";
+pub(crate) const LOG: &str = "log";
 
-const BACKUP: &str = "backup";
+pub(crate) const BACKUP: &str = "backup";
 
 const PACKAGE: &str = "package";
 
@@ -49,12 +45,8 @@ pub enum Look<'a> {
     Log(u64),
     /// The world, of which a new store is made in this folder.
     Backup(&'a str),
-    /// The text of the world, or of that after its first so many records.
-    Dump(Option<u64>),
-    /// The line on the half in use.
-    Verify,
-    /// The forms that make the world.
-    Export(Content),
+    /// The text of the world after so many records of the half in use.
+    Dump(u64),
 }
 
 /// Which properties are shown, and how.
@@ -76,44 +68,6 @@ pub struct Looked<'a> {
     /// The folder of the store.
     pub folder: &'a str,
     pub look: Look<'a>,
-}
-
-/// Whether the words ask for a look: the name of such a command comes first, or that of `dump`, `verify` or `export` with its option.
-pub fn asks_to_look<S: AsStr>(words: &[S]) -> bool {
-    let Some(command) = words.get(1) else {
-        return false;
-    };
-    let name = command.as_str();
-    let options = &words[2..];
-    match name {
-        SHOW | INFO | LOG | BACKUP => true,
-        "help" => options
-            .first()
-            .is_some_and(|word| is_of_looks(word.as_str())),
-        DUMP => has_option(options, "--existing") || has_option(options, "--at"),
-        VERIFY | EXPORT => has_option(options, "--existing"),
-        _ => false,
-    }
-}
-
-// Whether a command of this name does nothing but look.
-fn is_of_looks(name: &str) -> bool {
-    matches!(name, SHOW | INFO | LOG | BACKUP)
-}
-
-// Whether an option is among words, alone or before its value. After two hyphens there are no options.
-fn has_option<S: AsStr>(words: &[S], option: &str) -> bool {
-    for word in words {
-        let word = word.as_str();
-        if word == "--" {
-            return false;
-        }
-        let value = word.strip_prefix(option);
-        if value.is_some_and(|value| value.is_empty() || value.starts_with('=')) {
-            return true;
-        }
-    }
-    false
 }
 
 /// What the words ask to look at: they are the program's name and such a command with its folder and its options.
@@ -160,16 +114,14 @@ fn look_for<'a>(name: &str, found: &ArgMatches<'a>) -> Option<Look<'a>> {
         INFO => Some(Look::Info),
         LOG => Some(Look::Log(found.get_one::<u64>(FROM).unwrap_or(1))),
         BACKUP => Some(Look::Backup(found.get_str(DESTINATION)?)),
-        DUMP => Some(Look::Dump(found.get_one::<u64>(AT))),
-        VERIFY => Some(Look::Verify),
-        EXPORT => Some(Look::Export(content_for(found.get_str(DATA)))),
+        DUMP => Some(Look::Dump(found.get_one::<u64>(AT)?)),
         _ => None,
     }
 }
 
 // The program with these commands alone.
 fn looking_command<'a>(alloc: Global) -> Result<Command<'a>, AllocError> {
-    let command = Command::new(alloc, "store_program")
+    let command = Command::new(alloc, PROGRAM)
         .override_usage(USAGE)
         .subcommand_required(true);
     let command = command.subcommand(show_command(alloc)?)?;
@@ -177,13 +129,7 @@ fn looking_command<'a>(alloc: Global) -> Result<Command<'a>, AllocError> {
     let command = command.subcommand(folder_command(alloc, INFO, about, INFO_USAGE, INFO_HELP)?)?;
     let command = command.subcommand(log_command(alloc)?)?;
     let command = command.subcommand(backup_command(alloc)?)?;
-    let command = command.subcommand(dump_command(alloc)?)?;
-    let about = "Tells the half in use, its generation and how many records it has";
-    let verify = folder_command(alloc, VERIFY, about, VERIFY_USAGE, VERIFY_HELP)?;
-    let command = command.subcommand(verify)?;
-    let about = "Writes the forms that make the world";
-    let export = folder_command(alloc, EXPORT, about, EXPORT_USAGE, EXPORT_HELP)?;
-    command.subcommand(export.arg(data_option(alloc))?)
+    command.subcommand(dump_command(alloc)?)
 }
 
 // A command with its folder.
@@ -195,12 +141,12 @@ fn folder_command<'a>(
     help: &'a str,
 ) -> Result<Command<'a>, AllocError> {
     let directory = Arg::new(alloc, DIRECTORY)
-        .help("The folder of the store; nothing in it is locked or written")
+        .help("The folder of the store")
         .required(true)
         .action(ArgAction::Set);
     let existing = Arg::new(alloc, EXISTING)
         .long(EXISTING)
-        .help("A store that is looked at has to be there anyhow")
+        .help("Refuse a folder that holds no store, and only look")
         .action(ArgAction::SetTrue);
     let command = Command::new(alloc, name)
         .about(about)

@@ -4,7 +4,7 @@ ghost use Rattle.clap.specs.Words.{FailsBy, Text, app_of, found_of, kind_of, row
 ghost use Rattle.clap.specs.declared.builder.command.Command.TheViews.{out-Command as fields_of};
 ghost use Rattle.clap.specs.declared.error.kind.ErrorKind.TheVariants.{MissingRequiredArgument, OutOfMemory};
 ghost use Rattle.command_words.specs.declared.words.Task.{Task};
-ghost use Rattle.command_words.specs.CommandLine.{asked_in, asked_of, command_line, content_of_flag, data_rule, every_in, every_rule, existing_rule, export_line, faults_of, folder_line, group_rule, is_set, mode_of_flag, program_line, rescue_rule, run_line, strict_rule, task_of, wanted_of, AsksFor};
+ghost use Rattle.command_words.specs.CommandLine.{asked_in, asked_of, command_line, content_of_flag, data_rule, every_in, every_rule, existing_rule, export_line, faults_of, folder_line, group_rule, is_set, mode_of_flag, program_line, quiet_rule, rescue_rule, run_line, strict_rule, task_of, wanted_of, AsksFor};
 
 use crate::help::{
     DUMP_HELP, DUMP_USAGE, EXPORT_HELP, EXPORT_USAGE, PROGRAM_HELP, RUN_HELP, RUN_USAGE,
@@ -18,10 +18,13 @@ use std::alloc::{AllocError, Global};
 use std::convert::AsStr;
 use world_forms::Content;
 
+/// The name of the program.
+pub(crate) const PROGRAM: &str = "pazturrok";
+
 /// The version of the program, and of the files that it writes.
 const PROGRAM_VERSION: &str = "0.1.0, files of version 2";
 
-const RUN: &str = "run";
+pub(crate) const RUN: &str = "run";
 
 const SNAPSHOT: &str = "snapshot";
 
@@ -44,6 +47,8 @@ const RESCUE: &str = "rescue";
 const STRICT: &str = "strict";
 
 const GROUP: &str = "group";
+
+const QUIET: &str = "quiet";
 
 const EVERY: &str = "snapshot-every";
 
@@ -141,6 +146,15 @@ fn group_option<'a>(alloc: Global) -> Arg<'a>
         .action(ArgAction::SetTrue)
 }
 
+fn quiet_option<'a>(alloc: Global) -> Arg<'a>
+    ensures { (rule_of result ≡ quiet_rule) × (result.global ≡ false) }
+{
+    Arg::new(alloc, QUIET)
+        .long(QUIET)
+        .help("Write the refusals alone, and at the end a count to standard error")
+        .action(ArgAction::SetTrue)
+}
+
 fn every_option<'a>(alloc: Global) -> Arg<'a>
     ensures { (rule_of result ≡ every_rule) × (result.global ≡ false) }
 {
@@ -179,7 +193,8 @@ fn run_command<'a>(alloc: Global) -> Result<Command<'a>, AllocError>
     let command = command.arg(rescue_option(alloc))?;
     let command = command.arg(strict_option(alloc))?;
     let command = command.arg(group_option(alloc))?;
-    command.arg(every_option(alloc))
+    let command = command.arg(every_option(alloc))?;
+    command.arg(quiet_option(alloc))
 }
 
 // The program without its commands.
@@ -187,11 +202,10 @@ fn bare_command<'a>(alloc: Global) -> Command<'a>
     ensures line { app_of result ≡ program_line }
     ensures local { (fields_of result).has_globals ≡ false }
 {
-    Command::new(alloc, "store_program")
+    Command::new(alloc, PROGRAM)
         .version(PROGRAM_VERSION)
-        .about("A store for Lisp forms that keeps what it has answered")
         .override_usage(USAGE)
-        .after_help(PROGRAM_HELP)
+        .override_help(PROGRAM_HELP)
         .subcommand_required(true)
 }
 

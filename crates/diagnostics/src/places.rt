@@ -47,8 +47,8 @@ pub(crate) struct Given {
 }
 
 impl Spot {
-    // The beginning of a text.
-    fn first() -> Spot
+    /// The beginning of a text.
+    pub fn first() -> Spot
         ensures { IsSpotAfter result [] }
     {
         Spot {
@@ -75,8 +75,8 @@ impl Spot {
         })
     }
 
-    // After the bytes of a text more.
-    fn through(self, text: &[u8]) -> Option<Spot>
+    /// After the bytes of a text more, unless there are more than a number of 64 bits counts.
+    pub fn through(self, text: &[u8]) -> Option<Spot>
         ensures { IfSome result (IsMoved self text.now) }
     {
         let mut spot = self;

@@ -20,7 +20,7 @@ abbrev pub setting_under : Table → ℕ → Packages → Name → Functions →
 setting_under table base packages current functions = setting_of form_limits table base packages current functions
 
 -- what comes after the first end of a line
-pub after_line : List ℕ → List ℕ
+unfoldable pub after_line : List ℕ → List ℕ
 after_line [] = []
 after_line (c ∷ cs) = if c == 10 then cs else after_line cs
 

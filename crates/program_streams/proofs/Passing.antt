@@ -7,11 +7,13 @@ use Rattle.program_streams.specs.declared.answer_text.At.{At}
 -- one byte more
 pub come_further : (at new come : At) (bytes : List ℕ) (i d : ℕ) → i < length bytes → new ≡ after at (get_or bytes i d)
     → after_all at (drop i bytes) ≡ come → after_all new (drop (i + 1) bytes) ≡ come
+unfolding after_all
 come_further at new come bytes i d within is so_far =
     ap (λ a. after_all a (drop (i + 1) bytes)) is ∙ sym (at_drop_more (after_all at) bytes i d within) ∙ so_far
 
 pub passed_further : (at new : At) (had has bytes whole : List ℕ) (i d : ℕ) → i < length bytes → new ≡ after at (get_or bytes i d)
     → has ≡ had ++ passed at (get_or bytes i d) → had ++ refusals_in at (drop i bytes) ≡ whole → has ++ refusals_in new (drop (i + 1) bytes) ≡ whole
+unfolding refusals_in
 passed_further at new had has bytes whole i d within is more so_far =
     ap (λ z. z ++ refusals_in new (drop (i + 1) bytes)) more
     ∙ append_assoc had (passed at (get_or bytes i d)) (refusals_in new (drop (i + 1) bytes))
@@ -21,8 +23,10 @@ passed_further at new had has bytes whole i d within is more so_far =
 
 -- at the end
 pub come_to_end : (at come : At) (bytes : List ℕ) (i : ℕ) → length bytes ≤ i → after_all at (drop i bytes) ≡ come → at ≡ come
+unfolding after_all
 come_to_end at come bytes i far so_far = sym (at_drop_all (after_all at) bytes i far) ∙ so_far
 
 pub passed_at_end : (at : At) (has bytes whole : List ℕ) (i : ℕ) → length bytes ≤ i → has ++ refusals_in at (drop i bytes) ≡ whole → has ≡ whole
+unfolding refusals_in
 passed_at_end at has bytes whole i far so_far =
     sym (append-nil has) ∙ ap (λ z. has ++ z) (sym (at_drop_all (refusals_in at) bytes i far)) ∙ so_far

@@ -47,12 +47,12 @@ passed Refusal byte = byte ∷ []
 passed _ byte = []
 
 -- where the text has come to after these bytes
-pub after_all : At → List ℕ → At
+unfoldable pub after_all : At → List ℕ → At
 after_all at [] = at
 after_all at (byte ∷ bytes) = after_all (after at byte) bytes
 
 -- the refusals among these bytes, each from where its exclamation mark and its space are there
-pub refusals_in : At → List ℕ → List ℕ
+unfoldable pub refusals_in : At → List ℕ → List ℕ
 refusals_in at [] = []
 refusals_in at (byte ∷ bytes) = passed at byte ++ refusals_in (after at byte) bytes
 

@@ -58,6 +58,29 @@ impl<'a, R: Clock, I, T> Progress<'a, R, I, T> {
     }
 }
 
+impl<'a, R, I, T> Progress<'a, R, I, T> {
+    /// The same, of which nothing is told.
+    pub fn silent(
+        clock: &'a R,
+        input: I,
+        terminal: T,
+        stands: &'a Cell<bool>,
+    ) -> Progress<'a, R, I, T>
+        ensures { result.input ≡ input }
+    {
+        Progress {
+            input,
+            clock,
+            terminal,
+            stands,
+            whole: None,
+            given: 0,
+            began: None,
+            next: Duration::from_millis(PATIENCE),
+        }
+    }
+}
+
 impl<R: Clock, I, T: Write> Progress<'_, R, I, T> {
     // Tells how far it is, if it is time.
     fn tell(&mut self)

@@ -95,22 +95,19 @@ impl<'a, O> Refusals<'a, O> {
     }
 }
 
-impl<O: Write> Refusals<'_, O> {
-    // Hands on what is to be.
-    fn hand_on(&mut self) -> io::Result<()>
-        ensures at { self.new.at ≡ self.old.at }
-        ensures written { OnOk result (Gets (O.contents self.old.output) (O.contents self.new.output) self.old.refusals.items) }
-    {
-        let mut rest = self.refusals.as_slice();
-        'pieces: while !rest.is_empty() {
-            let count = self.output.write(rest)?;
-            if count == 0 {
-                return Err(ErrorKind::WriteZero.into());
-            }
-            rest = &rest[count..];
+// Writes a text whole, or a part of it from its front.
+fn write_whole<O: Write>(output: &mut O, text: &[u8]) -> io::Result<()>
+    ensures { OnOk result (Gets (O.contents output.old) (O.contents output.new) text.now) }
+{
+    let mut rest = text;
+    'pieces: while !rest.is_empty() {
+        let count = output.write(rest)?;
+        if count == 0 {
+            return Err(ErrorKind::WriteZero.into());
         }
-        Ok(())
+        rest = &rest[count..];
     }
+    Ok(())
 }
 
 impl<O: Write> Write for Refusals<'_, O> {
@@ -126,7 +123,7 @@ impl<O: Write> Write for Refusals<'_, O> {
             (refusals_in self.old.at buf.now)) }
     {
         self.note_all(buf)?;
-        self.hand_on()?;
+        write_whole(&mut self.output, self.refusals.as_slice())?;
         Ok(buf.len())
     }
 

@@ -1,6 +1,5 @@
 pub mod AtTerminal
 pub mod FolderLaws
-pub mod Interrupted
 pub mod Reports
 pub mod SessionLaws
 pub mod Snapshots

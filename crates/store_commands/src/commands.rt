@@ -15,7 +15,6 @@ use crate::folders::{Folders, TellsCause, open_folder};
 use crate::report::report_on;
 use crate::session::serve_on;
 use crate::sessions::sessions_on;
-use crate::shown::Shown;
 use crate::snapshot::snapshot_on;
 use crate::status::Status;
 use crate::terminal::Sessions;
@@ -28,6 +27,7 @@ use disk_trait::{Disk, HostError};
 use lisp_object::refusal::{INPUT, NO_MEMORY, OUTPUT};
 use plist_state::Seed;
 use prevalence_store::{Unopened, Wanted};
+use program_streams::Shown;
 use std::alloc::Global;
 use std::convert::AsStr;
 use std::fmt::Write as WriteText;
@@ -219,12 +219,8 @@ where
     }
 }
 
-// Words that gave no command: the text on them is written.
-pub(crate) fn answer_words<O: Write, F: Write>(
-    error: &Error,
-    output: &mut O,
-    faults: &mut F,
-) -> Status
+/// Words that gave no command: the text on them is written, help to `output` and another one to `faults`.
+pub fn answer_words<O: Write, F: Write>(error: &Error, output: &mut O, faults: &mut F) -> Status
     ensures status { IsAfterWords (kind_of error.now) result }
     ensures of_words { IsOfWords result }
     ensures refused { result ≡ Status.WordsRefused → output.new ≡ output.old }

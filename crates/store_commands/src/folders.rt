@@ -94,8 +94,8 @@ fn open_existing<R: Folders>(rt: &R, folder: &str) -> Result<R::Disk, HostError>
     }
 }
 
-// Whether one of both files is an open half.
-pub(crate) fn holds_store<D: Disk>(disk: &mut D) -> Result<bool, DeviceFault>
+/// Whether one of both files is an open half.
+pub fn holds_store<D: Disk>(disk: &mut D) -> Result<bool, DeviceFault>
     requires { (D.state disk.old).failures < 2 ^ 64 - 1 }
     ensures { LooksWhether HoldsStore (D.state disk.old) (D.state disk.new) result }
 {

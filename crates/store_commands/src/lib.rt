@@ -7,13 +7,11 @@
 //!   writes the forms that make the world, and `report_on` writes what is told of a store (modules `session`, `snapshot`, `upgrade`,
 //!   `export` and `report`).
 //! - `sessions_on` serves sessions in a row (module `sessions`), and `terminal` has the input that asks for them, with its prompts.
-//! - `answers` has an output that tells what was answered, and an input that knows whether anything was; `streams` has streams on which
-//!   a signal ends no session, and `shown` a writer that lets no control character through to a terminal.
+//! - `answers` has an output that tells what was answered, and an input that knows whether anything was.
 //! - `command_words` has the command line; `diagnostics` writes the line of a fault, and that on the refusal that ended a session, and
 //!   has the input that tells lines and columns; `half_line` writes that on the half in use.
-//! - `look` looks into a store that may be served meanwhile: `show`, `info`, `log`, `backup`, and the reports with `--existing`
-//!   (module `looks`, over `log_look` and `store_reports`).
-//! - `folders` has what opens the files of a folder, and the disk that they are. `existing_stores_are_open` (module `laws`): with
+//! - `folders` has what opens the files of a folder, and the disk that they are; `looking` opens what they hold at one moment in their
+//!   place, for reports on a store that may be served meanwhile. `existing_stores_are_open` (module `laws`): with
 //!   `--existing` one of both files of an honest disk is a half in use.
 #![tactic(auto)]
 
@@ -23,36 +21,33 @@ mod export;
 mod folders;
 mod half_line;
 mod laws;
-mod looks;
+mod looking;
 mod report;
 mod session;
 mod sessions;
-mod shown;
 mod snapshot;
 mod status;
-mod streams;
 mod terminal;
 mod told;
 mod upgrade;
 
 pub use answers::{Answers, Heard, Piped};
-pub use command_words::{Report, Task, asks_to_look};
-pub use commands::{program, program_at_terminal};
+pub use command_words::{Report, Task};
+pub use commands::{answer_words, program, program_at_terminal};
 pub use diagnostics::{
     Lines, Places, Refusal, Spot, Spots, Unwritten, write_fault, write_fault_with_cause,
     write_refusal,
 };
 pub use export::export_on;
-pub use folders::{Folders, TellsCause};
+pub use folders::{Folders, TellsCause, holds_store};
 pub use half_line::write_half_line;
 pub use laws::existing_stores_are_open;
-pub use looks::look;
-pub use report::report_on;
+pub use looking::Looking;
+pub use report::{report_on, status_of_output};
 pub use session::{HALF_LIMIT, serve_on};
 pub use sessions::sessions_on;
 pub use snapshot::snapshot_on;
 pub use status::Status;
-pub use streams::Uninterrupted;
 pub use terminal::{Sessions, Terminal};
-pub use told::end_with;
+pub use told::{Told, end_with, end_with_told};
 pub use upgrade::upgrade_on;

@@ -110,7 +110,7 @@ pub(crate) fn write_half<D: Disk, M: MacroFunctions, O: Write>(
 }
 
 /// How the program ends after a text that was written.
-pub(crate) fn status_of_output(written: Result<(), Unwritten>) -> Status
+pub fn status_of_output(written: Result<(), Unwritten>) -> Status
     ensures { result ≡ status_of_output written }
 {
     match written {

@@ -37,7 +37,7 @@ pub fn end_with<F: Write>(faults: &mut F, status: Status) -> Status
 /// Ends so: after a fault its line is written, and after one of the device a line with the cause, if it is known; after an export
 /// what was left out of it; after a refusal that ended the session the line on it; and a line after a strict session that answered
 /// nothing.
-pub(crate) fn end_with_told<F: Write>(faults: &mut F, status: Status, told: &Told) -> Status
+pub fn end_with_told<F: Write>(faults: &mut F, status: Status, told: &Told) -> Status
     ensures status { result ≡ status }
     ensures told { TellsFault status told.now (F.contents faults.old) (F.contents faults.new) }
     ensures quiet { IsQuiet status ⊎ (status ≡ Status.WordsRefused) → faults.new ≡ faults.old }

@@ -6,18 +6,23 @@ ghost use Rattle.std.specs.Prelude.{◌≡◌, true, IfErr, is_ok};
 ghost use Rattle.user_macros.specs.Sound.{IsSoundCall};
 ghost use Rattle.user_macros.specs.Functions.{are_registered};
 
+use command_words::{Way, asks_for_quiet, way_of};
 use lisp_object::refusal::NO_MEMORY;
+use program_streams::{Cleared, Counts, Progress, Refusals, Uninterrupted};
 use readtable_core::FnName;
 use six_functions::{SixFunctions, macro_functions};
 use std::alloc::AllocError;
 use std::cell::Cell;
-use std::env;
 use std::io::{ErrorKind, IsTerminal, Write};
+use std::path::Path;
 use std::process::ExitCode;
+use std::random::RandomSource;
+use std::{env, fs};
 use store_commands::{
-    Answers, Heard, Lines, Piped, Status, Terminal, Uninterrupted, asks_to_look, end_with, look,
-    program, program_at_terminal,
+    Answers, Folders, Heard, Lines, Looking, Piped, Status, Terminal, end_with, program,
+    program_at_terminal,
 };
+use store_looks::{check, look};
 use user_macros::{Answer, Call, Cause, MacroFn, MacroFunctions, Macros, Refusal};
 
 // The words that the program was started with, or the status where they are not had: they are no text, or there is no memory.
@@ -37,17 +42,7 @@ fn serve<M: MacroFunctions + Drop, F: Write>(rt: &HostRuntime, macros: M, faults
     requires whole { are_registered M.Meaning.functions (M.functions macros) ≡ true }
 {
     match words_given(rt) {
-        Ok(words) if asks_to_look(words.as_slice()) => look(
-            rt,
-            macros,
-            words.as_slice(),
-            &mut Uninterrupted::new(rt.stdout()),
-            faults,
-        ),
-        Ok(words) if rt.stdin().is_terminal() => {
-            serve_at_terminal(rt, macros, words.as_slice(), faults)
-        }
-        Ok(words) => serve_pipe(rt, macros, words.as_slice(), faults),
+        Ok(words) => serve_words(rt, macros, words.as_slice(), faults),
         Err(Status::WordsRefused) => {
             let _ = writeln!(faults, "error: a word of the command line is no text");
             Status::WordsRefused
@@ -56,8 +51,8 @@ fn serve<M: MacroFunctions + Drop, F: Write>(rt: &HostRuntime, macros: M, faults
     }
 }
 
-// The same where standard input is no terminal.
-fn serve_pipe<M: MacroFunctions + Drop, F: Write>(
+// The same with these words.
+fn serve_words<M: MacroFunctions + Drop, F: Write>(
     rt: &HostRuntime,
     macros: M,
     words: &[String],
@@ -65,18 +60,110 @@ fn serve_pipe<M: MacroFunctions + Drop, F: Write>(
 ) -> Status
     requires answers { M.answers macros }
 {
-    let heard = Cell::new(Heard::Nothing);
-    let lines = Lines::new(rt.alloc(), Uninterrupted::new(rt.stdin()));
-    let mut input = Piped::new(lines, &heard);
-    let mut output = Answers::new(Uninterrupted::new(rt.stdout()), &heard);
-    program(rt, macros, words, &mut input, &mut output, faults)
+    let mut output = Uninterrupted::new(rt.stdout());
+    match way_of(words) {
+        Way::Look => look(rt, macros, words, &mut output, faults),
+        Way::Check => {
+            let mut input = Uninterrupted::new(rt.stdin());
+            check(rt, macros, words, &mut input, &mut output, faults)
+        }
+        Way::See => serve_pipe(rt, &Looking::new(rt), macros, words, output),
+        Way::Serve if asks_for_quiet(words) => serve_quietly(rt, macros, words, faults),
+        Way::Serve => serve_streams(rt, macros, words, output, faults),
+    }
 }
 
-// The same at a terminal, whose prompts go to standard error.
-fn serve_at_terminal<M: MacroFunctions + Drop, F: Write>(
+// The same with refusals alone on standard output, and a count at the end on standard error.
+fn serve_quietly<M: MacroFunctions + Drop, F: Write>(
     rt: &HostRuntime,
     macros: M,
     words: &[String],
+    faults: &mut F,
+) -> Status
+    requires answers { M.answers macros }
+{
+    let counts = Cell::new(Counts::new());
+    let output = Refusals::new(rt.alloc(), Uninterrupted::new(rt.stdout()), &counts);
+    let status = serve_streams(rt, macros, words, output, faults);
+    match status {
+        Status::Helped | Status::WordsRefused => {}
+        _ => {
+            let Counts { values, refusals } = counts.get();
+            let forms = values.saturating_add(refusals);
+            let _ = writeln!(
+                faults,
+                "{forms} forms were answered, {refusals} of them refused"
+            );
+        }
+    }
+    status
+}
+
+// The same with this output.
+fn serve_streams<M: MacroFunctions + Drop, O: Write + Drop, F: Write>(
+    rt: &HostRuntime,
+    macros: M,
+    words: &[String],
+    output: O,
+    faults: &mut F,
+) -> Status
+    requires answers { M.answers macros }
+{
+    if rt.stdin().is_terminal() {
+        return serve_at_terminal(rt, macros, words, output, faults);
+    }
+    serve_pipe(rt, rt, macros, words, output)
+}
+
+// The same where standard input is no terminal, and folders are opened by another system. At a terminal standard error has a line on how far
+// it is.
+fn serve_pipe<R, M, O>(
+    rt: &HostRuntime,
+    folders: &R,
+    macros: M,
+    words: &[String],
+    output: O,
+) -> Status
+where
+    R: Folders + RandomSource + AllocGlobal,
+    M: MacroFunctions + Drop,
+    O: Write + Drop,
+    requires answers { M.answers macros }
+{
+    let (heard, stands) = (Cell::new(Heard::Nothing), Cell::new(false));
+    let stdin = Uninterrupted::new(rt.stdin());
+    let progress = if is_told(rt, words) {
+        Progress::new(rt, stdin, rt.stderr(), &stands, size_of_input(rt))
+    } else {
+        Progress::silent(rt, stdin, rt.stderr(), &stands)
+    };
+    let mut input = Piped::new(Lines::new(rt.alloc(), progress), &heard);
+    let mut output = Answers::new(output, &heard);
+    let mut faults = Cleared::new(rt.stderr(), &stands);
+    let status = program(folders, macros, words, &mut input, &mut output, &mut faults);
+    faults.clear();
+    status
+}
+
+// Whether standard error has a line on how far it is: at a terminal that gets no answers.
+fn is_told(rt: &HostRuntime, words: &[String]) -> bool {
+    rt.stderr().is_terminal() && (asks_for_quiet(words) || !rt.stdout().is_terminal())
+}
+
+// How many bytes standard input has, if it is a file.
+fn size_of_input(rt: &HostRuntime) -> Option<u64> {
+    match fs::metadata(rt, Path::new("/dev/stdin")) {
+        Ok(file) if file.is_file() => Some(file.len()),
+        _ => None,
+    }
+}
+
+// The same at a terminal, whose prompts go to standard error.
+fn serve_at_terminal<M: MacroFunctions + Drop, O: Write + Drop, F: Write>(
+    rt: &HostRuntime,
+    macros: M,
+    words: &[String],
+    output: O,
     faults: &mut F,
 ) -> Status
     requires answers { M.answers macros }
@@ -84,7 +171,7 @@ fn serve_at_terminal<M: MacroFunctions + Drop, F: Write>(
     let heard = Cell::new(Heard::Nothing);
     let lines = Lines::new(rt.alloc(), Uninterrupted::new(rt.stdin()));
     let mut input = Terminal::new(lines, rt.stderr(), &heard);
-    let mut output = Answers::new(Uninterrupted::new(rt.stdout()), &heard);
+    let mut output = Answers::new(output, &heard);
     program_at_terminal(rt, macros, words, &mut input, &mut output, faults)
 }
 

@@ -4,13 +4,13 @@ use Rattle.program_streams.proofs.refusals.Refusals.note_all.Goals as goal
 
 pub loop-byte-preserved : goal.loop-byte-preserved
 loop-byte-preserved g c = (
-    c.note.ensures.output ∙ c.loop-byte.invariant.0,
-    come_further _ _ _ _ _ 0 c.loop-byte-test.true c.in_ok-note.ensures.at c.loop-byte.invariant.1,
-    passed_further _ _ _ _ _ _ _ 0 c.loop-byte-test.true c.in_ok-note.ensures.at c.in_ok-note.ensures.refusals c.loop-byte.invariant.2,
-  )
+  c.note.ensures.output ∙ c.loop-byte.invariant.0,
+  come_further _ _ _ _ _ 0 c.loop-byte-test.true c.in_ok-note.ensures.at c.loop-byte.invariant.1,
+  passed_further _ _ _ _ _ _ _ 0 c.loop-byte-test.true c.in_ok-note.ensures.at c.in_ok-note.ensures.refusals c.loop-byte.invariant.2,
+)
 
 pub returns-clause-at : goal.returns-clause-at
-returns-clause-at g c = come_to_end _ _ _ _ (omega (arith, c.loop-byte-test.false)) c.loop-byte.invariant.1
+returns-clause-at g c = come_to_end c.loop-byte.self.at _ c.args.bytes.now c.loop-byte.byte-index (omega (arith, c.loop-byte-test.false)) c.loop-byte.invariant.1
 
 pub returns-clause-refusals : goal.returns-clause-refusals
-returns-clause-refusals g c = passed_at_end _ _ _ _ _ (omega (arith, c.loop-byte-test.false)) c.loop-byte.invariant.2
+returns-clause-refusals g c = passed_at_end c.loop-byte.self.at c.loop-byte.self.refusals.items c.args.bytes.now _ c.loop-byte.byte-index (omega (arith, c.loop-byte-test.false)) c.loop-byte.invariant.2

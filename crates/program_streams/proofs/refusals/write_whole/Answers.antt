@@ -1,15 +1,12 @@
 use Rattle.std.proofs.Common.{◌++◌, take, Some, ap, ◌∙◌, append_assoc, arith}
 use Rattle.program_streams.proofs.Written.{appended, piece_written}
-use Rattle.program_streams.proofs.refusals.Refusals.hand_on.Goals as goal
+use Rattle.program_streams.proofs.refusals.write_whole.Goals as goal
 
 pub pieces-preserved : goal.pieces-preserved
-pieces-preserved g c = (
-    c.pieces.invariant.0,
-    λ held known.
-    let far = c.pieces.invariant.1 held known in
+pieces-preserved g c = λ held known.
+    let far = c.pieces.invariant held known in
     let n = c.in_ok-count.count in (
       far.0 ++ take n c.pieces.rest.now,
-      piece_written _ far.0 c.pieces.rest.now n (omega (arith, c.in_ok-count.ensures.bound)) far.1,
+      piece_written c.args.text.now far.0 c.pieces.rest.now n (omega (arith, c.in_ok-count.ensures.bound)) far.1,
       appended _ _ _ _ far.2 c.in_ok-count.ensures.bytes ∙ ap (λ z. Some z) (append_assoc held far.0 (take n c.pieces.rest.now)),
-    ),
-  )
+    )

@@ -1,21 +1,16 @@
 // Looks into the store of a folder: what is told of it with no lock and no right to write, also while it is served.
-ghost use Rattle.std.specs.Prelude.{◌≡◌, ◌⊎◌, ◌<◌, ◌-◌, ◌^◌, IfOk};
+ghost use Rattle.std.specs.Prelude.{◌≡◌, ◌<◌, ◌-◌, ◌^◌, IfOk, IfErr};
 ghost use Rattle.store_commands.specs.Status.{IsQuiet};
 ghost use Rattle.store_commands.specs.Told.{TellsFault};
 ghost use Rattle.store_commands.specs.declared.told.Told.{Told};
+ghost use Rattle.store_looks.specs.Looks.{EndsUnlooked, Prints, PrintsText};
 
-use crate::commands::answer_words;
-use crate::export::export_on;
-use crate::folders::holds_store;
-use crate::report::{report_on, status_of_output};
-use crate::session::HALF_LIMIT;
-use crate::status::Status;
-use crate::told::{Told, end_with, end_with_told};
+use crate::unlooked::Unlooked;
 use command_words::{Look, Looked, Report, Shown, looked_in};
 use diagnostics::write_out;
 use disk_trait::{Disk, HostError};
-use lisp_object::refusal::{DAMAGED, DEVICE, INPUT, NO_MEMORY, VERSION};
-use log_look::{HostFiles, LogError, Sight, cut_after, look_into};
+use lisp_object::refusal::{INPUT, NO_MEMORY};
+use log_look::{HostFiles, Sight, cut_after, look_into};
 use plist_state::Seed;
 use prevalence_store::Store;
 use std::alloc::{AllocError, Global};
@@ -26,78 +21,20 @@ use std::io::Write;
 use std::random::RandomSource;
 use std::rt::Files;
 use std::time::Clock;
+use store_commands::{
+    HALF_LIMIT, Status, Told, answer_words, end_with, end_with_told, holds_store, report_on,
+    status_of_output,
+};
 use store_reports::{
     BackupError, Layout, Selection, ShowError, backup, half_figures, info, log_lines, show,
 };
 use user_macros::MacroFunctions;
 
-/// Why nothing is told of a store.
-#[derive(Drop)]
-enum Unlooked {
-    /// A fault, with its number.
-    Fault(u16),
-    /// The files are not there, or a call of the system failed.
-    Host(HostError),
-    /// What is asked for is not in the world.
-    Show(ShowError),
-    /// There are not so many records.
-    PastTheEnd(LogError),
-    /// There is something where the new store would be.
-    Exists(BackupError),
-}
-
-impl From<HostError> for Unlooked {
-    fn from(error: HostError) -> Unlooked {
-        Unlooked::Host(error)
-    }
-}
-
-impl From<AllocError> for Unlooked {
-    fn from(_error: AllocError) -> Unlooked {
-        Unlooked::Fault(NO_MEMORY)
-    }
-}
-
-impl From<ShowError> for Unlooked {
-    fn from(error: ShowError) -> Unlooked {
-        match error {
-            ShowError::OutOfMemory => Unlooked::Fault(NO_MEMORY),
-            error => Unlooked::Show(error),
-        }
-    }
-}
-
-impl From<LogError> for Unlooked {
-    fn from(error: LogError) -> Unlooked {
-        match error {
-            LogError::OutOfMemory => Unlooked::Fault(NO_MEMORY),
-            LogError::DeviceFault => Unlooked::Fault(DEVICE),
-            LogError::Damaged => Unlooked::Fault(DAMAGED),
-            LogError::UnknownVersion => Unlooked::Fault(VERSION),
-            error => Unlooked::PastTheEnd(error),
-        }
-    }
-}
-
-impl From<BackupError> for Unlooked {
-    fn from(error: BackupError) -> Unlooked {
-        match error {
-            BackupError::OutOfMemory => Unlooked::Fault(NO_MEMORY),
-            BackupError::Host(error) => Unlooked::Host(error),
-            BackupError::Refused(number) => Unlooked::Fault(number),
-            BackupError::Differs => Unlooked::Host(HostError::System(io::Error::new(
-                io::ErrorKind::Other,
-                "the backup has another world than the store",
-            ))),
-            error => Unlooked::Exists(error),
-        }
-    }
-}
-
-/// Looks into the store in a folder, as the words ask (`asks_to_look` of `command_words`), and answers how that ended. The first word is
-/// the program's name. No file of the store is locked, made or written, and nothing is read but these.
+/// Looks into the store in a folder, as the words ask (`Way::Look` of `command_words`), and answers how that ended. The first word is the
+/// program's name. No file of the store is locked, made or written, and nothing is read but these.
 ///
-/// What was asked for and is not there, as a package, a record or a free place for a backup, is status 2, with a sentence on `faults`.
+/// What was asked for and is not there, as a package, a record or a free place for a backup, is status 2, with a sentence on `faults`, and
+/// nothing is written to `output` then, nor after a fault but one of the output.
 pub fn look<R, M, S, O, F>(rt: &R, macros: M, words: &[S], output: &mut O, faults: &mut F) -> Status
 where
     R: Files<File = File> + RandomSource + Clock + AllocGlobal,
@@ -106,12 +43,13 @@ where
     O: Write,
     F: Write,
     requires answers { M.answers macros }
+    ensures prints { Prints O.contents output.old output.new result }
     ensures told { (told : Told) × TellsFault result told (F.contents faults.old) (F.contents faults.new) }
     ensures quiet { IsQuiet result → faults.new ≡ faults.old }
 {
     match looked_in(rt.alloc(), words) {
         Ok(looked) => match look_at(rt, macros, looked, output) {
-            Ok((status, told)) => end_with_told(faults, status, &told),
+            Ok(status) => end_with(faults, status),
             Err(unlooked) => end_unlooked(faults, unlooked),
         },
         Err(error) => {
@@ -122,9 +60,10 @@ where
 }
 
 // Ends where nothing is told of a store, and says why.
-fn end_unlooked<F: Write>(faults: &mut F, unlooked: Unlooked) -> Status
+pub(crate) fn end_unlooked<F: Write>(faults: &mut F, unlooked: Unlooked) -> Status
     ensures told { (told : Told) × TellsFault result told (F.contents faults.old) (F.contents faults.new) }
     ensures quiet { IsQuiet result → faults.new ≡ faults.old }
+    ensures refused { EndsUnlooked result }
 {
     match unlooked {
         Unlooked::Fault(number) => end_with(faults, Status::Fault(number)),
@@ -144,11 +83,18 @@ fn end_unlooked<F: Write>(faults: &mut F, unlooked: Unlooked) -> Status
             let _ = writeln!(faults, "error: {error}");
             Status::WordsRefused
         }
+        Unlooked::Unread(error) => {
+            let _ = writeln!(faults, "error: the file cannot be read: {error}");
+            Status::WordsRefused
+        }
     }
 }
 
 // What the files of a folder hold at one moment, of which one is a half in use.
-fn sight_of<R: Files<File = File> + AllocGlobal>(rt: &R, folder: &str) -> Result<Sight, HostError>
+pub(crate) fn sight_of<R: Files<File = File> + AllocGlobal>(
+    rt: &R,
+    folder: &str,
+) -> Result<Sight, HostError>
     ensures { IfOk result (λ sight. (⟦<Sight as Disk>⟧.state sight).failures < 2 ^ 64 - 1) }
 {
     let mut sight = look_into(rt, folder)?;
@@ -176,12 +122,14 @@ fn look_at<R, M, O>(
     macros: M,
     looked: Looked<'_>,
     output: &mut O,
-) -> Result<(Status, Told), Unlooked>
+) -> Result<Status, Unlooked>
 where
     R: Files<File = File> + RandomSource + Clock + AllocGlobal,
     M: MacroFunctions + Drop,
     O: Write,
     requires answers { M.answers macros }
+    ensures prints { IfOk result (PrintsText (O.contents output.old) (O.contents output.new)) }
+    ensures refused { IfErr result (λ _. output.new ≡ output.old) }
 {
     let alloc = rt.alloc();
     let Ok(seed) = Seed::draw(rt) else {
@@ -189,53 +137,55 @@ where
     };
     let sight = sight_of(rt, looked.folder)?;
     match looked.look {
-        Look::Verify => report(alloc, sight, macros, seed, Report::Verify, output),
-        Look::Dump(None) => report(alloc, sight, macros, seed, Report::Dump, output),
-        Look::Dump(Some(count)) => {
+        Look::Dump(count) => {
             let cut = usable(cut_after(alloc, sight, count)?)?;
-            report(alloc, cut, macros, seed, Report::Dump, output)
+            dump(alloc, cut, macros, seed, output)
         }
-        Look::Export(content) => match export_on(alloc, sight, macros, seed, content, output) {
-            Ok((status, _sight, _macros, left_out)) => Ok((status, Told::LeftOut(left_out))),
-            Err(unopened) => Err(Unlooked::Fault(unopened.number)),
-        },
         Look::Show(shown) => show_on(alloc, sight, macros, seed, shown, output),
         Look::Info => info_on(rt, looked.folder, sight, macros, seed, output),
         Look::Log(from) => {
             let lines = log_lines(alloc, sight, from)?;
             write_told(output, lines.as_slice())
         }
-        Look::Backup(to) => back_up(rt, sight, macros, seed, to),
+        Look::Backup(to) => {
+            back_up(rt, sight, macros, seed, to)?;
+            Ok(Status::Done)
+        }
     }
 }
 
 // Writes what is told, and flushes it.
-fn write_told<O: Write>(output: &mut O, text: &[u8]) -> Result<(Status, Told), Unlooked> {
-    Ok((status_of_output(write_out(output, text)), Told::Nothing))
+fn write_told<O: Write>(output: &mut O, text: &[u8]) -> Result<Status, Unlooked>
+    ensures prints { IfOk result (PrintsText (O.contents output.old) (O.contents output.new)) }
+    ensures refused { IfErr result (λ _. output.new ≡ output.old) }
+{
+    Ok(status_of_output(write_out(output, text)))
 }
 
-fn report<M, O>(
+// Writes the text of the world of a store that was seen.
+fn dump<M, O>(
     alloc: Global,
     sight: Sight,
     macros: M,
     seed: Seed,
-    report: Report,
     output: &mut O,
-) -> Result<(Status, Told), Unlooked>
+) -> Result<Status, Unlooked>
 where
     M: MacroFunctions + Drop,
     O: Write,
     requires answers { M.answers macros }
     requires room { (⟦<Sight as Disk>⟧.state sight).failures < 2 ^ 64 - 1 }
+    ensures prints { IfOk result (PrintsText (O.contents output.old) (O.contents output.new)) }
+    ensures refused { IfErr result (λ _. output.new ≡ output.old) }
 {
-    match report_on(alloc, sight, macros, seed, report, output) {
-        Ok((status, _sight, _macros)) => Ok((status, Told::Nothing)),
+    match report_on(alloc, sight, macros, seed, Report::Dump, output) {
+        Ok((status, _sight, _macros)) => Ok(status),
         Err(unopened) => Err(Unlooked::Fault(unopened.number)),
     }
 }
 
 // The store that was seen, opened in memory.
-fn opened<M: MacroFunctions + Drop>(
+pub(crate) fn opened<M: MacroFunctions + Drop>(
     alloc: Global,
     sight: Sight,
     macros: M,
@@ -259,12 +209,14 @@ fn show_on<M, O>(
     seed: Seed,
     shown: Shown<'_>,
     output: &mut O,
-) -> Result<(Status, Told), Unlooked>
+) -> Result<Status, Unlooked>
 where
     M: MacroFunctions + Drop,
     O: Write,
     requires answers { M.answers macros }
     requires room { (⟦<Sight as Disk>⟧.state sight).failures < 2 ^ 64 - 1 }
+    ensures prints { IfOk result (PrintsText (O.contents output.old) (O.contents output.new)) }
+    ensures refused { IfErr result (λ _. output.new ≡ output.old) }
 {
     let store = opened(alloc, sight, macros, seed)?;
     let text = shown_text(alloc, &store, shown);
@@ -310,13 +262,15 @@ fn info_on<R, M, O>(
     macros: M,
     seed: Seed,
     output: &mut O,
-) -> Result<(Status, Told), Unlooked>
+) -> Result<Status, Unlooked>
 where
     R: Files<File = File> + Clock + AllocGlobal,
     M: MacroFunctions + Drop,
     O: Write,
     requires answers { M.answers macros }
     requires room { (⟦<Sight as Disk>⟧.state sight).failures < 2 ^ 64 - 1 }
+    ensures prints { IfOk result (PrintsText (O.contents output.old) (O.contents output.new)) }
+    ensures refused { IfErr result (λ _. output.new ≡ output.old) }
 {
     let alloc = rt.alloc();
     let files = HostFiles::open(rt, folder)?;
@@ -336,13 +290,7 @@ where
 }
 
 // Makes a new store of the world that was seen.
-fn back_up<R, M>(
-    rt: &R,
-    sight: Sight,
-    macros: M,
-    seed: Seed,
-    to: &str,
-) -> Result<(Status, Told), Unlooked>
+fn back_up<R, M>(rt: &R, sight: Sight, macros: M, seed: Seed, to: &str) -> Result<(), Unlooked>
 where
     R: Files<File = File> + AllocGlobal,
     M: MacroFunctions + Drop,
@@ -356,5 +304,5 @@ where
     };
     let _ = store.close();
     made?;
-    Ok((Status::Done, Told::Nothing))
+    Ok(())
 }

@@ -1,0 +1,72 @@
+// Why nothing is told of a store.
+use disk_trait::HostError;
+use lisp_object::refusal::{DAMAGED, DEVICE, NO_MEMORY, VERSION};
+use log_look::LogError;
+use std::alloc::AllocError;
+use std::io;
+use store_reports::{BackupError, ShowError};
+
+/// Why nothing is told of a store.
+#[derive(Drop)]
+pub(crate) enum Unlooked {
+    /// A fault, with its number.
+    Fault(u16),
+    /// The files are not there, or a call of the system failed.
+    Host(HostError),
+    /// What is asked for is not in the world.
+    Show(ShowError),
+    /// There are not so many records.
+    PastTheEnd(LogError),
+    /// There is something where the new store would be.
+    Exists(BackupError),
+    /// A file of forms cannot be read.
+    Unread(io::Error),
+}
+
+impl From<HostError> for Unlooked {
+    fn from(error: HostError) -> Unlooked {
+        Unlooked::Host(error)
+    }
+}
+
+impl From<AllocError> for Unlooked {
+    fn from(_error: AllocError) -> Unlooked {
+        Unlooked::Fault(NO_MEMORY)
+    }
+}
+
+impl From<ShowError> for Unlooked {
+    fn from(error: ShowError) -> Unlooked {
+        match error {
+            ShowError::OutOfMemory => Unlooked::Fault(NO_MEMORY),
+            error => Unlooked::Show(error),
+        }
+    }
+}
+
+impl From<LogError> for Unlooked {
+    fn from(error: LogError) -> Unlooked {
+        match error {
+            LogError::OutOfMemory => Unlooked::Fault(NO_MEMORY),
+            LogError::DeviceFault => Unlooked::Fault(DEVICE),
+            LogError::Damaged => Unlooked::Fault(DAMAGED),
+            LogError::UnknownVersion => Unlooked::Fault(VERSION),
+            error => Unlooked::PastTheEnd(error),
+        }
+    }
+}
+
+impl From<BackupError> for Unlooked {
+    fn from(error: BackupError) -> Unlooked {
+        match error {
+            BackupError::OutOfMemory => Unlooked::Fault(NO_MEMORY),
+            BackupError::Host(error) => Unlooked::Host(error),
+            BackupError::Refused(number) => Unlooked::Fault(number),
+            BackupError::Differs => Unlooked::Host(HostError::System(io::Error::new(
+                io::ErrorKind::Other,
+                "the backup has another world than the store",
+            ))),
+            error => Unlooked::Exists(error),
+        }
+    }
+}
