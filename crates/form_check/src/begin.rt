@@ -1,10 +1,13 @@
 //! What a text begins with, and where that begins.
 ghost use Rattle.std.specs.Prelude.{◌≡◌, ◌≤◌, ◌^◌, ℕ, List, IfOk};
 ghost use Rattle.package_table.specs.Table.{IsPackage};
-ghost use Rattle.form_check.specs.Checking.{IsBeginning, form_limits, setting_under};
+ghost use Rattle.lisp_reading.specs.Setting.{setting_of};
+ghost use Rattle.form_check.specs.Checking.{IsBeginning, setting_under};
 ghost use Rattle.form_reader.specs.Reader.{IsAfter, HasBegun, fed, limits_of};
 
-use form_reader::{Advance, FormReader, Limits, ReadOutcome};
+use form_reader::{
+    Advance, FormReader, Limits, ReadOutcome, forms_are_framed, refusals_are_decided,
+};
 use package_table::Packages;
 use readtable_core::Readtable;
 use std::alloc::{AllocError, Global};
@@ -50,6 +53,8 @@ pub(crate) fn beginning_of<M: MacroFunctions>(
     ensures { IfOk result (IsBeginning (setting_under under.now.readtable.now under.now.base
         under.now.packages.now.0 under.now.current.now (M.functions macros.now)) text.now) }
 {
+    forms_are_framed();
+    refusals_are_decided();
     let mut reader = FormReader::new(alloc, Limits::form());
     if text.is_empty() {
         return finished(reader, under, macros);
@@ -82,13 +87,14 @@ fn finished<M: MacroFunctions>(
     requires lowest_base { 2 ≤ under.now.base }
     requires highest_base { under.now.base ≤ 36 }
     requires current { IsPackage under.now.packages.now.0 under.now.current.now }
-    requires limits { limits_of reader ≡ form_limits }
     requires count { fed reader ≤ 2 ^ 63 }
-    ensures { let setting = setting_under under.now.readtable.now under.now.base
+    ensures { let setting = setting_of (limits_of reader) under.now.readtable.now under.now.base
         under.now.packages.now.0 under.now.current.now (M.functions macros.now) in
         (text : List ℕ) → IsAfter setting reader text → HasBegun setting reader text
         → IfOk result (IsBeginning setting text) }
 {
+    forms_are_framed();
+    refusals_are_decided();
     let start = reader.begun();
     let Under {
         readtable,

@@ -186,7 +186,7 @@ fn lines_of(alloc: Global, text: &[u8], found: &Checked) -> Result<Vec<u8>, Allo
         (spot, passed) = (spots.map(|spots| spots.at), one.at);
     }
     let (forms, unreadable) = (found.forms, found.unreadable.len());
-    if writeln!(lines, "{forms} forms, {unreadable} of them cannot be read").is_err() {
+    if writeln!(lines, "forms {forms} unreadable {unreadable}").is_err() {
         return Err(AllocError);
     }
     Ok(lines)

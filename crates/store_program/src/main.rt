@@ -89,11 +89,8 @@ fn serve_quietly<M: MacroFunctions + Drop, F: Write>(
         Status::Helped | Status::WordsRefused => {}
         _ => {
             let Counts { values, refusals } = counts.get();
-            let forms = values.saturating_add(refusals);
-            let _ = writeln!(
-                faults,
-                "{forms} forms were answered, {refusals} of them refused"
-            );
+            let answers = values.saturating_add(refusals);
+            let _ = writeln!(faults, "answers {answers} refusals {refusals}");
         }
     }
     status

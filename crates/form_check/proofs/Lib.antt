@@ -1,0 +1,3 @@
+mod Turns
+mod Lines
+mod Beginnings
