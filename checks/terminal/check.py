@@ -117,6 +117,40 @@ def interrupted(folder):
           (b"9\n9\n", 4 + 999_006, 0, b""))
 
 
+def told_at_terminal(folder, *words, answers):
+    """What a load by a pipe tells at a terminal that is its standard error; its answers go to another one, or to a pipe."""
+    master, slave = pty.openpty()
+    stdout = slave if answers else subprocess.PIPE
+    process = subprocess.Popen([program, "run", folder, *words], stdin=subprocess.PIPE, stdout=stdout, stderr=slave)
+    os.close(slave)
+    for _ in range(4):
+        process.stdin.write(b"(GET 'A 'B)\n")
+        process.stdin.flush()
+        time.sleep(0.6)
+    process.stdin.write(b")\n")
+    process.stdin.close()
+    process.wait(timeout=PATIENCE)
+    text = b""
+    while True:
+        try:
+            more = os.read(master, 65536)
+        except OSError:
+            break
+        text += more
+    os.close(master)
+    return text.decode()
+
+
+def load(folder):
+    """A load that takes more than a second tells how far it is, and takes the line away before it tells anything else."""
+    refused = "line 5, column 1: refused with 4 STRAY-CLOSE in form 5, which began at line 5, column 1\r\n"
+    text = told_at_terminal(folder, answers=False)
+    lines = text.split("\r\x1b[K")
+    check("how far a load is", (lines[0], bool(lines[1:-1]), set(line.split(" in ")[0] for line in lines[1:-1]), lines[-1]),
+          ("", True, {"0 MB read"}, refused))
+    check("nothing of it beside answers", told_at_terminal(folder, answers=True), "9\r\n" * 4 + "! 4 STRAY-CLOSE\r\n" + refused)
+
+
 with tempfile.TemporaryDirectory() as room:
     store = os.path.join(room, "store")
     it = Terminal("run", store)
@@ -182,6 +216,7 @@ with tempfile.TemporaryDirectory() as room:
     check("a word with control characters", (told.returncode, b"\\x1b[31mred\\x9b" in told.stderr, b"\x1b" in told.stderr, b"\xc2\x9b" in told.stderr),
           (2, True, False, False))
     interrupted(store)
+    load(store)
 
 print(f"{passed} passed, {failed} failed")
 sys.exit(1 if failed else 0)

@@ -24,7 +24,7 @@ unfolding checked_in
 none_left setting forms whole text = refl
 
 -- so many turns are left, of which there is one
-abbrev left : ℕ → ℕ → ℕ
+abbrev pub left : ℕ → ℕ → ℕ
 left whole forms = whole + 1 - forms
 
 one_turn : (setting : Setting) (forms whole : ℕ) (text : List ℕ) → forms < whole + 1

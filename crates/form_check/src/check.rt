@@ -77,10 +77,10 @@ fn after_line(text: &[u8]) -> &[u8]
 {
     let mut rest = text;
     'bytes: while let Some((byte, more)) = rest.split_first() {
-        rest = more;
         if *byte == b'\n' {
-            break;
+            return more;
         }
+        rest = more;
     }
     rest
 }

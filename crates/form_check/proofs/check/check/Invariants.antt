@@ -1,0 +1,12 @@
+use Rattle.std.proofs.Common.{◌≡◌, ◌≤◌, length}
+use Rattle.form_check.specs.Checking.{checked, checked_in, setting_under}
+use Rattle.form_check.proofs.Turns.{after_found, left}
+use Rattle.form_check.proofs.check.check.Given as goal
+
+-- what was found, and what is found in the rest, is what is found in the text
+abbrev pub invariant-forms : goal.invariant-forms
+invariant-forms g l =
+    let setting = setting_under l.under.readtable.now l.under.base l.under.packages.now.0 l.under.current.now (g.M.MacroFunctions.functions l.macros) in
+    (length l.rest ≤ length l.text)
+    × (l.found.forms ≡ l.turn)
+    × (after_found l.found.unreadable.items (checked_in setting (left (length l.text) l.turn) l.turn (length l.text) l.rest) ≡ checked setting l.text)
