@@ -239,15 +239,22 @@ module _ (program : Text) (x : ℕ) (xs : Text) (e : (x == 45) ≡ false) where
   }
 
   module _ (y : ℕ) (ys : Text) (d : (y == 45) ≡ false) (passes : is_unsigned_in 1 1000000 (y ∷ ys) ≡ true) where
+    -- what is left of each of the next ones: the number passes
+    left : (((is_unsigned_in 1 1000000 (y ∷ ys) && true) && true) && true) ≡ true
+    left = rw passes refl
+
+    left_kinds : or_else (or_else (or_else (if is_unsigned_in 1 1000000 (y ∷ ys) then [] else (ValueValidation ∷ [])) []) []) [] ≡ []
+    left_kinds = rw passes refl
+
     every_taken : (mode : Mode) → takes command_line (program ∷ codes "run" ∷ (x ∷ xs) ∷ (flag_for mode ++ codes "--snapshot-every" ∷ (y ∷ ys) ∷ [])) ≡ true
     unfolding clap_on_literals
-    every_taken Current = simp e (rw (d, d) (rw passes refl))
-    every_taken Rescue = simp e (rw (d, d) (rw passes refl))
+    every_taken Current = simp e (rw (d, d) left)
+    every_taken Rescue = simp e (rw (d, d) left)
 
     every_faultless : (mode : Mode) → fault_of command_line (program ∷ codes "run" ∷ (x ∷ xs) ∷ (flag_for mode ++ codes "--snapshot-every" ∷ (y ∷ ys) ∷ [])) ≡ []
     unfolding clap_on_literals
-    every_faultless Current = simp e (rw (d, d) (rw passes refl))
-    every_faultless Rescue = simp e (rw (d, d) (rw passes refl))
+    every_faultless Current = simp e (rw (d, d) left_kinds)
+    every_faultless Rescue = simp e (rw (d, d) left_kinds)
 
     every_found : (mode : Mode) → subcommand_of command_line (program ∷ codes "run" ∷ (x ∷ xs) ∷ (flag_for mode ++ codes "--snapshot-every" ∷ (y ∷ ys) ∷ []))
         ≡ Some (codes "run", run_rows (x ∷ xs) mode false false false (given (codes "snapshot-every") (y ∷ ys) CommandLine ∷ []))
