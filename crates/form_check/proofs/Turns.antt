@@ -6,7 +6,7 @@ use Rattle.lisp_reading.specs.Setting.{Setting}
 use Rattle.lisp_reading.specs.Reading.{Outcome, form, empty, refused, reads}
 use Rattle.lisp_reading.specs.Deciding.{decided_from}
 use Rattle.form_check.specs.Checking.{Checking, after_line, checked_in, found_after, with_one}
-use Rattle.form_check.specs.declared.check.Unreadable.{Unreadable}
+use Rattle.form_check.specs.declared.checking.Unreadable.{Unreadable}
 
 -- after those that were found before
 abbrev pub after_found : List Unreadable → Checking → Checking

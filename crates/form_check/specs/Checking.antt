@@ -10,7 +10,7 @@ use Rattle.lisp_reading.specs.Reading.{Outcome, form, empty, refused, reads}
 use Rattle.lisp_reading.specs.Deciding.{decided_from}
 use Rattle.form_check.specs.declared.begin.Beginning.{Beginning}
 use Rattle.form_check.specs.declared.begin.Beginning.TheVariants as begins
-use Rattle.form_check.specs.declared.check.Unreadable.{Unreadable}
+use Rattle.form_check.specs.declared.checking.Unreadable.{Unreadable}
 
 -- the limits of a form
 abbrev pub form_limits : Limits

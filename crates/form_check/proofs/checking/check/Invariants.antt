@@ -1,7 +1,7 @@
 use Rattle.std.proofs.Common.{◌≡◌, ◌≤◌, length}
 use Rattle.form_check.specs.Checking.{checked, checked_in, setting_under}
 use Rattle.form_check.proofs.Turns.{after_found, left}
-use Rattle.form_check.proofs.check.check.Given as goal
+use Rattle.form_check.proofs.checking.check.Given as goal
 
 -- what was found, and what is found in the rest, is what is found in the text
 abbrev pub invariant-forms : goal.invariant-forms
