@@ -1,0 +1,159 @@
+//! Closures that are registered, and functions with no closure, answer alike.
+ghost use Rattle.std.specs.Prelude.{◌≡◌, None, IfOk};
+ghost use Rattle.user_macros.specs.Calls.{answer_of, call_of};
+ghost use Rattle.user_macros.specs.Sound.{IsSoundCall};
+ghost use Rattle.fixed_macros.specs.Trial.{counted, trial_functions, trial_names};
+
+use crate::{Answering, Fixed};
+use lisp_object::{Bytes, Datum, Items};
+use readtable_core::{FnName, Readtable};
+use std::alloc::{AllocError, Global};
+use std::test::Fail;
+use user_macros::{Answer, Call, Gather, Gathered, MacroFn, MacroFunctions, Macros, Meaning};
+
+/// The meaning of three functions: NOTE gives no object, CLOSE refuses, COUNT tells how much was gathered.
+#[derive(Drop)]
+pub struct Trial {
+    names: [FnName; 3],
+    ghost are: { names ≡ trial_names },
+}
+
+impl Trial {
+    pub fn new() -> Trial {
+        Trial {
+            names: [
+                FnName::new(b"NOTE").unwrap(),
+                FnName::new(b"CLOSE").unwrap(),
+                FnName::new(b"COUNT").unwrap(),
+            ],
+        }
+    }
+}
+
+impl Meaning for Trial {
+    ghost use Rattle.std.proofs.Common.{rules};
+
+    ghost functions = { trial_functions };
+
+    ghost gathers = { λ name. Prim.search rules };
+
+    fn names(&self) -> &[FnName] {
+        &self.names
+    }
+
+    fn gather(&self, name: FnName) -> Option<Gather> {
+        match name.as_bytes() {
+            b"NOTE" => Some(Gather::Line),
+            b"CLOSE" => Some(Gather::Nothing),
+            b"COUNT" => Some(Gather::Until(b']')),
+            _ => None,
+        }
+    }
+}
+
+impl Answering for Trial {
+    fn answer(&self, _alloc: Global, name: FnName, call: &Call) -> Result<Answer, AllocError> {
+        if b"CLOSE".as_slice() == name.as_bytes() {
+            return Ok(Answer::Refused(1));
+        }
+        if b"COUNT".as_slice() == name.as_bytes() {
+            return Ok(counted(call));
+        }
+        Ok(Answer::Nothing)
+    }
+}
+
+// How much was gathered.
+#[tactic(auto, using(lisp_object::proofs::Objects::object_laws))]
+fn counted(call: &Call) -> Answer
+    ensures { answer_of result ≡ counted (call_of call.now).gathered }
+{
+    let count = match &call.gathered {
+        Gathered::Nothing => 0,
+        Gathered::One(_) => 1,
+        Gathered::Many(items) => items.as_slice().len(),
+        Gathered::Text(bytes) => bytes.as_slice().len(),
+    };
+    Answer::One(Datum::Integer(count as i128))
+}
+
+// The three as closures, all registered.
+fn registered(alloc: Global) -> Result<Macros<Trial>, Fail>
+    ensures { IfOk result (λ macros. ⟦<Macros<Trial> as MacroFunctions>⟧.answers macros) }
+{
+    let mut macros = Macros::new(alloc, Trial::new());
+    let note: MacroFn = Box::new(alloc, |_call: &Call| Ok(Answer::Nothing))?;
+    if let Err(refusal) = macros.register(FnName::new(b"NOTE").unwrap(), note) {
+        return Err(refusal.cause.into());
+    }
+    let close: MacroFn = Box::new(alloc, |_call: &Call| Ok(Answer::Refused(1)))?;
+    if let Err(refusal) = macros.register(FnName::new(b"CLOSE").unwrap(), close) {
+        return Err(refusal.cause.into());
+    }
+    let count: MacroFn = Box::new(alloc, |call: &Call| Ok(counted(call)))?;
+    if let Err(refusal) = macros.register(FnName::new(b"COUNT").unwrap(), count) {
+        return Err(refusal.cause.into());
+    }
+    Ok(macros)
+}
+
+// A call in which two objects were gathered.
+#[tactic(auto, using(lisp_object::proofs::Properness::proper_laws))]
+fn call_of_two(alloc: Global) -> Result<Call, AllocError>
+    ensures { IfOk result IsSoundCall }
+{
+    let mut items = Items::new(alloc);
+    items.push(Datum::Integer(1))?;
+    items.push(Datum::Char(65))?;
+    Ok(Call {
+        character: b'[',
+        sub: None,
+        number: None,
+        gathered: Gathered::Many(items),
+    })
+}
+
+// A call in which characters were gathered.
+fn call_of_text(alloc: Global) -> Result<Call, AllocError>
+    ensures { IfOk result IsSoundCall }
+{
+    Ok(Call {
+        character: b'!',
+        sub: None,
+        number: Some(7),
+        gathered: Gathered::Text(Bytes::from_slice(alloc, b"abc")?),
+    })
+}
+
+#[test]
+fn both_answer_alike(rt: HostRuntime) -> Result<(), Fail> {
+    let alloc = rt.alloc();
+    let macros = registered(alloc)?;
+    let fixed = Fixed::new(alloc, Trial::new());
+    let two = call_of_two(alloc)?;
+    let text = call_of_text(alloc)?;
+    for bytes in [b"NOTE".as_slice(), b"CLOSE", b"COUNT", b"OTHER"] {
+        let name = FnName::new(bytes).unwrap();
+        assert!(rt; macros.gather_of(name) == fixed.gather_of(name));
+        if macros.gather_of(name).is_some() {
+            assert!(rt; macros.call(name, &two)? == fixed.call(name, &two)?);
+            assert!(rt; macros.call(name, &text)? == fixed.call(name, &text)?);
+        }
+    }
+    assert!(rt; macros.is_whole() && fixed.is_whole());
+    Ok(())
+}
+
+#[test]
+fn both_cover_alike(rt: HostRuntime) -> Result<(), Fail> {
+    let alloc = rt.alloc();
+    let macros = registered(alloc)?;
+    let fixed = Fixed::new(alloc, Trial::new());
+    let mut table = Readtable::standard(alloc)?;
+    assert!(rt; macros.covers(&table) && fixed.covers(&table));
+    table.set_macro(b'[', FnName::new(b"COUNT").unwrap(), false);
+    assert!(rt; macros.covers(&table) && fixed.covers(&table));
+    table.set_macro(b']', FnName::new(b"OTHER").unwrap(), false);
+    assert!(rt; !macros.covers(&table) && !fixed.covers(&table));
+    Ok(())
+}
