@@ -1,14 +1,15 @@
 //! Closures that are registered, and functions with no closure, answer alike.
-ghost use Rattle.std.specs.Prelude.{◌≡◌, None, IfOk};
+ghost use Rattle.std.specs.Prelude.{◌≡◌, Ok, IfOk};
 ghost use Rattle.user_macros.specs.Calls.{answer_of, call_of};
 ghost use Rattle.user_macros.specs.Sound.{IsSoundCall};
-ghost use Rattle.fixed_macros.specs.Trial.{counted, trial_functions, trial_names};
+ghost use Rattle.fixed_macros.specs.Trial.{counted, trial_answer, trial_functions, trial_names};
 
 use crate::{Answering, Fixed};
 use lisp_object::{Bytes, Datum, Items};
 use readtable_core::{FnName, Readtable};
 use std::alloc::{AllocError, Global};
 use std::test::Fail;
+use user_macros::example::Notes;
 use user_macros::{Answer, Call, Gather, Gathered, MacroFn, MacroFunctions, Macros, Meaning};
 
 /// The meaning of three functions: NOTE gives no object, CLOSE refuses, COUNT tells how much was gathered.
@@ -77,26 +78,6 @@ fn counted(call: &Call) -> Answer
     Answer::One(Datum::Integer(count as i128))
 }
 
-// The three as closures, all registered.
-fn registered(alloc: Global) -> Result<Macros<Trial>, Fail>
-    ensures { IfOk result (λ macros. ⟦<Macros<Trial> as MacroFunctions>⟧.answers macros) }
-{
-    let mut macros = Macros::new(alloc, Trial::new());
-    let note: MacroFn = Box::new(alloc, |_call: &Call| Ok(Answer::Nothing))?;
-    if let Err(refusal) = macros.register(FnName::new(b"NOTE").unwrap(), note) {
-        return Err(refusal.cause.into());
-    }
-    let close: MacroFn = Box::new(alloc, |_call: &Call| Ok(Answer::Refused(1)))?;
-    if let Err(refusal) = macros.register(FnName::new(b"CLOSE").unwrap(), close) {
-        return Err(refusal.cause.into());
-    }
-    let count: MacroFn = Box::new(alloc, |call: &Call| Ok(counted(call)))?;
-    if let Err(refusal) = macros.register(FnName::new(b"COUNT").unwrap(), count) {
-        return Err(refusal.cause.into());
-    }
-    Ok(macros)
-}
-
 // A call in which two objects were gathered.
 #[tactic(auto, using(lisp_object::proofs::Properness::proper_laws))]
 fn call_of_two(alloc: Global) -> Result<Call, AllocError>
@@ -125,33 +106,51 @@ fn call_of_text(alloc: Global) -> Result<Call, AllocError>
     })
 }
 
-#[test]
-fn both_answer_alike(rt: HostRuntime) -> Result<(), Fail> {
+// Whether a closure that is registered under the name, and the function with no closure, gather and answer alike.
+fn are_alike(rt: &HostRuntime, name: FnName, function: MacroFn) -> Result<bool, Fail>
+    requires callable { (call : _) → IsSoundCall call.now → MacroFn.pre function call }
+    requires as_meant { (call : _) (a : _) → IsSoundCall call.now → MacroFn.post function call (Ok a)
+        → answer_of a ≡ trial_answer name (call_of call.now) }
+{
     let alloc = rt.alloc();
-    let macros = registered(alloc)?;
     let fixed = Fixed::new(alloc, Trial::new());
+    let mut macros = Macros::new(alloc, Trial::new());
+    if let Err(refusal) = macros.register(name, function) {
+        return Err(refusal.cause.into());
+    }
+    if macros.gather_of(name).is_none() || macros.gather_of(name) != fixed.gather_of(name) {
+        return Ok(false);
+    }
     let two = call_of_two(alloc)?;
     let text = call_of_text(alloc)?;
-    for bytes in [b"NOTE".as_slice(), b"CLOSE", b"COUNT", b"OTHER"] {
-        let name = FnName::new(bytes).unwrap();
-        assert!(rt; macros.gather_of(name) == fixed.gather_of(name));
-        if macros.gather_of(name).is_some() {
-            assert!(rt; macros.call(name, &two)? == fixed.call(name, &two)?);
-            assert!(rt; macros.call(name, &text)? == fixed.call(name, &text)?);
-        }
-    }
-    assert!(rt; macros.is_whole() && fixed.is_whole());
+    Ok(macros.call(name, &two)? == fixed.call(name, &two)?
+        && macros.call(name, &text)? == fixed.call(name, &text)?)
+}
+
+#[test]
+fn both_answer_alike(rt: HostRuntime) -> Result<(), Fail> {
+    let note: MacroFn = Box::new(rt.alloc(), |_call: &Call| Ok(Answer::Nothing))?;
+    assert!(rt; are_alike(&rt, FnName::new(b"NOTE").unwrap(), note)?);
+    let close: MacroFn = Box::new(rt.alloc(), |_call: &Call| Ok(Answer::Refused(1)))?;
+    assert!(rt; are_alike(&rt, FnName::new(b"CLOSE").unwrap(), close)?);
+    let count: MacroFn = Box::new(rt.alloc(), |call: &Call| Ok(counted(call)))?;
+    assert!(rt; are_alike(&rt, FnName::new(b"COUNT").unwrap(), count)?);
     Ok(())
 }
 
 #[test]
 fn both_cover_alike(rt: HostRuntime) -> Result<(), Fail> {
     let alloc = rt.alloc();
-    let macros = registered(alloc)?;
-    let fixed = Fixed::new(alloc, Trial::new());
+    let name = FnName::new(b"NOTE").unwrap();
+    let note: MacroFn = Box::new(alloc, |_call: &Call| Ok(Answer::Nothing))?;
+    let mut macros = Macros::new(alloc, Notes::new());
+    if let Err(refusal) = macros.register(name, note) {
+        return Err(refusal.cause.into());
+    }
+    let fixed = Fixed::new(alloc, Notes::new());
+    assert!(rt; macros.is_whole() && fixed.is_whole());
     let mut table = Readtable::standard(alloc)?;
-    assert!(rt; macros.covers(&table) && fixed.covers(&table));
-    table.set_macro(b'[', FnName::new(b"COUNT").unwrap(), false);
+    table.set_macro(b'[', name, false);
     assert!(rt; macros.covers(&table) && fixed.covers(&table));
     table.set_macro(b']', FnName::new(b"OTHER").unwrap(), false);
     assert!(rt; !macros.covers(&table) && !fixed.covers(&table));
