@@ -1,4 +1,4 @@
-//! One macro function, from its meaning to its call: the pattern that `docs/macros.md` explains.
+//! One macro function, from its meaning to its call: the pattern that `docs/use/macros.md` explains.
 ghost use Rattle.std.specs.Prelude.{ℕ, ◌≡◌, [], ◌∷◌, List, Option, Some, None, IfOk, codes, if◌then◌else◌, is_some};
 ghost use Rattle.readtable_core.specs.Names.{same_name, is_among};
 ghost use Rattle.user_macros.specs.Calls.{answer_of, no_value};
