@@ -1,1 +1,2 @@
 pub mod Backup
+pub mod Escaped
