@@ -1,2 +1,1 @@
 pub mod Backup
-pub mod Escaped
