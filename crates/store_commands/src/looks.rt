@@ -192,7 +192,7 @@ where
         Look::Verify => report(alloc, sight, macros, seed, Report::Verify, output),
         Look::Dump(None) => report(alloc, sight, macros, seed, Report::Dump, output),
         Look::Dump(Some(count)) => {
-            let cut = usable(cut_after(alloc, sight, count)?)?;
+            let cut = usable(cut_after(alloc, sight, count, None)?)?;
             report(alloc, cut, macros, seed, Report::Dump, output)
         }
         Look::Export(content) => match export_on(alloc, sight, macros, seed, content, output) {
