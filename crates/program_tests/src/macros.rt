@@ -2,9 +2,9 @@
 ghost use Rattle.user_macros.specs.Sound.{IsSoundCall};
 
 use readtable_core::{FnName, Readtable};
+use six_functions::{SixFunctions, macro_functions};
 use std::alloc::AllocError;
 use std::test::Fail;
-use store_commands::{SixFunctions, macro_functions};
 use user_macros::{Answer, Call, Cause, MacroFn, MacroFunctions, Macros, Refusal};
 
 /// Nothing where a function was registered. It is an error if it was not, for want of memory too.

@@ -8,14 +8,15 @@ ghost use Rattle.user_macros.specs.Functions.{are_registered};
 
 use lisp_object::refusal::NO_MEMORY;
 use readtable_core::FnName;
+use six_functions::{SixFunctions, macro_functions};
 use std::alloc::AllocError;
 use std::cell::Cell;
 use std::env;
 use std::io::{ErrorKind, IsTerminal, Write};
 use std::process::ExitCode;
 use store_commands::{
-    Answers, Heard, Lines, Piped, SixFunctions, Status, Terminal, Uninterrupted, asks_to_look,
-    end_with, look, macro_functions, program, program_at_terminal,
+    Answers, Heard, Lines, Piped, Status, Terminal, Uninterrupted, asks_to_look, end_with, look,
+    program, program_at_terminal,
 };
 use user_macros::{Answer, Call, Cause, MacroFn, MacroFunctions, Macros, Refusal};
 
