@@ -53,12 +53,12 @@ impl Meaning for Trial {
 }
 
 impl Answering for Trial {
-    fn answer(&self, _alloc: Global, name: FnName, call: &Call) -> Result<Answer, AllocError> {
+    fn answer(&self, _alloc: Global, name: FnName, call: Call) -> Result<Answer, AllocError> {
         if b"CLOSE".as_slice() == name.as_bytes() {
             return Ok(Answer::Refused(1));
         }
         if b"COUNT".as_slice() == name.as_bytes() {
-            return Ok(counted(call));
+            return Ok(counted(&call));
         }
         Ok(Answer::Nothing)
     }
@@ -108,9 +108,9 @@ fn call_of_text(alloc: Global) -> Result<Call, AllocError>
 
 // Whether a closure that is registered under the name, and the function with no closure, gather and answer alike.
 fn are_alike(rt: &HostRuntime, name: FnName, function: MacroFn) -> Result<bool, Fail>
-    requires callable { (call : _) → IsSoundCall call.now → MacroFn.pre function call }
-    requires as_meant { (call : _) (a : _) → IsSoundCall call.now → MacroFn.post function call (Ok a)
-        → answer_of a ≡ trial_answer name (call_of call.now) }
+    requires callable { (call : _) → IsSoundCall call → MacroFn.pre function call }
+    requires as_meant { (call : _) (a : _) → IsSoundCall call → MacroFn.post function call (Ok a)
+        → answer_of a ≡ trial_answer name (call_of call) }
 {
     let alloc = rt.alloc();
     let fixed = Fixed::new(alloc, Trial::new());
@@ -121,19 +121,19 @@ fn are_alike(rt: &HostRuntime, name: FnName, function: MacroFn) -> Result<bool, 
     if macros.gather_of(name).is_none() || macros.gather_of(name) != fixed.gather_of(name) {
         return Ok(false);
     }
-    let two = call_of_two(alloc)?;
-    let text = call_of_text(alloc)?;
-    Ok(macros.call(name, &two)? == fixed.call(name, &two)?
-        && macros.call(name, &text)? == fixed.call(name, &text)?)
+    if macros.call(name, call_of_two(alloc)?)? != fixed.call(name, call_of_two(alloc)?)? {
+        return Ok(false);
+    }
+    Ok(macros.call(name, call_of_text(alloc)?)? == fixed.call(name, call_of_text(alloc)?)?)
 }
 
 #[test]
 fn both_answer_alike(rt: HostRuntime) -> Result<(), Fail> {
-    let note: MacroFn = Box::new(rt.alloc(), |_call: &Call| Ok(Answer::Nothing))?;
+    let note: MacroFn = Box::new(rt.alloc(), |_call: Call| Ok(Answer::Nothing))?;
     assert!(rt; are_alike(&rt, FnName::new(b"NOTE").unwrap(), note)?);
-    let close: MacroFn = Box::new(rt.alloc(), |_call: &Call| Ok(Answer::Refused(1)))?;
+    let close: MacroFn = Box::new(rt.alloc(), |_call: Call| Ok(Answer::Refused(1)))?;
     assert!(rt; are_alike(&rt, FnName::new(b"CLOSE").unwrap(), close)?);
-    let count: MacroFn = Box::new(rt.alloc(), |call: &Call| Ok(counted(call)))?;
+    let count: MacroFn = Box::new(rt.alloc(), |call: Call| Ok(counted(&call)))?;
     assert!(rt; are_alike(&rt, FnName::new(b"COUNT").unwrap(), count)?);
     Ok(())
 }
@@ -142,7 +142,7 @@ fn both_answer_alike(rt: HostRuntime) -> Result<(), Fail> {
 fn both_cover_alike(rt: HostRuntime) -> Result<(), Fail> {
     let alloc = rt.alloc();
     let name = FnName::new(b"NOTE").unwrap();
-    let note: MacroFn = Box::new(alloc, |_call: &Call| Ok(Answer::Nothing))?;
+    let note: MacroFn = Box::new(alloc, |_call: Call| Ok(Answer::Nothing))?;
     let mut macros = Macros::new(alloc, Notes::new());
     if let Err(refusal) = macros.register(name, note) {
         return Err(refusal.cause.into());
