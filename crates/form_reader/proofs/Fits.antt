@@ -117,7 +117,7 @@ module _ (packages : Packages) (room : ℕ) where
   list_parts items None fit =
       let p = and_parts (nat_lt 0 (length items)) (list_all is_proper items) (sym (is_proper-List items) ∙ fit.proper) in
       let k = and_parts (list_all (λ d. are_known packages (object_of d)) items) (are_known packages nil)
-          (sym (known_pairs packages items nil) ∙ sym (ap (are_known packages) (object_of-List items)) ∙ fit.known) in
+      (sym (known_pairs packages items nil) ∙ sym (ap (are_known packages) (object_of-List items)) ∙ fit.known) in
       let deep : greatest (map depth items) + 1 ≤ room = omega (arith, depth-List items, fit.deep) in
       (omega (arith, deep), ltb-true 0 (length items) p.0, items_fit packages (room - 1) items p.1 k.0 (omega (arith, deep)), tt)
   list_parts items (Some t) fit =
@@ -125,16 +125,19 @@ module _ (packages : Packages) (room : ℕ) where
       let p = and_parts (nat_lt 0 (length items)) (list_all is_proper items) w.0 in
       let e = and_parts (is_proper t) (not (is_list t)) w.1 in
       let k = and_parts (list_all (λ d. are_known packages (object_of d)) items) (are_known packages (object_of t))
-          (sym (known_pairs packages items (object_of t)) ∙ sym (ap (are_known packages) (object_of-dotted items t)) ∙ fit.known) in
+      (sym (known_pairs packages items (object_of t)) ∙ sym (ap (are_known packages) (object_of-dotted items t)) ∙ fit.known) in
       let deep : greatest (map depth items) + 1 ≤ room = omega (arith, depth-dotted items t, fit.deep) in
-      let low : depth t + 1 ≤ room = omega (arith, depth-dotted items t, fit.deep) in
-      (omega (arith, deep), ltb-true 0 (length items) p.0, items_fit packages (room - 1) items p.1 k.0 (omega (arith, deep)),
-      (record { proper = e.0; deep = omega (arith, low); known = k.1 }, not-true (is_list t) e.1))
+      let low : depth t + 1 ≤ room = omega (arith, depth-dotted items t, fit.deep) in (
+        omega (arith, deep),
+        ltb-true 0 (length items) p.0,
+        items_fit packages (room - 1) items p.1 k.0 (omega (arith, deep)),
+        (record { proper = e.0; deep = omega (arith, low); known = k.1 }, not-true (is_list t) e.1),
+      )
 
   pub vector_parts : (items : List Datum) → Fits packages room (Datum.Vector items) → (0 < room) × All (Fits packages (room - 1)) items
   vector_parts items fit =
       let k = and_parts (list_all (λ d. are_known packages (object_of d)) items) (are_known packages nil)
-          (sym (known_pairs packages items nil) ∙ sym (ap (are_known packages) (object_of-Vector items)) ∙ fit.known) in
+      (sym (known_pairs packages items nil) ∙ sym (ap (are_known packages) (object_of-Vector items)) ∙ fit.known) in
       let deep : greatest (map depth items) + 1 ≤ room = omega (arith, depth-Vector items, fit.deep) in
       (omega (arith, deep), items_fit packages (room - 1) items (sym (is_proper-Vector items) ∙ fit.proper) k.0 (omega (arith, deep)))
 

@@ -125,12 +125,7 @@ fn all_fit(packages: &Packages, room: u64, left: &mut u64, items: &Items<Datum>)
 }
 
 #[cycle(fitting)]
-fn end_fits(
-    packages: &Packages,
-    room: u64,
-    left: &mut u64,
-    tail: &Option<Boxed<Datum>>,
-) -> bool
+fn end_fits(packages: &Packages, room: u64, left: &mut u64, tail: &Option<Boxed<Datum>>) -> bool
     ensures fits { IsTrue result → FitsEnd packages.now.0 room tail.now
         × (left.new + end_size tail.now ≡ left.old) }
     ensures others { FitsEnd packages.now.0 room tail.now

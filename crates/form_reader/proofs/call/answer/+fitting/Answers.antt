@@ -15,8 +15,13 @@ all_fit-loop-item-preserved t c =
     record {
       fit = All-more (Fits c.args.packages.now.0 c.args.room) c.as_slice-items.result.now c.loop-item.item-index c.item-item.result c.loop-item-test.true
           c.loop-item.invariant.fit (subst (Fits c.args.packages.now.0 c.args.room) c.item-item.is here.0);
-      left = omega (arith, sum_by_more size c.as_slice-items.result.now c.loop-item.item-index c.item-item.result c.loop-item-test.true,
-          ap size c.item-item.is, here.1, c.loop-item.invariant.left);
+      left = omega (
+        arith,
+        sum_by_more size c.as_slice-items.result.now c.loop-item.item-index c.item-item.result c.loop-item-test.true,
+        ap size c.item-item.is,
+        here.1,
+        c.loop-item.invariant.left,
+      );
     }
 
 -- ---- lists
