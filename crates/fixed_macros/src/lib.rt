@@ -12,8 +12,6 @@
 mod answering;
 pub mod example;
 mod fixed;
-#[cfg(test)]
-mod trial;
 
 pub use answering::Answering;
 pub use fixed::Fixed;
