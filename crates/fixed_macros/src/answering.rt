@@ -12,9 +12,9 @@ use user_macros::{Answer, Call, Meaning};
 pub trait Answering: Meaning {
     /// What the function of this name answers: the definition, or out of memory. The name is one of the meaning, and the call is
     /// sound.
-    fn answer(&self, alloc: Global, name: FnName, call: &Call) -> Result<Answer, AllocError>
+    fn answer(&self, alloc: Global, name: FnName, call: Call) -> Result<Answer, AllocError>
         requires known { IsTrue (is_among Self.functions.names name) }
-        requires sound { IsSoundCall call.now }
+        requires sound { IsSoundCall call }
         ensures { IfOk result (λ answer. answer_of answer
-            ≡ Self.functions.answer name (call_of call.now)) };
+            ≡ Self.functions.answer name (call_of call)) };
 }

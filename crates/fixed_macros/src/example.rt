@@ -10,7 +10,7 @@ use user_macros::example::Notes;
 use user_macros::{Answer, Call, Gathered, MacroFunctions};
 
 impl Answering for Notes {
-    fn answer(&self, _alloc: Global, _name: FnName, _call: &Call) -> Result<Answer, AllocError> {
+    fn answer(&self, _alloc: Global, _name: FnName, _call: Call) -> Result<Answer, AllocError> {
         Ok(Answer::Nothing)
     }
 }
@@ -26,5 +26,5 @@ pub fn note(alloc: Global) -> Result<Answer, AllocError>
         number: None,
         gathered: Gathered::Text(Bytes::from_slice(alloc, b"")?),
     };
-    macros.call(FnName::new(b"NOTE").unwrap(), &call)
+    macros.call(FnName::new(b"NOTE").unwrap(), call)
 }

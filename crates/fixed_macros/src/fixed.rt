@@ -83,7 +83,7 @@ impl<M: Answering> MacroFunctions for Fixed<M> {
         self.meaning.gather(name)
     }
 
-    fn call(&self, name: FnName, call: &Call) -> Result<Answer, AllocError> {
+    fn call(&self, name: FnName, call: Call) -> Result<Answer, AllocError> {
         self.meaning.answer(self.alloc, name, call)
     }
 

@@ -68,7 +68,7 @@ pub(crate) fn call_value<R: MacroFunctions>(
                 return Ok(CallValue::Refused(MACRO_REFUSED, 0));
             }
             let call = macro_call(with.alloc, call, gathered)?;
-            let answer = with.macros.call(name, &call)?;
+            let answer = with.macros.call(name, call)?;
             Ok(user_value(
                 with.packages,
                 with.limits.nesting,

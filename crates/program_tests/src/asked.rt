@@ -7,8 +7,9 @@ use crate::files::{AMPLE, Trouble, asked_in_memory};
 use crate::lines::{ended_line, ending_line, is_short, number_line, outcome_line, outcome_lines};
 use disk_trait::{Disk, MemoryDisk};
 use prevalence_store::{Ended, Ending, Mode, Outcome, Step, Store, Wanted};
+use six_functions::SixFunctions;
 use std::alloc::{AllocError, Global};
-use store_commands::{SixFunctions, write_half_line};
+use store_commands::write_half_line;
 
 /// A call of an open store, and the lines of it in the text.
 #[derive(Clone, Copy)]

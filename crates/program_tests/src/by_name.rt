@@ -5,12 +5,12 @@ ghost use Rattle.std.specs.List.{list_all};
 ghost use Rattle.std.specs.Option.{option_map_or};
 ghost use Rattle.readtable_core.specs.Named.{functions_at};
 ghost use Rattle.user_macros.specs.Registry.{is_covered};
-ghost use Rattle.store_commands.specs.MacroFunctions.{function_names, six_functions};
+ghost use Rattle.six_functions.specs.MacroFunctions.{function_names, six_functions};
 
 use readtable_core::{CharacterSlot, FnName, Readtable};
+use six_functions::{SixFunctions, macro_functions};
 use std::alloc::{AllocError, Global};
 use std::cell::Cell;
-use store_commands::{SixFunctions, macro_functions};
 use user_macros::{Answer, Call, Gather, MacroFunctions, Meaning};
 
 /// All six functions. One call may find no memory.
@@ -99,7 +99,7 @@ impl MacroFunctions for ByName {
         self.meaning.gather(name)
     }
 
-    fn call(&self, name: FnName, call: &Call) -> Result<Answer, AllocError> {
+    fn call(&self, name: FnName, call: Call) -> Result<Answer, AllocError> {
         if self.is_short() {
             return Err(AllocError);
         }

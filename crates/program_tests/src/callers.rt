@@ -13,10 +13,10 @@ use crate::files::{AMPLE, Trouble, crashed, trouble_of};
 use crate::lines::unfaulted;
 use disk_trait::{Crash, Disk, MemoryDisk};
 use prevalence_store::{Ending, Mode, Outcome, Store, Unopened, headline};
+use six_functions::SixFunctions;
 use std::alloc::Global;
 use std::io::{Read, Write};
 use std::test::Fail;
-use store_commands::SixFunctions;
 use user_macros::MacroFunctions;
 
 /// A disk that was closed after two forms and a snapshot, and what the opening of another one gave.

@@ -8,9 +8,9 @@ use crate::files::{Trouble, asked_in_memory, trouble_of};
 use crate::long::CountedDisk;
 use disk_trait::{Disk, Half, MemoryDisk};
 use prevalence_store::{Mode, Step, Store, Unopened};
+use six_functions::SixFunctions;
 use std::alloc::Global;
 use std::cell::Cell;
-use store_commands::SixFunctions;
 
 mod rows;
 

@@ -5,9 +5,9 @@ use crate::by_name::ByName;
 use crate::campaign::is_wanted;
 use crate::files::{AMPLE, Trouble, asked_in_memory, unfailed};
 use disk_trait::{FuseDisk, MemoryDisk};
+use six_functions::SixFunctions;
 use std::alloc::Global;
 use std::test::Fail;
-use store_commands::SixFunctions;
 
 const SQUARE: &[u8] = b"(SET-MACRO-CHARACTER #\\[ :SQUARE)";
 

@@ -5,11 +5,12 @@ use crate::by_name::ByName;
 use crate::files::Trouble;
 use crate::runs::{folder_for, in_memory, words_of};
 use readtable_core::FnName;
+use six_functions::SixFunctions;
 use std::cell::Cell;
 use std::fs;
 use std::io::{Read, Write};
 use std::test::Fail;
-use store_commands::{Answers, Heard, Lines, SixFunctions, Terminal, program_at_terminal};
+use store_commands::{Answers, Heard, Lines, Terminal, program_at_terminal};
 use user_macros::MacroFunctions;
 
 /// The status of a program at a terminal, with these streams. They are parameters of types of their own, as the terminal would

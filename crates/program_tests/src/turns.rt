@@ -6,11 +6,12 @@ use crate::files::{AMPLE, Trouble, left_after, trouble_of};
 use disk_trait::MemoryDisk;
 use plist_state::Seed;
 use prevalence_store::{Ended, Mode, Wanted};
+use six_functions::SixFunctions;
 use std::alloc::Global;
 use std::cell::Cell;
 use std::io::{Read, Result as IoResult, Write};
 use std::test::Fail;
-use store_commands::{Report, SixFunctions, Status, report_on, serve_on};
+use store_commands::{Report, Status, report_on, serve_on};
 
 /// What a reader and a writer know of one another.
 #[derive(Drop)]

@@ -8,9 +8,10 @@ use crate::files::{AMPLE, Files, Trouble, asked_in_memory, crashed, disk_with, u
 use crate::versions::first_version;
 use disk_trait::{Crash, Disk, FuseDisk, MemoryDisk, OnceDisk};
 use plist_state::Seed;
+use six_functions::SixFunctions;
 use std::alloc::Global;
 use std::test::Fail;
-use store_commands::{SixFunctions, Status, upgrade_on};
+use store_commands::{Status, upgrade_on};
 
 /// Upgrades the store of a disk: the text that is written, and the disk.
 fn upgraded<D: Disk + Drop>(alloc: Global, disk: D) -> Result<(Vec<u8>, D), Trouble> {

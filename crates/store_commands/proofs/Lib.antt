@@ -1,4 +1,3 @@
-mod Answered
 pub mod AtTerminal
 pub mod FolderLaws
 pub mod Interrupted

@@ -1,6 +1,5 @@
 pub mod Commands
 pub mod Folders
-pub mod MacroFunctions
 pub mod Report
 pub mod Session
 pub mod Sessions

@@ -15,7 +15,6 @@
 //!   (module `looks`, over `log_look` and `store_reports`).
 //! - `folders` has what opens the files of a folder, and the disk that they are. `existing_stores_are_open` (module `laws`): with
 //!   `--existing` one of both files of an honest disk is a half in use.
-//! - `meaning` says what the macro functions of the program mean, and `macro_functions` has those that compute an object.
 #![tactic(auto)]
 
 mod answers;
@@ -25,8 +24,6 @@ mod folders;
 mod half_line;
 mod laws;
 mod looks;
-pub mod macro_functions;
-mod meaning;
 mod report;
 mod session;
 mod sessions;
@@ -50,7 +47,6 @@ pub use folders::{Folders, TellsCause};
 pub use half_line::write_half_line;
 pub use laws::existing_stores_are_open;
 pub use looks::look;
-pub use meaning::SixFunctions;
 pub use report::report_on;
 pub use session::{HALF_LIMIT, serve_on};
 pub use sessions::sessions_on;

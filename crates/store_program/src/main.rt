@@ -8,14 +8,15 @@ ghost use Rattle.user_macros.specs.Functions.{are_registered};
 
 use lisp_object::refusal::NO_MEMORY;
 use readtable_core::FnName;
+use six_functions::{SixFunctions, macro_functions};
 use std::alloc::AllocError;
 use std::cell::Cell;
 use std::env;
 use std::io::{ErrorKind, IsTerminal, Write};
 use std::process::ExitCode;
 use store_commands::{
-    Answers, Heard, Lines, Piped, SixFunctions, Status, Terminal, Uninterrupted, asks_to_look,
-    end_with, look, macro_functions, program, program_at_terminal,
+    Answers, Heard, Lines, Piped, Status, Terminal, Uninterrupted, asks_to_look, end_with, look,
+    program, program_at_terminal,
 };
 use user_macros::{Answer, Call, Cause, MacroFn, MacroFunctions, Macros, Refusal};
 
@@ -103,23 +104,23 @@ fn start<F: Write>(rt: &HostRuntime, faults: &mut F) -> Result<Status, AllocErro
     let alloc = rt.alloc();
     let square: MacroFn = Box::new(
         alloc,
-        move |call: &Call| -> Result<Answer, AllocError>
-            requires { IsSoundCall call.now }
+        move |call: Call| -> Result<Answer, AllocError>
+            requires { IsSoundCall call }
         { macro_functions::square(alloc, call) },
     )?;
-    let close: MacroFn = Box::new(alloc, |_call: &Call| Ok(Answer::Refused(1)))?;
-    let note: MacroFn = Box::new(alloc, |_call: &Call| Ok(Answer::Nothing))?;
-    let skip: MacroFn = Box::new(alloc, |_call: &Call| Ok(Answer::Nothing))?;
+    let close: MacroFn = Box::new(alloc, |_call: Call| Ok(Answer::Refused(1)))?;
+    let note: MacroFn = Box::new(alloc, |_call: Call| Ok(Answer::Nothing))?;
+    let skip: MacroFn = Box::new(alloc, |_call: Call| Ok(Answer::Nothing))?;
     let unit: MacroFn = Box::new(
         alloc,
-        move |call: &Call| -> Result<Answer, AllocError>
-            requires { IsSoundCall call.now }
+        move |call: Call| -> Result<Answer, AllocError>
+            requires { IsSoundCall call }
         { macro_functions::unit(alloc, call) },
     )?;
     let scale: MacroFn = Box::new(
         alloc,
-        |call: &Call| -> Result<Answer, AllocError>
-            requires { IsSoundCall call.now }
+        |call: Call| -> Result<Answer, AllocError>
+            requires { IsSoundCall call }
         { Ok(macro_functions::scale(call)) },
     )?;
     let mut macros = Macros::new(alloc, SixFunctions::new());

@@ -54,7 +54,7 @@ pub fn note(alloc: Global) -> Result<Answer, AllocError>
     ensures { IfOk result (λ answer. answer_of answer ≡ no_value) }
 {
     let name = FnName::new(b"NOTE").unwrap();
-    let function: MacroFn = Box::new(alloc, |_call: &Call| Ok(Answer::Nothing))?;
+    let function: MacroFn = Box::new(alloc, |_call: Call| Ok(Answer::Nothing))?;
     let mut macros = Macros::new(alloc, Notes::new());
     if let Err(refusal) = macros.register(name, function) {
         // NOTE is a name of the meaning, and nothing is registered under it.
@@ -67,5 +67,5 @@ pub fn note(alloc: Global) -> Result<Answer, AllocError>
         number: None,
         gathered: Gathered::Text(Bytes::from_slice(alloc, b"")?),
     };
-    macros.call(name, &call)
+    macros.call(name, call)
 }

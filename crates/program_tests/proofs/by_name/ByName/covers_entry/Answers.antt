@@ -4,7 +4,7 @@ use Rattle.std.specs.Option.{option_map_or}
 use Rattle.readtable_core.proofs.Named.{all_named}
 use Rattle.user_macros.specs.Registry.{is_covered}
 use Rattle.user_macros.proofs.Found.{second_counts}
-use Rattle.store_commands.specs.MacroFunctions.{function_names}
+use Rattle.six_functions.specs.MacroFunctions.{function_names}
 use Rattle.program_tests.proofs.by_name.ByName.covers_entry.Goals as goal
 
 pub returns-then-covers_function : goal.returns-then-covers_function

@@ -4,7 +4,7 @@ use Rattle.readtable_core.specs.Named.{functions_at}
 use Rattle.readtable_core.proofs.Named.{all_functions}
 use Rattle.user_macros.specs.Registry.{is_covered}
 use Rattle.user_macros.proofs.Found.{each_but_one, each_in_all}
-use Rattle.store_commands.specs.MacroFunctions.{function_names}
+use Rattle.six_functions.specs.MacroFunctions.{function_names}
 use Rattle.program_tests.proofs.by_name.ByNameMacroFunctions.covers.Goals as goal
 
 pub returns-then-not-covers_entry : goal.returns-then-not-covers_entry

@@ -2,7 +2,7 @@ use Rattle.std.proofs.Common.{◌≡◌, true, take}
 use Rattle.std.specs.List.{list_all}
 use Rattle.readtable_core.specs.Named.{functions_at}
 use Rattle.user_macros.specs.Registry.{is_covered}
-use Rattle.store_commands.specs.MacroFunctions.{function_names}
+use Rattle.six_functions.specs.MacroFunctions.{function_names}
 use Rattle.program_tests.proofs.by_name.ByNameMacroFunctions.covers.Given as goal
 
 abbrev pub invariant-loop-entry : goal.invariant-loop-entry

@@ -2,7 +2,7 @@ use Rattle.std.proofs.Common.{◌≡◌, ◌∙◌, ℕ, Bool, true, false, ◌|
 use Rattle.readtable_core.specs.Names.{is_among, same_name}
 use Rattle.user_macros.specs.declared.call.Gather.{Gather}
 use Rattle.user_macros.specs.declared.call.Gather.TheVariants.{Nothing, Next, Until, Text, Line}
-use Rattle.store_commands.specs.MacroFunctions.{function_names, way_of}
+use Rattle.six_functions.specs.MacroFunctions.{function_names, way_of}
 use Rattle.program_tests.proofs.by_name.ByNameMacroFunctions.gather_of.Goals as goal
 
 -- by which of the six names it is
