@@ -10,6 +10,7 @@ pub mod Sound
 pub mod Shown
 pub mod Undoing
 pub mod Kept
+pub mod Indexed
 pub mod Journal
 pub mod Marked
 pub mod Viewed

@@ -9,10 +9,9 @@ ghost use Rattle.plist_state.specs.Shown.{first_numbered, rest_of, readtables_of
 ghost use Rattle.plist_state.specs.Kept.{IsProperRows, IsWider};
 ghost use Rattle.plist_state.specs.Journal.{marks_of, Continues};
 
+use crate::indexed_rows::Rows;
 use crate::journal::{push_note, reserve_note};
 use crate::note::Note;
-use crate::property::NumberedProperty;
-use crate::rows;
 use crate::tables::{STANDARD, USER};
 use lisp_object::Datum;
 use package_table::standardized::COMMON_LISP_USER;
@@ -25,7 +24,7 @@ use std::collections::BTreeMap;
 /// A row that was emptied stays, so that to go back takes no memory: the symbol has no property list then.
 #[derive(Drop)]
 pub(crate) struct Stored {
-    pub(crate) properties: BTreeMap<u32, Vec<NumberedProperty>>,
+    pub(crate) properties: Rows,
     pub(crate) readtables: BTreeMap<Vec<u8>, Readtable>,
     pub(crate) current_package: Vec<u8>,
     pub(crate) current_readtable: Vec<u8>,
@@ -54,7 +53,7 @@ pub(crate) fn first_stored(alloc: Global) -> Result<Stored, AllocError>
 {
     let readtables = first_readtables(alloc)?;
     Ok(Stored {
-        properties: BTreeMap::new(alloc),
+        properties: Rows::new(alloc),
         readtables,
         current_package: Vec::from_slice(alloc, COMMON_LISP_USER)?,
         current_readtable: Vec::from_slice(alloc, USER)?,
@@ -83,7 +82,7 @@ pub(crate) fn put(
         (marks_of marks.new.items) (rest_of stored.new) }
 {
     reserve_note(marks)?;
-    let Ok(change) = rows::put(alloc, &mut stored.properties, number, indicator, value) else {
+    let Ok(change) = stored.properties.put(alloc, number, indicator, value) else {
         return Err(AllocError);
     };
     push_note(marks, Note::Property { number, change });
@@ -113,7 +112,7 @@ pub(crate) fn push(
 {
     reserve_note(marks)?;
     let empty = Datum::nil(alloc)?;
-    let Ok(change) = rows::push(&mut stored.properties, number, indicator, first, empty) else {
+    let Ok(change) = stored.properties.push(number, indicator, first, empty) else {
         return Err(AllocError);
     };
     push_note(marks, Note::Property { number, change });
@@ -141,11 +140,11 @@ pub(crate) fn remove(
     ensures marked { Continues (marks_of marks.old.items) (rest_of stored.old)
         (marks_of marks.new.items) (rest_of stored.new) }
 {
-    if rows::value(&stored.properties, number, indicator).is_none() {
+    if stored.properties.value(number, indicator).is_none() {
         return Ok(false);
     }
     reserve_note(marks)?;
-    let Some(change) = rows::remove(&mut stored.properties, number, indicator) else {
+    let Some(change) = stored.properties.remove(number, indicator) else {
         unreachable!()
     };
     push_note(marks, Note::Property { number, change });

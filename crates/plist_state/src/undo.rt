@@ -8,7 +8,7 @@ ghost use Rattle.plist_state.specs.Journal.{marks_of, IsNoted, IsJournal, Fits, 
 
 use crate::note::Note;
 use crate::stored::Stored;
-use crate::{rows, tables};
+use crate::tables;
 
 fn undo(stored: &mut Stored, note: Note)
     requires note { IsNoted note }
@@ -19,7 +19,7 @@ fn undo(stored: &mut Stored, note: Note)
 {
     match note {
         Note::Property { number, change } => {
-            rows::take_back(&mut stored.properties, number, change);
+            stored.properties.take_back(number, change);
         }
         Note::Made(name) => tables::remove(&mut stored.readtables, name.as_slice()),
         Note::Changed { name, change } => {
