@@ -8,9 +8,9 @@ pub mod Readers
 pub mod Refused
 pub mod Sound
 pub mod Shown
+pub mod Indexed
 pub mod Undoing
 pub mod Kept
-pub mod Indexed
 pub mod Journal
 pub mod Marked
 pub mod Viewed

@@ -43,7 +43,6 @@ mod base;
 mod copies;
 mod error;
 mod first_items;
-mod indexed_rows;
 mod journal;
 mod marks;
 mod note;

@@ -7,9 +7,9 @@ ghost use Rattle.plist_state.specs.Lists.{list_of, lists};
 ghost use Rattle.plist_state.specs.Readers.{readtable_names, borrowed_symbols, symbols_with_properties};
 ghost use Rattle.plist_state.specs.Shown.{lists_of, readtables_of};
 
-use crate::World;
-use crate::indexed_rows::Rows;
 use crate::numbers::number_of;
+use crate::property::NumberedProperty;
+use crate::{World, rows};
 use lisp_object::{Bytes, Items};
 use package_table::Packages;
 use readtable_core::Readtable;
@@ -27,12 +27,17 @@ fn names(alloc: Global, tables: &BTreeMap<Vec<u8>, Readtable>) -> Result<Items<B
 }
 
 // Whether the symbol of this home and name has properties.
-fn has_properties(packages: &Packages, rows: &Rows, home: &[u8], name: &[u8]) -> bool
+fn has_properties(
+    packages: &Packages,
+    rows: &BTreeMap<u32, Vec<NumberedProperty>>,
+    home: &[u8],
+    name: &[u8],
+) -> bool
     ensures { result
         ≡ is_some (list_of (numbered packages.now) (lists_of rows.now) (home.now, name.now)) }
 {
     match number_of(packages, home, name) {
-        Some(number) => rows.has_properties(number),
+        Some(number) => rows::has_properties(rows, number),
         None => false,
     }
 }
@@ -41,7 +46,7 @@ fn has_properties(packages: &Packages, rows: &Rows, home: &[u8], name: &[u8]) ->
 fn push_owners<'a>(
     alloc: Global,
     packages: &'a Packages,
-    rows: &Rows,
+    rows: &BTreeMap<u32, Vec<NumberedProperty>>,
     home: &'a [u8],
     symbols: &mut Vec<(&'a [u8], &'a [u8])>,
 ) -> Result<(), AllocError>
@@ -63,7 +68,7 @@ fn push_owners<'a>(
 fn owners<'a>(
     alloc: Global,
     packages: &'a Packages,
-    rows: &Rows,
+    rows: &BTreeMap<u32, Vec<NumberedProperty>>,
 ) -> Result<Vec<(&'a [u8], &'a [u8])>, AllocError>
     ensures { IfOk result (λ symbols. borrowed_symbols symbols.items
         ≡ finite.keys (lists (numbered packages.now) (lists_of rows.now))) }

@@ -1,5 +1,5 @@
 //! The index of a long row: the order of each of its properties by the number of its indicator.
-ghost use Rattle.std.specs.Prelude.{◌≡◌, ◌<◌, ◌++◌, ◌∷◌, [], None, length, IfOk, IfSome};
+ghost use Rattle.std.specs.Prelude.{◌≡◌, ◌≢◌, ◌<◌, ◌++◌, ◌∷◌, [], ℕ, None, length, IfOk, IfErr, IfSome, OnOk};
 ghost use Rattle.std.specs.List.{position};
 ghost use Rattle.plist_state.specs.declared.property.NumberedProperty.{NumberedProperty as Numbered};
 ghost use Rattle.plist_state.specs.Lists.{same_number};

@@ -11,7 +11,7 @@ ghost use Rattle.plist_state.specs.State.{initial};
 use crate::note::Note;
 use crate::numbers::number_of;
 use crate::stored::{Stored, first_stored};
-use crate::{PropertyList, Symbol, tables};
+use crate::{PropertyList, Symbol, rows, tables};
 use lisp_object::Datum;
 use package_table::{Packages, Seed};
 use readtable_core::Readtable;
@@ -126,7 +126,8 @@ impl World {
         let Some(indicator) = number_of(&self.packages, indicator.home(), indicator.name()) else {
             return None;
         };
-        self.stored.properties.value(owner, indicator)
+        let stored = &self.stored;
+        rows::value(&stored.properties, &stored.indexes, owner, indicator)
     }
 
     /// The property list of a symbol (standard 10.2, `symbol-plist`). Takes no memory.
@@ -142,7 +143,7 @@ impl World {
     {
         match number_of(&self.packages, home, name) {
             Some(number) => {
-                PropertyList::new(&self.packages, self.stored.properties.row(number))
+                PropertyList::new(&self.packages, rows::row(&self.stored.properties, number))
             }
             None => PropertyList::new(&self.packages, &[]),
         }
