@@ -1,7 +1,7 @@
 -- An index that is given the order of an indicator which is new in its row, and rows whose properties are written.
 --     still, next      the index of the row as it was, and with the new property
 --     indexed_set, indexed_removed, indexed_taken, indexed_push      the index of a row that is written
-use Rattle.std.proofs.Common.{◌≡◌, ◌≢◌, ℕ, ◌+◌, ◌-◌, ◌<◌, ◌≤◌, Option, None, Some, List, [], ◌∷◌, ◌++◌, map, length, take, set, get_or, refl, sym, ap, subst, ◌∙◌, arith}
+use Rattle.std.proofs.Common.{◌≡◌, ◌≢◌, ℕ, ◌<◌, ◌≤◌, None, Some, List, [], ◌∷◌, ◌++◌, length, take, set, get_or, sym, ap, subst, ◌∙◌, arith}
 use Rattle.std.specs.List.{position, remove}
 use Rattle.std.specs.Map.{set_value}
 use Rattle.std.specs.Ordering.{nat_cmp}
@@ -9,10 +9,10 @@ use Rattle.std.specs.BTreeMap.{insert_entry, is_at}
 use Rattle.std.proofs.lemmas.List.{length-map, map-append}
 use Rattle.lisp_object.specs.declared.datum.Datum.{Datum}
 use Rattle.plist_state.specs.declared.property.NumberedProperty.{NumberedProperty}
-use Rattle.plist_state.specs.Indexed.{Orders, Index, Indexes, order_of, orders, nth, index_at, IsRising, IsIndexed, IsIndexedIn}
+use Rattle.plist_state.specs.Indexed.{Index, Indexes, order_of, orders, nth, index_at, IsRising, IsIndexed, IsIndexedIn}
 use Rattle.plist_state.proofs.Indices.{has}
 use Rattle.plist_state.proofs.ListRows.{number_tied}
-use Rattle.plist_state.proofs.Placing.{IsPutAt, inserted, written_at, not_same, index_put, same_some}
+use Rattle.plist_state.proofs.Placing.{inserted, written_at, not_same, index_put, same_some}
 use Rattle.plist_state.proofs.Indexing.{elsewhere, orders-set, orders-remove, orders-take, IsIndexed-remove, IsIndexed-take, IsIndexed-noted, IsIndexed-added}
 
 module _ (old new : Indexes) (n : ℕ) (items : List NumberedProperty) (i o : ℕ) (x later : Index)

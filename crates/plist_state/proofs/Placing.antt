@@ -3,7 +3,7 @@
 --     not_same      two numbers that differ
 --     others_inserted, others_written, others_taken      the indexes of the other numbers
 --     are_indexed      one row is written, and its index
-use Rattle.std.proofs.Common.{◌≡◌, ◌≢◌, ℕ, Bool, true, false, cond, Option, None, Some, unwrap_or, List, [], ◌∷◌, map, refl, sym, ap, subst, ◌∙◌, arith}
+use Rattle.std.proofs.Common.{◌≡◌, ◌≢◌, ℕ, true, false, cond, Option, None, Some, unwrap_or, List, refl, sym, ap, subst, ◌∙◌}
 use Rattle.std.specs.Option.{option_map, IsSome}
 use Rattle.std.specs.Global.{Vec}
 use Rattle.std.specs.Ordering.{nat_cmp, eq_by_cmp}
@@ -11,7 +11,6 @@ use Rattle.std.specs.List.Sorted.{IsStrictlySortedBy}
 use Rattle.std.specs.Map.{lookup, keys_of, set_value, remove_entry}
 use Rattle.std.specs.BTreeMap.{insert_entry, is_at}
 use Rattle.std.specs.FinMap.{find}
-use Rattle.std.proofs.lemmas.Bool.{false≢true}
 use Rattle.std.proofs.lemmas.Cmp.{nat_cmp_total}
 use Rattle.lisp_object.proofs.Tree as tree
 use Rattle.plist_state.specs.declared.property.NumberedProperty.{NumberedProperty}

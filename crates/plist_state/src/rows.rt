@@ -29,6 +29,8 @@ pub(crate) fn row<'a>(
     requires { IsProperRows rows.now.entries }
     ensures list { map numbered_property result.now ≡ row_of (lists_of rows.now) number }
     ensures proper { All (λ p. is_proper p.value ≡ true) result.now }
+    ensures indexed { (indexes : _) → AreIndexed rows.now.entries indexes
+        → IsIndexedIn indexes number result.now }
 {
     match rows.get(&number) {
         Some(row) => row.as_slice(),
@@ -59,8 +61,8 @@ pub(crate) fn value<'a>(
         ≡ value_in (lists_of rows.now) number indicator }
     ensures proper { IfSome result (λ d. is_proper d.now ≡ true) }
 {
-    let row = rows.get(&number)?;
-    match place(row.as_slice(), indexes, number, indicator) {
+    let row = row(rows, number);
+    match place(row, indexes, number, indicator) {
         Some(index) => Some(&row[index].value),
         None => None,
     }

@@ -1,7 +1,4 @@
-use Rattle.std.proofs.Common.{◌≡◌, ◌<◌, ◌≤◌, ℕ, length, take, sym, ap, subst, ◌∙◌, arith}
-use Rattle.std.proofs.Math.Seq.{take-length}
-use Rattle.std.proofs.lemmas.List.{length-map}
-use Rattle.plist_state.specs.Indexed.{orders, order_of, IsIndexed}
+use Rattle.std.proofs.Common.{◌<◌, ◌≤◌, length, sym, ◌∙◌, arith}
 use Rattle.plist_state.proofs.Placing.{inserted}
 use Rattle.plist_state.proofs.Indexing.{IsIndexed-next, below_next}
 use Rattle.plist_state.proofs.row_index.index_of.Goals as goal

@@ -1,4 +1,4 @@
-use Rattle.std.proofs.Common.{◌≡◌, ◌<◌, ℕ, take, length}
+use Rattle.std.proofs.Common.{◌<◌, ℕ, take}
 use Rattle.plist_state.specs.Indexed.{orders, nth, IsIndexed}
 use Rattle.plist_state.proofs.row_index.index_of.Given as goal
 

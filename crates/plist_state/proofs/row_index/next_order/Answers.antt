@@ -1,5 +1,4 @@
-use Rattle.std.proofs.Common.{◌≡◌, ◌<◌, ◌≤◌, ℕ, length, arith}
-use Rattle.plist_state.specs.Indexed.{orders, nth}
+use Rattle.std.proofs.Common.{arith}
 use Rattle.plist_state.proofs.Indexing.{above_last}
 use Rattle.plist_state.proofs.row_index.next_order.Goals as goal
 

@@ -2,7 +2,7 @@ use Rattle.std.proofs.Common.{◌≡◌, refl, sym, ap, subst, ◌∙◌}
 use Rattle.package_table.specs.Table.{symbol_count}
 use Rattle.package_table.specs.Numbers.{numbered}
 use Rattle.lisp_object.specs.Datum.{object_of}
-use Rattle.plist_state.specs.Properties.{same_symbol, with_value, value_by}
+use Rattle.plist_state.specs.Properties.{same_symbol, value_by}
 use Rattle.plist_state.specs.Changes.{property}
 use Rattle.plist_state.specs.Pushed.{holds_pair, pushed, with_pushed_by}
 use Rattle.plist_state.specs.State.{Worlds}
