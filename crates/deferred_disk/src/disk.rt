@@ -1,5 +1,5 @@
 // The disk.
-ghost use Rattle.std.specs.Prelude.{◌≡◌, ◌+◌, ◌-◌, ◌<◌, ◌≤◌, ◌^◌, OnErr, OnOk, length};
+ghost use Rattle.std.specs.Prelude.{◌≡◌, ◌↔◌, ◌+◌, ◌-◌, ◌<◌, ◌≤◌, ◌^◌, [], IsTrue, OnErr, OnOk, length};
 ghost use Rattle.std.proofs.Props.{props};
 ghost use Rattle.disk_trait.specs.Disk.{HoldsBytes};
 ghost use Rattle.deferred_disk.specs.Bytes.{orders_bytes};
@@ -12,7 +12,11 @@ use crate::kept::Kept;
 use crate::order::{Order, push};
 use crate::past::Past;
 use disk_trait::{DeviceFault, Disk, Half};
+use gate_log::DefersCalls;
 use std::alloc::{AllocError, Global};
+
+// So much room is kept for the next orders; what a snapshot took is let go.
+const KEPT: usize = 65_536;
 
 /// Two files whose changes are orders, which somebody else does later.
 ///
@@ -60,6 +64,13 @@ impl DeferredDisk {
         ensures { result.now ≡ orders_bytes (pending_of self.now) }
     {
         &self.orders
+    }
+
+    /// Whether all orders were reported done.
+    pub fn is_done(&self) -> bool
+        ensures { IsTrue result ↔ (pending_of self.now ≡ []) }
+    {
+        self.orders().is_empty()
     }
 
     fn kept(&self, half: Half) -> &Kept
@@ -190,5 +201,23 @@ impl Disk for DeferredDisk {
             Ok(()) => Ok(()),
             Err(_) => Err(counted(&mut self.failures)),
         }
+    }
+}
+
+impl DefersCalls for DeferredDisk {
+    ghost use Rattle.deferred_disk.specs.Calls.{reported};
+    ghost use Rattle.deferred_disk.specs.Disk.{calls_of};
+
+    ghost reports = { λ old new. (calls_of new ≡ reported (calls_of old)) × (new.failures ≡ old.failures) };
+
+    fn report_done(&mut self) {
+        self.past = self.past.reported();
+        if self.orders.capacity() > KEPT {
+            self.orders = Vec::new(self.alloc);
+        } else {
+            self.orders.clear();
+        }
+        self.a.let_go(self.alloc);
+        self.b.let_go(self.alloc);
     }
 }
