@@ -4,6 +4,11 @@
 //! `way_of` (module `way`) tells how what they ask for is carried out, and who has them. `asked_in` (module `words`) finds one of these
 //! commands, its folder and its options, or the error of `clap`; `looked_in` (module `looks`) does so for the commands that only look
 //! into a store, and `checked_in` (module `check`) for the one that looks into a file. `help` has the texts of the help.
+//!
+//! # Laws for the crates above
+//!
+//! - proofs/CommandLineLaws.antt, proofs/FoundWords.antt: what clap makes of the words, and from its getters to
+//!   what they ask for.
 #![tactic(auto)]
 
 mod check;

@@ -5,6 +5,10 @@
 //! - `write_refusal` writes the line on the refusal that ended a session (module `refusal`).
 //! - `write_fault` and `write_fault_with_cause` write that of a fault, and `write_text` and `write_out` a text, whole or a part of it
 //!   from its front (module `fault`). None of them takes memory.
+//!
+//! # Laws for the crates above
+//!
+//! - proofs/Fronts.antt: a text that was written to its end or in part was written from its front.
 #![tactic(auto)]
 
 mod fault;

@@ -10,6 +10,14 @@
 //!   test it is only asked whether it is true
 //! - `operation`: what is at its head; `place`: the places of SETF, INCF and PUSH; `control`: the operators of control, and
 //!   atoms; `perform`, `effects`: what an operator makes of the values of its arguments; `values`: these values
+//!
+//! # Laws for the crates above
+//!
+//! - proofs/SilentForms.antt: a form that does not write leaves the state as it was.
+//! - proofs/SoundForms.antt: a form that is evaluated in a sound state leaves a sound one.
+//! - proofs/KeepingForms.antt: a relation that holds of each change holds of a form.
+//! - proofs/NumberedForms.antt: a form is refused under a number of evaluation.
+//! - proofs/WithoutBase.antt: what a form gives where `*READ-BASE*` is no variable.
 #![tactic(auto)]
 
 mod control;

@@ -63,9 +63,9 @@ const INPUT: &[u8] = b"(SET-MACRO-CHARACTER #\\! :DOUBLE)\n(LIST !3 !-5)\n!A\n";
 pub fn serve_doubled<W: Write>(alloc: Global, output: &mut W) -> Result<(), StoreError> {
     let boxed = Box::new(
         alloc,
-        |call: &Call| -> Result<Answer, AllocError>
-            requires { IsSoundCall call.now }
-        { Ok(double(call)) },
+        |call: Call| -> Result<Answer, AllocError>
+            requires { IsSoundCall call }
+        { Ok(double(&call)) },
     );
     let Ok(function) = boxed else {
         return Err(StoreError::Memory(AllocError));

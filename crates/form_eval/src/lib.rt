@@ -7,6 +7,11 @@
 //! - `read_form`: a form that was read, and whether its symbols are known to be there
 //! - `transaction`: `accept`; `application`: `apply`, which does the same and gives no value
 //! - `symbols`: the symbols of a datum; `interning`: they are interned in their homes
+//!
+//! # Laws for the crates above
+//!
+//! - proofs/Accepted.antt: what holds of a form as one transaction: it is silent, sound, covered, or refused under
+//!   a number of evaluation.
 #![tactic(auto)]
 
 mod application;

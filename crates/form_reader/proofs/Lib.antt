@@ -1,5 +1,6 @@
 pub mod Stacks
 pub mod Calls
+pub mod Fits
 pub mod Dispatches
 pub mod Gathering
 pub mod Tokens

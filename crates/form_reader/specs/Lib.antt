@@ -4,6 +4,7 @@ pub mod Token
 pub mod Gather
 pub mod State
 pub mod Call
+pub mod Fits
 pub mod Dispatch
 pub mod Value
 pub mod Step

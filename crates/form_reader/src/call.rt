@@ -1,11 +1,12 @@
 //! What a call gives for what was gathered, where it ends.
-ghost use Rattle.std.specs.Prelude.{◌≡◌, ◌+◌, true, nat_le, IfOk, ◌≤◌, ◌||◌, ℕ, false, List, length, Ok, ◌<◌};
+ghost use Rattle.std.specs.Prelude.{◌≡◌, ◌+◌, ◌&&◌, true, nat_le, IfOk, ◌≤◌, ◌||◌, ℕ, false, List, length, Ok, ◌<◌};
 ghost use Rattle.lisp_object.specs.Object.{object_depth};
 ghost use Rattle.lisp_object.specs.Datum.{object_of, is_proper};
 ghost use Rattle.user_macros.specs.Calls.{call_of, answer_of, material_of};
 ghost use Rattle.user_macros.specs.Sound.{IsSoundCall, IsProperMaterial};
 ghost use Rattle.std_macros.specs.Values.{value_of};
 ghost use Rattle.std_macros.specs.Results.{view_gathered, IsProperGathered};
+ghost use Rattle.lisp_reading.specs.Answering.{may_be_answered};
 ghost use Rattle.lisp_reading.specs.Setting.{macro_call, user_material, Setting};
 ghost use Rattle.form_reader.specs.Context.{setting};
 ghost use Rattle.lisp_reading.specs.Reading.{bytes_back, finished, answered, completed, gathered, closed};
@@ -67,7 +68,7 @@ pub(crate) fn call_value<R: MacroFunctions>(
                 return Ok(CallValue::Refused(MACRO_REFUSED, 0));
             }
             let call = macro_call(with.alloc, call, gathered)?;
-            let answer = with.macros.call(name, &call)?;
+            let answer = with.macros.call(name, call)?;
             Ok(user_value(
                 with.packages,
                 with.limits.nesting,
@@ -117,7 +118,7 @@ fn bytes_back(refusal: StdRefusal) -> usize
 }
 
 /// What an answer comes to.
-#[tactic(auto, using(crate::proofs::Calls::space_or, crate::proofs::Calls::or_space))]
+#[tactic(auto, using(crate::proofs::Calls::space_or, crate::proofs::Calls::or_space, crate::proofs::Fits::answered_not, crate::proofs::Fits::answered_one))]
 fn user_value(
     packages: &Packages,
     nesting: u32,
@@ -132,10 +133,7 @@ fn user_value(
 {
     match answer {
         Answer::One(datum) => {
-            if !datum.is_proper() {
-                return CallValue::Refused(MACRO_ANSWER, 0);
-            }
-            if !may_be_answered(packages, &datum) || !fits(&datum, depth, nesting) {
+            if !fits(packages, nesting, depth, &datum) {
                 return CallValue::Refused(MACRO_ANSWER, 0);
             }
             CallValue::Gives(Found::One(token, HeldObject::new(datum)))
@@ -145,14 +143,15 @@ fn user_value(
     }
 }
 
-/// Whether the depth of a proper datum and that of the call are together within the nesting.
-fn fits(datum: &Datum, depth: usize, nesting: u32) -> bool
-    requires { is_proper datum.now ≡ true }
-    ensures { result ≡ nat_le (object_depth (object_of datum.now) + depth) nesting }
+/// Whether a datum may be answered at this depth, within the nesting.
+#[tactic(auto, using(crate::proofs::Fits::too_deep, crate::proofs::Fits::within_nesting))]
+fn fits(packages: &Packages, nesting: u32, depth: usize, datum: &Datum) -> bool
+    ensures { result ≡ (is_proper datum.now && (may_be_answered packages.now.0 (object_of datum.now)
+        && nat_le (object_depth (object_of datum.now) + depth) nesting)) }
 {
     let nesting = u64::from(nesting);
     let depth = depth as u64;
-    depth <= nesting && datum.depth() <= nesting - depth
+    depth <= nesting && may_be_answered(packages, nesting - depth, datum)
 }
 
 /// The call that a function of a user gets.

@@ -21,6 +21,12 @@
 //! - `end_of_text`: the end of the text
 //! - `laws`: `texts_begin_between_forms`, `what_is_decided_is_answered`, `wider_limits`; the other laws of reading are of
 //!   `lisp_reading`
+//!
+//! # Laws for the crates above
+//!
+//! - proofs/Begun.antt: where what is open began.
+//! - proofs/Objects.antt: what a byte is where an object may begin, and tokens that are objects.
+//! - proofs/Stacks.antt: what open calls make of what is given in the innermost.
 #![tactic(auto)]
 
 mod call;

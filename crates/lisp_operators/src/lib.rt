@@ -10,6 +10,22 @@
 //! - `error`, `evaluated`: what an operator gives, `EvaluationError` and `Evaluated`
 //! - `arguments`, `owned_arguments`, `kinds`, `lists`, `values`: so many arguments, what each stands for, lists of them, and
 //!   values that are built; `changes`: changes of the packages, one after the other
+//!
+//! # Laws for the crates above
+//!
+//! - proofs/Keeping.antt, proofs/KeepingOperators.antt: a relation between the state before and after, through
+//!   outcomes and operators.
+//! - proofs/Silence.antt, proofs/SilentOperators.antt: what does not write leaves the state as it was.
+//! - proofs/Numbered.antt, proofs/NumberedOperators.antt: refusals have a number of evaluation.
+//! - proofs/Good.antt, proofs/Storable.antt, proofs/SoundPackages.antt, proofs/SoundProperties.antt,
+//!   proofs/SoundReadtables.antt, proofs/SoundBase.antt: each operator leaves a sound state, and a value that may
+//!   be stored.
+//! - proofs/Covering.antt: readtables name no other functions than those that may be named.
+//! - proofs/SameBase.antt: no operator but SETF of `*READ-BASE*` changes the base.
+//! - proofs/PackageSteps.antt, proofs/Unmoved.antt: changes of the packages one after the other, and those that
+//!   change nothing.
+//! - proofs/PropertyRows.antt, proofs/Shapes.antt: what the operators on property lists build, and objects by the
+//!   data that stand for them.
 #![tactic(auto)]
 
 mod arguments;

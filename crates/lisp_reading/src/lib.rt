@@ -25,6 +25,18 @@
 //! - `laws`: `forms_are_framed`, `spaced_forms_are_framed`, `forms_are_within_the_limit`, `forms_are_decided`,
 //!   `refusals_are_decided`, `refusals_are_of_reading`, `empty_texts_are_discarded`, `forms_fit`,
 //!   `only_what_is_found_matters`, `only_registered_names_matter`, `a_text_is_decided`, `reading_goes_on`
+//!
+//! # Laws for the crates above
+//!
+//! - proofs/Framing.antt, proofs/Forms.antt: a form is read again, alone, from its own bytes.
+//! - proofs/Following.antt, proofs/Refusals.antt: what ends before a byte is the same whatever follows.
+//! - proofs/Bounded.antt, proofs/Offsets.antt: what is read ends within the limit of the text, and is its front.
+//! - proofs/Widening.antt: a form that is read under a limit is read under a larger one.
+//! - proofs/Steps.antt, proofs/Turns.antt: one plan after another, and that the number of turns is always enough.
+//! - proofs/Fed.antt: what one byte is inside a text, a line, a block or a number.
+//! - proofs/Fittings.antt, proofs/Homes.antt: the symbols of a form fit sound packages; homes are ASCII.
+//! - proofs/Numbers.antt: a text is refused under a number of reading alone.
+//! - proofs/Registered.antt: of the registered functions, reading asks only for the names.
 #![tactic(auto)]
 
 mod call;

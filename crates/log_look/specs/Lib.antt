@@ -2,7 +2,9 @@ pub mod Cut
 pub mod Host
 pub mod Kept
 pub mod Live
+pub mod Rest
 pub mod Seen
 pub mod SeenState
+pub mod Shut
 pub mod Still
 pub mod Tried

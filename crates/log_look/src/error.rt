@@ -1,5 +1,7 @@
 //! Why a look was not had, or nothing is told of what was seen.
 ghost use Rattle.std.specs.Prelude.{◌≡◌};
+ghost use Rattle.log_look.specs.Cut.{told_of, told_of_read};
+ghost use Rattle.log_look.specs.declared.error.LogError.TheVariants as telling;
 ghost use Rattle.log_look.specs.declared.error.LookError.TheVariants as looking;
 
 use disk_trait::DeviceFault;
@@ -16,7 +18,7 @@ pub enum LookError {
     /// The device failed.
     #[error("the device failed")]
     DeviceFault,
-    /// In each try a half was begun anew while it was read.
+    /// No try was had, and in one of them a half was begun anew while it was read.
     #[error("the store begins halves anew faster than they can be read")]
     Changing,
     /// In each try neither half was open, though half B is not empty.
@@ -60,6 +62,12 @@ pub enum LogError {
         /// How many there are.
         records: u64,
     },
+    /// The half in use is not of the generation that was given.
+    #[error("the half in use has the generation {generation}")]
+    OtherGeneration {
+        /// The generation that it has.
+        generation: u64,
+    },
     /// The device failed.
     #[error("the device failed")]
     DeviceFault,
@@ -72,12 +80,16 @@ pub enum LogError {
 }
 
 impl From<AllocError> for LogError {
+    ghost from_gives = { λ _ e. e ≡ telling.OutOfMemory };
+
     fn from(_error: AllocError) -> LogError {
         LogError::OutOfMemory
     }
 }
 
 impl From<OpenRefusal> for LogError {
+    ghost from_gives = { λ refusal e. e ≡ told_of refusal };
+
     fn from(refusal: OpenRefusal) -> LogError {
         match refusal {
             OpenRefusal::OutOfMemory => LogError::OutOfMemory,
@@ -89,6 +101,8 @@ impl From<OpenRefusal> for LogError {
 }
 
 impl From<ReadError> for LogError {
+    ghost from_gives = { λ error e. e ≡ told_of_read error };
+
     fn from(error: ReadError) -> LogError {
         match error {
             ReadError::OutOfMemory => LogError::OutOfMemory,

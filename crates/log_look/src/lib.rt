@@ -14,7 +14,7 @@
 //!   and `look_into`, a look into the files of a folder.
 //! - `tries`: the look, in tries. `whole` reads a file to its end, and `heads` the headers.
 //! - `sight`: `Sight`, the bytes that were seen, as a disk that takes no write.
-//! - `cut`: a sight with no more than its first records.
+//! - `opened`: the log of a sight. `cut`: a sight with no more than its first records.
 //! - `error`: why a look was not had, or nothing is told of what was seen.
 #![tactic(auto)]
 
@@ -22,7 +22,9 @@ mod cut;
 mod error;
 mod heads;
 mod host;
+mod laws;
 mod live;
+mod opened;
 mod sight;
 mod tries;
 mod whole;
@@ -30,7 +32,9 @@ mod whole;
 pub use cut::cut_after;
 pub use error::{LogError, LookError};
 pub use host::{Figures, HostFiles, look_into};
+pub use laws::a_sight_means_the_same;
 pub use live::LiveFiles;
+pub use opened::{open_at, open_sight};
 pub use sight::Sight;
 pub use tries::look;
 

@@ -1,7 +1,8 @@
 //! A file, read from its start to its end.
-ghost use Rattle.std.specs.Prelude.{◌≡◌, ◌<◌, ◌≤◌, length, IfOk, IfSome};
+ghost use Rattle.std.specs.Prelude.{◌≡◌, ◌<◌, ◌≤◌, length, IfErr, IfOk};
 ghost use Rattle.log_look.specs.Live.{IsHonest, IsPiece, Later, file_at};
 ghost use Rattle.log_look.specs.Seen.{IsReadToEnd};
+ghost use Rattle.log_look.specs.Tried.{IsPassingLook};
 
 use crate::PIECE;
 use crate::error::LookError;
@@ -21,6 +22,7 @@ fn read_piece<F: LiveFiles>(
     ensures piece { IfOk result (λ v. IsHonest (F.watch files.old)
         → IsPiece (file_at half (F.watch files.old)) at size v.items
         (F.watch files.old).now (F.watch files.new).now) }
+    ensures passing { IfErr result IsPassingLook }
 {
     let mut bytes = vec![in alloc; 0u8; size]?;
     let count = files.read(half, at, bytes.as_mut_slice())?;
@@ -28,24 +30,24 @@ fn read_piece<F: LiveFiles>(
     Ok(bytes)
 }
 
-/// All bytes of a half, in pieces one after the other. `None` where no end was found.
+/// All bytes of a half, in pieces one after the other.
 pub(crate) fn read_whole<F: LiveFiles>(
     alloc: Global,
     files: &mut F,
     half: Half,
-) -> Result<Option<Vec<u8>>, LookError>
+) -> Result<Vec<u8>, LookError>
     ensures later { Later (F.watch files.old) (F.watch files.new) }
-    ensures whole { IfOk result (λ found. IfSome found (λ v. IsHonest (F.watch files.old)
+    ensures whole { IfOk result (λ v. IsHonest (F.watch files.old)
         → IsReadToEnd (file_at half (F.watch files.old)) v.items
-        (F.watch files.old).now (F.watch files.new).now)) }
+        (F.watch files.old).now (F.watch files.new).now) }
+    ensures passing { IfErr result IsPassingLook }
 {
     let mut bytes = Vec::new(alloc);
-    'pieces: for _ in 0..u64::MAX {
+    'pieces: loop {
         let piece = read_piece(alloc, files, half, bytes.len() as u64, PIECE)?;
         bytes.extend_from_slice(piece.as_slice())?;
         if piece.len() < PIECE {
-            return Ok(Some(bytes));
+            return Ok(bytes);
         }
     }
-    Ok(None)
 }

@@ -84,7 +84,7 @@ pub absent : (items : List NumberedProperty) (i : ℕ) → position (has i) item
 absent items i is = absent_from items i 0 (sym (position_from-zero (has i) items) ∙ is)
 
 -- a value is set at index k, where p stands
-pub shown-set : (items : List NumberedProperty) (k : ℕ) (p : NumberedProperty) (v : Datum) → p ≡ get_or items k p → shown (set items k (record { indicator = p.indicator; value = v })) ≡ with_value_at (shown items) k (object_of v)
+pub shown-set : (items : List NumberedProperty) (k : ℕ) (p : NumberedProperty) (v : Datum) → p ≡ get_or items k p → shown (set items k (record { indicator = p.indicator; order = p.order; value = v })) ≡ with_value_at (shown items) k (object_of v)
 shown-set [] k p v e = refl
 shown-set (q ∷ qs) zero p v e = ap (λ (t : NumberedProperty). (t.indicator, object_of v) ∷ shown qs) e
 shown-set (q ∷ qs) (suc k) p v e = ap (λ ps. numbered_property q ∷ ps) (shown-set qs k p v e)
@@ -107,7 +107,7 @@ pub stands_at : (items : List NumberedProperty) (i k : ℕ) (p : NumberedPropert
 stands_at items i k p at is = (first_at items i k at).stands p ∙ ap (λ (q : NumberedProperty). Some (object_of q.value)) (sym is)
 
 pub pushed_at : (items : List NumberedProperty) (i k : ℕ) (p : NumberedProperty) (v x : Datum) → position (has i) items ≡ Some k → p ≡ get_or items k p → object_of v ≡ pair (object_of x) (object_of p.value)
-    → shown (set items k (record { indicator = p.indicator; value = v })) ≡ with_pushed_by same_number (shown items) i (object_of x)
+    → shown (set items k (record { indicator = p.indicator; order = p.order; value = v })) ≡ with_pushed_by same_number (shown items) i (object_of x)
 pushed_at items i k p v x at is made =
     shown-set items k p v is ∙ ap (with_value_at (shown items) k) made
     ∙ sym ((first_at items i k at).written (pair (object_of x) (object_of p.value)))
@@ -115,14 +115,14 @@ pushed_at items i k p v x at is made =
 
 -- the list as it was, where there was no memory
 pub unpushed : {A E : Type 0} (r : Result A E) (items : List NumberedProperty) (k : ℕ) (p : NumberedProperty) (v : Datum) → p ≡ get_or items k p → object_of v ≡ object_of p.value
-    → OnErr r (shown (set items k (record { indicator = p.indicator; value = v })) ≡ shown items)
+    → OnErr r (shown (set items k (record { indicator = p.indicator; order = p.order; value = v })) ≡ shown items)
 unpushed (Ok x) items k p v is same = tt
 unpushed (Err e) items k p v is same =
     shown-set items k p v is ∙ ap (with_value_at (shown items) k) same ∙ with_value_at-same items k p is
 
 -- and without it again
 pub pushed_back : (items : List NumberedProperty) (k : ℕ) (p : NumberedProperty) (v x : Datum) → p ≡ get_or items k p → object_of v ≡ pair (object_of x) (object_of p.value)
-    → with_rest_at (shown (set items k (record { indicator = p.indicator; value = v }))) k ≡ shown items
+    → with_rest_at (shown (set items k (record { indicator = p.indicator; order = p.order; value = v }))) k ≡ shown items
 pushed_back [] k p v x is made = refl
 pushed_back (q ∷ qs) zero p v x is made =
     ap (λ o. (p.indicator, without_first o) ∷ shown qs) made ∙ ap (λ (t : NumberedProperty). numbered_property t ∷ shown qs) is
@@ -130,7 +130,7 @@ pushed_back (q ∷ qs) (suc k) p v x is made = ap (λ ps. numbered_property q �
 
 -- the list at an index, without its first item
 pub shown-rest : (items : List NumberedProperty) (k : ℕ) (p : NumberedProperty) (v : Datum) → p ≡ get_or items k p → object_of v ≡ without_first (object_of p.value)
-    → shown (set items k (record { indicator = p.indicator; value = v })) ≡ with_rest_at (shown items) k
+    → shown (set items k (record { indicator = p.indicator; order = p.order; value = v })) ≡ with_rest_at (shown items) k
 shown-rest [] k p v is made = refl
 shown-rest (q ∷ qs) zero p v is made =
     ap (λ o. (p.indicator, o) ∷ shown qs) made ∙ ap (λ (t : NumberedProperty). (t.indicator, without_first (object_of t.value)) ∷ shown qs) is

@@ -2,6 +2,9 @@ pub mod Orders
 pub mod Indices
 pub mod Lists
 pub mod ListRows
+pub mod Placing
+pub mod Indexing
+pub mod Noted
 pub mod ByName
 pub mod Soundness
 pub mod KeptWorld

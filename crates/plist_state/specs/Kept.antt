@@ -1,6 +1,5 @@
 -- What holds of the rows of properties.
 use Rattle.std.specs.Prelude.{◌≡◌, ℕ, ◌≤◌, true, All, IfSome, codes}
-use Rattle.lisp_object.specs.declared.datum.Datum
 use Rattle.lisp_object.specs.declared.datum.Datum.{Datum}
 use Rattle.std.specs.Global.{Vec}
 use Rattle.lisp_object.specs.Datum.{is_proper}

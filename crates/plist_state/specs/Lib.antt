@@ -8,6 +8,7 @@ pub mod Readers
 pub mod Refused
 pub mod Sound
 pub mod Shown
+pub mod Indexed
 pub mod Undoing
 pub mod Kept
 pub mod Journal

@@ -1,5 +1,5 @@
 -- A value before the one that a property has (standard 14.2, PUSH).
-use Rattle.std.specs.Prelude.{ℕ, Bool, true, false, List, Option, Some, None, unwrap_or}
+use Rattle.std.specs.Prelude.{ℕ, Bool, true, false, List, Option, Some, unwrap_or}
 use Rattle.lisp_object.specs.Object.{Object, pair, nil}
 use Rattle.plist_state.specs.Properties.{Symbol, value_by, with_value_by}
 use Rattle.plist_state.specs.State.{WorldState}

@@ -27,8 +27,8 @@
 //! - `numbers`: the numbers of symbols, as `rows` takes them
 //! - `symbol`, `property`, `property_list`: `Symbol`, `Property`, `PropertyList`
 //! - `error`: `ReadtableError`
-//! - `stored`: what a world keeps besides its packages, over `rows` (property lists by number) and `tables` (readtables by
-//!   name; `copies`: those that are copied)
+//! - `stored`: what a world keeps besides its packages, over `rows` (property lists by number; `row_index`: the indexes of
+//!   long ones) and `tables` (readtables by name; `copies`: those that are copied)
 //!
 //! Proofs of crates above may cite these lemmas; they keep their names. On soundness (proofs/Soundness.antt):
 //! `sound_packages`, `sound_put`, `sound_removed`, `sound_in_package`, `sound_in_readtable`, `sound_base`, `sound_table`,
@@ -53,6 +53,7 @@ mod property;
 mod property_list;
 mod readers;
 mod readtables;
+mod row_index;
 mod rows;
 mod stored;
 mod symbol;

@@ -9,23 +9,17 @@ ghost use Rattle.plist_state.specs.Pushed.{holds_pair, with_pushed_by, with_push
 ghost use Rattle.plist_state.specs.Lists.{same_number, row_of, value_in, with_row, with_value_in, without_value_in};
 ghost use Rattle.plist_state.specs.Shown.{numbered_property, plist_of, lists_of, row_at, room_at};
 ghost use Rattle.plist_state.specs.Undoing.{list_before, GoesBack};
+ghost use Rattle.plist_state.specs.Indexed.{IsIndexedIn, AreIndexed, KeepsOthers};
 ghost use Rattle.plist_state.specs.Kept.{IsProperRow, IsProperRows, IsProperChange, IsEmptyList, IsWider};
 
 use crate::first_items::{put_first, take_first};
 use crate::note::PropertyChange;
 use crate::property::NumberedProperty;
+use crate::row_index::{Indexes, new_order, place};
 use lisp_object::Datum;
 use std::alloc::{AllocError, Global};
 use std::collections::BTreeMap;
 use std::mem;
-
-// The index of the indicator in a row.
-fn index_of(row: &[NumberedProperty], indicator: u32) -> Option<usize>
-    ensures { result ≡ position (λ p. same_number indicator p.indicator) row.now }
-{
-    row.iter()
-        .position(|property| indicator == property.indicator)
-}
 
 /// The properties of the symbol of a number.
 pub(crate) fn row<'a>(
@@ -35,6 +29,8 @@ pub(crate) fn row<'a>(
     requires { IsProperRows rows.now.entries }
     ensures list { map numbered_property result.now ≡ row_of (lists_of rows.now) number }
     ensures proper { All (λ p. is_proper p.value ≡ true) result.now }
+    ensures indexed { (indexes : _) → AreIndexed rows.now.entries indexes
+        → IsIndexedIn indexes number result.now }
 {
     match rows.get(&number) {
         Some(row) => row.as_slice(),
@@ -55,16 +51,18 @@ pub(crate) fn has_properties(rows: &BTreeMap<u32, Vec<NumberedProperty>>, number
 /// The value beside an indicator in the property list of the symbol of a number.
 pub(crate) fn value<'a>(
     rows: &'a BTreeMap<u32, Vec<NumberedProperty>>,
+    indexes: &Indexes,
     number: u32,
     indicator: u32,
 ) -> Option<&'a Datum>
-    requires { IsProperRows rows.now.entries }
+    requires values { IsProperRows rows.now.entries }
+    requires indexed { AreIndexed rows.now.entries indexes.now.entries }
     ensures value { option_map (λ d. object_of d.now) result
         ≡ value_in (lists_of rows.now) number indicator }
     ensures proper { IfSome result (λ d. is_proper d.now ≡ true) }
 {
     let row = row(rows, number);
-    match index_of(row, indicator) {
+    match place(row, indexes, number, indicator) {
         Some(index) => Some(&row[index].value),
         None => None,
     }
@@ -72,11 +70,15 @@ pub(crate) fn value<'a>(
 
 // Sets the value beside an indicator in a row, in its place or last.
 fn write(
+    alloc: Global,
     row: &mut Vec<NumberedProperty>,
+    indexes: &mut Indexes,
+    number: u32,
     indicator: u32,
     value: Datum,
 ) -> Result<PropertyChange, AllocError>
     requires proper { is_proper value ≡ true }
+    requires indexed { IsIndexedIn indexes.old.entries number row.old.items }
     ensures ok { IfOk result
         (λ _. plist_of row.new
         ≡ with_value_by same_number (plist_of row.old) indicator (object_of value)) }
@@ -85,14 +87,21 @@ fn write(
     ensures former { IsProperRow row.old → IfOk result IsProperChange }
     ensures room { vec_capacity row.old ≤ vec_capacity row.new }
     ensures err { OnErr result (row.new.items ≡ row.old.items) }
+    ensures indexed { IsIndexedIn indexes.new.entries number row.new.items }
+    ensures others { KeepsOthers indexes.old.entries indexes.new.entries number }
 {
-    match index_of(row.as_slice(), indicator) {
+    match place(row.as_slice(), indexes, number, indicator) {
         Some(index) => {
             let value = mem::replace(&mut row[index].value, value);
             Ok(PropertyChange::Set { index, value })
         }
         None => {
-            row.push(NumberedProperty { indicator, value })?;
+            let order = new_order(alloc, row.as_slice(), indexes, number, indicator)?;
+            row.push(NumberedProperty {
+                indicator,
+                order,
+                value,
+            })?;
             Ok(PropertyChange::Added)
         }
     }
@@ -101,6 +110,8 @@ fn write(
 // Puts an item before the list that is beside an indicator in a row. `empty` is NIL.
 fn write_first(
     row: &mut Vec<NumberedProperty>,
+    indexes: &Indexes,
+    number: u32,
     indicator: u32,
     first: Datum,
     empty: Datum,
@@ -109,6 +120,7 @@ fn write_first(
     requires empty { IsEmptyList empty }
     requires values { IsProperRow row.old }
     requires list { holds_pair (value_by same_number (plist_of row.old) indicator) ≡ true }
+    requires indexed { IsIndexedIn indexes.now.entries number row.old.items }
     ensures ok { IfOk result (λ _. plist_of row.new
         ≡ with_pushed_by same_number (plist_of row.old) indicator (object_of first)) }
     ensures back { IfOk result (GoesBack (plist_of row.old) (plist_of row.new)) }
@@ -116,8 +128,9 @@ fn write_first(
     ensures former { IfOk result IsProperChange }
     ensures room { vec_capacity row.old ≤ vec_capacity row.new }
     ensures err { OnErr result (plist_of row.new ≡ plist_of row.old) }
+    ensures indexed { IsIndexedIn indexes.now.entries number row.new.items }
 {
-    let Some(index) = index_of(row.as_slice(), indicator) else {
+    let Some(index) = place(row.as_slice(), indexes, number, indicator) else {
         unreachable!()
     };
     put_first(&mut row[index].value, first)?;
@@ -125,7 +138,13 @@ fn write_first(
 }
 
 // Takes a property out of a row.
-fn cut(row: &mut Vec<NumberedProperty>, indicator: u32) -> Option<PropertyChange>
+fn cut(
+    row: &mut Vec<NumberedProperty>,
+    indexes: &Indexes,
+    number: u32,
+    indicator: u32,
+) -> Option<PropertyChange>
+    requires { IsIndexedIn indexes.now.entries number row.old.items }
     ensures after { plist_of row.new
         ≡ without_value_by same_number (plist_of row.old) indicator }
     ensures had { is_some result
@@ -134,8 +153,9 @@ fn cut(row: &mut Vec<NumberedProperty>, indicator: u32) -> Option<PropertyChange
     ensures values { IsProperRow row.old → IsProperRow row.new }
     ensures former { IsProperRow row.old → IfSome result IsProperChange }
     ensures room { vec_capacity row.old ≤ vec_capacity row.new }
+    ensures indexed { IsIndexedIn indexes.now.entries number row.new.items }
 {
-    match index_of(row.as_slice(), indicator) {
+    match place(row.as_slice(), indexes, number, indicator) {
         Some(index) => {
             let property = row.remove(index);
             Some(PropertyChange::Removed { index, property })
@@ -145,13 +165,21 @@ fn cut(row: &mut Vec<NumberedProperty>, indicator: u32) -> Option<PropertyChange
 }
 
 // Takes a change of a row back. There is memory for what it was.
-fn revert(row: &mut Vec<NumberedProperty>, change: PropertyChange)
+fn revert(
+    row: &mut Vec<NumberedProperty>,
+    indexes: &mut Indexes,
+    number: u32,
+    change: PropertyChange,
+)
     requires former { IsProperChange change }
+    requires indexed { IsIndexedIn indexes.old.entries number row.old.items }
     requires values { IsProperRow row.old }
     requires room { length (list_before change (plist_of row.old)) ≤ vec_capacity row.old }
     ensures after { plist_of row.new ≡ list_before change (plist_of row.old) }
     ensures values { IsProperRow row.old → IsProperRow row.new }
     ensures room { vec_capacity row.old ≤ vec_capacity row.new }
+    ensures indexed { IsIndexedIn indexes.new.entries number row.new.items }
+    ensures others { KeepsOthers indexes.old.entries indexes.new.entries number }
 {
     match change {
         PropertyChange::Set { index, value } => {
@@ -169,6 +197,8 @@ fn revert(row: &mut Vec<NumberedProperty>, change: PropertyChange)
         }
         PropertyChange::Removed { index, property } => {
             let index = index.min(row.len());
+            // the next new property makes the index again
+            let _index = indexes.remove(&number);
             if let Err(_) = row.insert(index, property) {
                 unreachable!()
             }
@@ -185,6 +215,8 @@ fn add_row(
     ensures there { OnOk result (IsSome (row_at rows.new.entries number)) }
     ensures same { lists_of rows.new ≡ lists_of rows.old }
     ensures wider { IsWider rows.old.entries rows.new.entries }
+    ensures indexed { (indexes : _) → AreIndexed rows.old.entries indexes
+        → AreIndexed rows.new.entries indexes }
 {
     if rows.contains_key(&number) {
         return Ok(());
@@ -199,7 +231,9 @@ fn add_row(
 
 // Sets the value beside an indicator in the row of a number, which is there.
 fn write_at(
+    alloc: Global,
     rows: &mut BTreeMap<u32, Vec<NumberedProperty>>,
+    indexes: &mut Indexes,
     number: u32,
     indicator: u32,
     value: Datum,
@@ -207,6 +241,7 @@ fn write_at(
     requires proper { is_proper value ≡ true }
     requires row { IsSome (row_at rows.old.entries number) }
     requires values { IsProperRows rows.old.entries }
+    requires indexed { AreIndexed rows.old.entries indexes.old.entries }
     ensures ok { IfOk result (λ _. lists_of rows.new
         ≡ with_value_in (lists_of rows.old) number indicator (object_of value)) }
     ensures back { IfOk result
@@ -214,11 +249,12 @@ fn write_at(
     ensures former { IfOk result IsProperChange }
     ensures wider { IsWider rows.old.entries rows.new.entries }
     ensures err { OnErr result (lists_of rows.new ≡ lists_of rows.old) }
+    ensures indexed { AreIndexed rows.new.entries indexes.new.entries }
 {
     let Some(row) = rows.get_mut(&number) else {
         unreachable!()
     };
-    match write(row, indicator, value) {
+    match write(alloc, row, indexes, number, indicator, value) {
         Ok(change) => Ok(change),
         Err(_) => Err(AllocError),
     }
@@ -228,12 +264,14 @@ fn write_at(
 pub(crate) fn put(
     alloc: Global,
     rows: &mut BTreeMap<u32, Vec<NumberedProperty>>,
+    indexes: &mut Indexes,
     number: u32,
     indicator: u32,
     value: Datum,
 ) -> Result<PropertyChange, AllocError>
     requires proper { is_proper value ≡ true }
     requires values { IsProperRows rows.old.entries }
+    requires indexed { AreIndexed rows.old.entries indexes.old.entries }
     ensures ok { IfOk result (λ _. lists_of rows.new
         ≡ with_value_in (lists_of rows.old) number indicator (object_of value)) }
     ensures back { IfOk result
@@ -241,14 +279,16 @@ pub(crate) fn put(
     ensures former { IfOk result IsProperChange }
     ensures wider { IsWider rows.old.entries rows.new.entries }
     ensures err { OnErr result (lists_of rows.new ≡ lists_of rows.old) }
+    ensures indexed { AreIndexed rows.new.entries indexes.new.entries }
 {
     add_row(alloc, rows, number)?;
-    write_at(rows, number, indicator, value)
+    write_at(alloc, rows, indexes, number, indicator, value)
 }
 
 /// Puts an item before the list that is beside an indicator of the symbol of a number. `empty` is NIL.
 pub(crate) fn push(
     rows: &mut BTreeMap<u32, Vec<NumberedProperty>>,
+    indexes: &Indexes,
     number: u32,
     indicator: u32,
     first: Datum,
@@ -257,6 +297,7 @@ pub(crate) fn push(
     requires first { is_proper first ≡ true }
     requires empty { IsEmptyList empty }
     requires values { IsProperRows rows.old.entries }
+    requires indexed { AreIndexed rows.old.entries indexes.now.entries }
     requires list { holds_pair (value_in (lists_of rows.old) number indicator) ≡ true }
     ensures ok { IfOk result (λ _. lists_of rows.new
         ≡ with_pushed_in (lists_of rows.old) number indicator (object_of first)) }
@@ -265,11 +306,12 @@ pub(crate) fn push(
     ensures former { IfOk result IsProperChange }
     ensures wider { IsWider rows.old.entries rows.new.entries }
     ensures err { OnErr result (lists_of rows.new ≡ lists_of rows.old) }
+    ensures indexed { AreIndexed rows.new.entries indexes.now.entries }
 {
     let Some(row) = rows.get_mut(&number) else {
         unreachable!()
     };
-    match write_first(row, indicator, first, empty) {
+    match write_first(row, indexes, number, indicator, first, empty) {
         Ok(change) => Ok(change),
         Err(_) => Err(AllocError),
     }
@@ -278,10 +320,12 @@ pub(crate) fn push(
 /// Takes the property of an indicator out of the list of the symbol of a number, if it is there.
 pub(crate) fn remove(
     rows: &mut BTreeMap<u32, Vec<NumberedProperty>>,
+    indexes: &Indexes,
     number: u32,
     indicator: u32,
 ) -> Option<PropertyChange>
     requires values { IsProperRows rows.old.entries }
+    requires indexed { AreIndexed rows.old.entries indexes.now.entries }
     ensures after { lists_of rows.new
         ≡ without_value_in (lists_of rows.old) number indicator }
     ensures had { is_some result
@@ -290,9 +334,10 @@ pub(crate) fn remove(
         (GoesBack (row_of (lists_of rows.old) number) (row_of (lists_of rows.new) number)) }
     ensures former { IfSome result IsProperChange }
     ensures wider { IsWider rows.old.entries rows.new.entries }
+    ensures indexed { AreIndexed rows.new.entries indexes.now.entries }
 {
     match rows.get_mut(&number) {
-        Some(row) => cut(row, indicator),
+        Some(row) => cut(row, indexes, number, indicator),
         None => None,
     }
 }
@@ -300,18 +345,21 @@ pub(crate) fn remove(
 /// Takes a change of the property list of the symbol of a number back. There is memory for what it was.
 pub(crate) fn take_back(
     rows: &mut BTreeMap<u32, Vec<NumberedProperty>>,
+    indexes: &mut Indexes,
     number: u32,
     change: PropertyChange,
 )
     requires former { IsProperChange change }
     requires values { IsProperRows rows.old.entries }
+    requires indexed { AreIndexed rows.old.entries indexes.old.entries }
     requires room { length (list_before change (row_of (lists_of rows.old) number))
         ≤ room_at rows.old.entries number }
     ensures after { lists_of rows.new
         ≡ with_row (lists_of rows.old) number (list_before change (row_of (lists_of rows.old) number)) }
     ensures wider { IsWider rows.old.entries rows.new.entries }
+    ensures indexed { AreIndexed rows.new.entries indexes.new.entries }
 {
     if let Some(row) = rows.get_mut(&number) {
-        revert(row, change);
+        revert(row, indexes, number, change);
     }
 }

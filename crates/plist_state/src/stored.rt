@@ -6,12 +6,14 @@ ghost use Rattle.plist_state.specs.Pushed.{holds_pair, with_pushed_in};
 ghost use Rattle.plist_state.specs.State.{first_readtables};
 ghost use Rattle.plist_state.specs.Lists.{value_in, with_value_in, without_value_in};
 ghost use Rattle.plist_state.specs.Shown.{first_numbered, rest_of, readtables_of};
+ghost use Rattle.plist_state.specs.Indexed.{AreIndexed};
 ghost use Rattle.plist_state.specs.Kept.{IsProperRows, IsWider};
 ghost use Rattle.plist_state.specs.Journal.{marks_of, Continues};
 
 use crate::journal::{push_note, reserve_note};
 use crate::note::Note;
 use crate::property::NumberedProperty;
+use crate::row_index::Indexes;
 use crate::rows;
 use crate::tables::{STANDARD, USER};
 use lisp_object::Datum;
@@ -20,12 +22,13 @@ use readtable_core::Readtable;
 use std::alloc::{AllocError, Global};
 use std::collections::BTreeMap;
 
-/// A row of properties for each symbol that ever had one, by its number, the readtables by name, the two current names, and
-/// the base in which numbers are read.
+/// A row of properties for each symbol that ever had one, by its number, the indexes of long rows, the readtables by name, the
+/// two current names, and the base in which numbers are read.
 /// A row that was emptied stays, so that to go back takes no memory: the symbol has no property list then.
 #[derive(Drop)]
 pub(crate) struct Stored {
     pub(crate) properties: BTreeMap<u32, Vec<NumberedProperty>>,
+    pub(crate) indexes: Indexes,
     pub(crate) readtables: BTreeMap<Vec<u8>, Readtable>,
     pub(crate) current_package: Vec<u8>,
     pub(crate) current_readtable: Vec<u8>,
@@ -51,10 +54,12 @@ fn first_readtables(alloc: Global) -> Result<BTreeMap<Vec<u8>, Readtable>, Alloc
 pub(crate) fn first_stored(alloc: Global) -> Result<Stored, AllocError>
     ensures first { IfOk result (λ stored. rest_of stored ≡ first_numbered) }
     ensures values { IfOk result (λ stored. IsProperRows stored.properties.entries) }
+    ensures indexed { IfOk result (λ stored. AreIndexed stored.properties.entries stored.indexes.entries) }
 {
     let readtables = first_readtables(alloc)?;
     Ok(Stored {
         properties: BTreeMap::new(alloc),
+        indexes: BTreeMap::new(alloc),
         readtables,
         current_package: Vec::from_slice(alloc, COMMON_LISP_USER)?,
         current_readtable: Vec::from_slice(alloc, USER)?,
@@ -73,17 +78,26 @@ pub(crate) fn put(
 ) -> Result<(), AllocError>
     requires proper { is_proper value ≡ true }
     requires values { IsProperRows stored.old.properties.entries }
+    requires indexed { AreIndexed stored.old.properties.entries stored.old.indexes.entries }
     ensures ok { let r = rest_of stored.old in
         OnOk result (rest_of stored.new ≡ record r {
           properties = with_value_in r.properties number indicator (object_of value);
         }) }
     ensures err { OnErr result (rest_of stored.new ≡ rest_of stored.old) }
     ensures wider { IsWider stored.old.properties.entries stored.new.properties.entries }
+    ensures indexed { AreIndexed stored.new.properties.entries stored.new.indexes.entries }
     ensures marked { Continues (marks_of marks.old.items) (rest_of stored.old)
         (marks_of marks.new.items) (rest_of stored.new) }
 {
     reserve_note(marks)?;
-    let Ok(change) = rows::put(alloc, &mut stored.properties, number, indicator, value) else {
+    let Ok(change) = rows::put(
+        alloc,
+        &mut stored.properties,
+        &mut stored.indexes,
+        number,
+        indicator,
+        value,
+    ) else {
         return Err(AllocError);
     };
     push_note(marks, Note::Property { number, change });
@@ -101,6 +115,7 @@ pub(crate) fn push(
 ) -> Result<(), AllocError>
     requires first { is_proper first ≡ true }
     requires values { IsProperRows stored.old.properties.entries }
+    requires indexed { AreIndexed stored.old.properties.entries stored.old.indexes.entries }
     requires list { holds_pair (value_in (rest_of stored.old).properties number indicator) ≡ true }
     ensures ok { let r = rest_of stored.old in
         OnOk result (rest_of stored.new ≡ record r {
@@ -108,12 +123,20 @@ pub(crate) fn push(
         }) }
     ensures err { OnErr result (rest_of stored.new ≡ rest_of stored.old) }
     ensures wider { IsWider stored.old.properties.entries stored.new.properties.entries }
+    ensures indexed { AreIndexed stored.new.properties.entries stored.new.indexes.entries }
     ensures marked { Continues (marks_of marks.old.items) (rest_of stored.old)
         (marks_of marks.new.items) (rest_of stored.new) }
 {
     reserve_note(marks)?;
     let empty = Datum::nil(alloc)?;
-    let Ok(change) = rows::push(&mut stored.properties, number, indicator, first, empty) else {
+    let Ok(change) = rows::push(
+        &mut stored.properties,
+        &stored.indexes,
+        number,
+        indicator,
+        first,
+        empty,
+    ) else {
         return Err(AllocError);
     };
     push_note(marks, Note::Property { number, change });
@@ -127,7 +150,8 @@ pub(crate) fn remove(
     number: u32,
     indicator: u32,
 ) -> Result<bool, AllocError>
-    requires { IsProperRows stored.old.properties.entries }
+    requires values { IsProperRows stored.old.properties.entries }
+    requires indexed { AreIndexed stored.old.properties.entries stored.old.indexes.entries }
     ensures ok { let r = rest_of stored.old in
         OnOk result (rest_of stored.new ≡ record r {
           properties = without_value_in r.properties number indicator;
@@ -138,14 +162,16 @@ pub(crate) fn remove(
         (is_some (value_in (rest_of stored.old).properties number indicator) ≡ true) }
     ensures err { OnErr result (rest_of stored.new ≡ rest_of stored.old) }
     ensures wider { IsWider stored.old.properties.entries stored.new.properties.entries }
+    ensures indexed { AreIndexed stored.new.properties.entries stored.new.indexes.entries }
     ensures marked { Continues (marks_of marks.old.items) (rest_of stored.old)
         (marks_of marks.new.items) (rest_of stored.new) }
 {
-    if rows::value(&stored.properties, number, indicator).is_none() {
+    if rows::value(&stored.properties, &stored.indexes, number, indicator).is_none() {
         return Ok(false);
     }
     reserve_note(marks)?;
-    let Some(change) = rows::remove(&mut stored.properties, number, indicator) else {
+    let Some(change) = rows::remove(&mut stored.properties, &stored.indexes, number, indicator)
+    else {
         unreachable!()
     };
     push_note(marks, Note::Property { number, change });

@@ -2,6 +2,7 @@
 ghost use Rattle.std.specs.Prelude.{◌≡◌, ◌<◌, length, take, Some};
 ghost use Rattle.std.specs.List.{slice_get};
 ghost use Rattle.plist_state.specs.Shown.{rest_of};
+ghost use Rattle.plist_state.specs.Indexed.{AreIndexed};
 ghost use Rattle.plist_state.specs.Kept.{IsProperRows, IsWider};
 ghost use Rattle.plist_state.specs.Undoing.{undone, all_undone, rests_at};
 ghost use Rattle.plist_state.specs.Journal.{marks_of, IsNoted, IsJournal, Fits, LeadsBack};
@@ -13,13 +14,15 @@ use crate::{rows, tables};
 fn undo(stored: &mut Stored, note: Note)
     requires note { IsNoted note }
     requires values { IsProperRows stored.old.properties.entries }
+    requires indexed { AreIndexed stored.old.properties.entries stored.old.indexes.entries }
     requires room { Fits stored.old.properties.entries (undone note (rest_of stored.old)) }
     ensures after { rest_of stored.new ≡ undone note (rest_of stored.old) }
     ensures wider { IsWider stored.old.properties.entries stored.new.properties.entries }
+    ensures indexed { AreIndexed stored.new.properties.entries stored.new.indexes.entries }
 {
     match note {
         Note::Property { number, change } => {
-            rows::take_back(&mut stored.properties, number, change);
+            rows::take_back(&mut stored.properties, &mut stored.indexes, number, change);
         }
         Note::Made(name) => tables::remove(&mut stored.readtables, name.as_slice()),
         Note::Changed { name, change } => {
@@ -34,8 +37,10 @@ fn undo(stored: &mut Stored, note: Note)
 fn undo_all(stored: &mut Stored, notes: Vec<Note>)
     requires leads { LeadsBack notes.items (rest_of stored.old) stored.old.properties.entries }
     requires values { IsProperRows stored.old.properties.entries }
+    requires indexed { AreIndexed stored.old.properties.entries stored.old.indexes.entries }
     ensures after { rest_of stored.new ≡ all_undone notes.items (rest_of stored.old) }
     ensures wider { IsWider stored.old.properties.entries stored.new.properties.entries }
+    ensures indexed { AreIndexed stored.new.properties.entries stored.new.indexes.entries }
 {
     let mut notes = notes;
     while let Some(note) = notes.pop() {
@@ -49,6 +54,7 @@ pub(crate) fn undo_to(stored: &mut Stored, marks: &mut Vec<Vec<Note>>, mark: usi
     requires journal { IsJournal (marks_of marks.old.items) (rest_of stored.old)
         stored.old.properties.entries }
     requires values { IsProperRows stored.old.properties.entries }
+    requires indexed { AreIndexed stored.old.properties.entries stored.old.indexes.entries }
     ensures past { rests_at (marks_of marks.new.items) (rest_of stored.new)
         ≡ take mark (rests_at (marks_of marks.old.items) (rest_of stored.old)) }
     ensures now { slice_get (rests_at (marks_of marks.old.items) (rest_of stored.old)) mark
@@ -57,6 +63,7 @@ pub(crate) fn undo_to(stored: &mut Stored, marks: &mut Vec<Vec<Note>>, mark: usi
     ensures journal { IsJournal (marks_of marks.new.items) (rest_of stored.new)
         stored.new.properties.entries }
     ensures wider { IsWider stored.old.properties.entries stored.new.properties.entries }
+    ensures indexed { AreIndexed stored.new.properties.entries stored.new.indexes.entries }
 {
     loop {
         let Some(newest) = marks.pop() else {

@@ -126,7 +126,8 @@ impl World {
         let Some(indicator) = number_of(&self.packages, indicator.home(), indicator.name()) else {
             return None;
         };
-        rows::value(&self.stored.properties, owner, indicator)
+        let stored = &self.stored;
+        rows::value(&stored.properties, &stored.indexes, owner, indicator)
     }
 
     /// The property list of a symbol (standard 10.2, `symbol-plist`). Takes no memory.

@@ -99,7 +99,7 @@ impl MacroFunctions for ByName {
         self.meaning.gather(name)
     }
 
-    fn call(&self, name: FnName, call: &Call) -> Result<Answer, AllocError> {
+    fn call(&self, name: FnName, call: Call) -> Result<Answer, AllocError> {
         if self.is_short() {
             return Err(AllocError);
         }

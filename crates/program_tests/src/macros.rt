@@ -22,7 +22,7 @@ fn six_functions_are_registered(rt: HostRuntime) -> Result<(), Fail> {
     let mut table = Readtable::standard(alloc)?;
     assert!(rt; macros.covers(&table));
     table.set_macro(b'[', FnName::new(b"SQUARE").unwrap(), false);
-    let note: MacroFn = Box::new(alloc, |_call: &Call| Ok(Answer::Nothing))?;
+    let note: MacroFn = Box::new(alloc, |_call: Call| Ok(Answer::Nothing))?;
     let Err(refusal) = macros.register(FnName::new(b"STD-LIST").unwrap(), note) else {
         return Err(Fail::from("a reserved name"));
     };
@@ -34,29 +34,29 @@ fn six_functions_are_registered(rt: HostRuntime) -> Result<(), Fail> {
     assert!(rt; refusal.cause == Cause::Unknown);
     let Refusal { cause: _, function } = refusal;
     registered(macros.register(FnName::new(b"NOTE").unwrap(), function))?;
-    let close: MacroFn = Box::new(alloc, |_call: &Call| Ok(Answer::Refused(1)))?;
+    let close: MacroFn = Box::new(alloc, |_call: Call| Ok(Answer::Refused(1)))?;
     registered(macros.register(FnName::new(b"CLOSE").unwrap(), close))?;
-    let skip: MacroFn = Box::new(alloc, |_call: &Call| Ok(Answer::Nothing))?;
+    let skip: MacroFn = Box::new(alloc, |_call: Call| Ok(Answer::Nothing))?;
     registered(macros.register(FnName::new(b"SKIP").unwrap(), skip))?;
     let unit: MacroFn = Box::new(
         alloc,
-        move |call: &Call| -> Result<Answer, AllocError>
-            requires { IsSoundCall call.now }
+        move |call: Call| -> Result<Answer, AllocError>
+            requires { IsSoundCall call }
         { macro_functions::unit(alloc, call) },
     )?;
     registered(macros.register(FnName::new(b"UNIT").unwrap(), unit))?;
     let scale: MacroFn = Box::new(
         alloc,
-        |call: &Call| -> Result<Answer, AllocError>
-            requires { IsSoundCall call.now }
+        |call: Call| -> Result<Answer, AllocError>
+            requires { IsSoundCall call }
         { Ok(macro_functions::scale(call)) },
     )?;
     registered(macros.register(FnName::new(b"SCALE").unwrap(), scale))?;
     assert!(rt; !macros.is_whole() && !macros.covers(&table));
     let square: MacroFn = Box::new(
         alloc,
-        move |call: &Call| -> Result<Answer, AllocError>
-            requires { IsSoundCall call.now }
+        move |call: Call| -> Result<Answer, AllocError>
+            requires { IsSoundCall call }
         { macro_functions::square(alloc, call) },
     )?;
     registered(macros.register(FnName::new(b"SQUARE").unwrap(), square))?;

@@ -11,7 +11,7 @@ use user_macros::{Answer, Call, Cause, MacroFn, Macros, Refusal};
 fn what_is_refused_gives_the_function_back(rt: HostRuntime) -> Result<(), Fail> {
     let mut macros = Macros::new(rt.alloc(), Sample::new());
     let name = FnName::new(b"NOTE").unwrap();
-    let function: MacroFn = Box::new(rt.alloc(), |_call: &Call| Ok(Answer::Nothing))?;
+    let function: MacroFn = Box::new(rt.alloc(), |_call: Call| Ok(Answer::Nothing))?;
     let Err(refusal) = macros.register(FnName::new(b"STD-LIST").unwrap(), function) else {
         return Err(Fail::from("a reserved name"));
     };
@@ -25,13 +25,13 @@ fn what_is_refused_gives_the_function_back(rt: HostRuntime) -> Result<(), Fail> 
     if let Err(refusal) = macros.register(name, function) {
         return Err(refusal.cause.into());
     }
-    let again: MacroFn = Box::new(rt.alloc(), |_call: &Call| Ok(Answer::Nothing))?;
+    let again: MacroFn = Box::new(rt.alloc(), |_call: Call| Ok(Answer::Nothing))?;
     let Err(refusal) = macros.register(name, again) else {
         return Err(Fail::from("a taken name"));
     };
     assert!(rt; refusal.cause == Cause::Taken);
     let Refusal { cause: _, function } = refusal;
-    assert!(rt; function(&scale_call(None, 0))? == Answer::Nothing);
+    assert!(rt; function(scale_call(None, 0))? == Answer::Nothing);
     assert!(rt; note(rt.alloc())? == Answer::Nothing);
     Ok(())
 }

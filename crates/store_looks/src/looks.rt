@@ -138,7 +138,7 @@ where
     let sight = sight_of(rt, looked.folder)?;
     match looked.look {
         Look::Dump(count) => {
-            let cut = usable(cut_after(alloc, sight, count)?)?;
+            let cut = usable(cut_after(alloc, sight, count, None)?)?;
             dump(alloc, cut, macros, seed, output)
         }
         Look::Show(shown) => show_on(alloc, sight, macros, seed, shown, output),

@@ -188,23 +188,23 @@ fn start<F: Write>(rt: &HostRuntime, faults: &mut F) -> Result<Status, AllocErro
     let alloc = rt.alloc();
     let square: MacroFn = Box::new(
         alloc,
-        move |call: &Call| -> Result<Answer, AllocError>
-            requires { IsSoundCall call.now }
+        move |call: Call| -> Result<Answer, AllocError>
+            requires { IsSoundCall call }
         { macro_functions::square(alloc, call) },
     )?;
-    let close: MacroFn = Box::new(alloc, |_call: &Call| Ok(Answer::Refused(1)))?;
-    let note: MacroFn = Box::new(alloc, |_call: &Call| Ok(Answer::Nothing))?;
-    let skip: MacroFn = Box::new(alloc, |_call: &Call| Ok(Answer::Nothing))?;
+    let close: MacroFn = Box::new(alloc, |_call: Call| Ok(Answer::Refused(1)))?;
+    let note: MacroFn = Box::new(alloc, |_call: Call| Ok(Answer::Nothing))?;
+    let skip: MacroFn = Box::new(alloc, |_call: Call| Ok(Answer::Nothing))?;
     let unit: MacroFn = Box::new(
         alloc,
-        move |call: &Call| -> Result<Answer, AllocError>
-            requires { IsSoundCall call.now }
+        move |call: Call| -> Result<Answer, AllocError>
+            requires { IsSoundCall call }
         { macro_functions::unit(alloc, call) },
     )?;
     let scale: MacroFn = Box::new(
         alloc,
-        |call: &Call| -> Result<Answer, AllocError>
-            requires { IsSoundCall call.now }
+        |call: Call| -> Result<Answer, AllocError>
+            requires { IsSoundCall call }
         { Ok(macro_functions::scale(call)) },
     )?;
     let mut macros = Macros::new(alloc, SixFunctions::new());

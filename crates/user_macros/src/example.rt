@@ -1,4 +1,4 @@
-//! One macro function, from its meaning to its call: the pattern that `docs/macros.md` explains.
+//! One macro function, from its meaning to its call: the pattern that `docs/use/macros.md` explains.
 ghost use Rattle.std.specs.Prelude.{ℕ, ◌≡◌, [], ◌∷◌, List, Option, Some, None, IfOk, codes, if◌then◌else◌, is_some};
 ghost use Rattle.readtable_core.specs.Names.{same_name, is_among};
 ghost use Rattle.user_macros.specs.Calls.{answer_of, no_value};
@@ -54,7 +54,7 @@ pub fn note(alloc: Global) -> Result<Answer, AllocError>
     ensures { IfOk result (λ answer. answer_of answer ≡ no_value) }
 {
     let name = FnName::new(b"NOTE").unwrap();
-    let function: MacroFn = Box::new(alloc, |_call: &Call| Ok(Answer::Nothing))?;
+    let function: MacroFn = Box::new(alloc, |_call: Call| Ok(Answer::Nothing))?;
     let mut macros = Macros::new(alloc, Notes::new());
     if let Err(refusal) = macros.register(name, function) {
         // NOTE is a name of the meaning, and nothing is registered under it.
@@ -67,5 +67,5 @@ pub fn note(alloc: Global) -> Result<Answer, AllocError>
         number: None,
         gathered: Gathered::Text(Bytes::from_slice(alloc, b"")?),
     };
-    macros.call(name, &call)
+    macros.call(name, call)
 }

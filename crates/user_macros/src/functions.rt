@@ -39,12 +39,12 @@ pub trait MacroFunctions {
 
     /// What the function of this name answers: the definition, or out of memory. The name is registered, and the call is
     /// sound.
-    fn call(&self, name: FnName, call: &Call) -> Result<Answer, AllocError>
+    fn call(&self, name: FnName, call: Call) -> Result<Answer, AllocError>
         requires answers { answers self.now }
         requires registered { IsTrue (is_among (functions self.now).names name) }
-        requires sound { IsSoundCall call.now }
+        requires sound { IsSoundCall call }
         ensures { IfOk result (λ answer. answer_of answer
-            ≡ (functions self.now).answer name (call_of call.now)) };
+            ≡ (functions self.now).answer name (call_of call)) };
 
     /// Whether each name of the meaning is registered. Takes no memory.
     fn is_whole(&self) -> bool

@@ -60,9 +60,9 @@ impl<M: Meaning> Macros<M> {
     /// back, and nothing has changed.
     pub fn register(&mut self, name: FnName, function: MacroFn) -> Result<(), Refusal>
         requires answers { ⟦<Macros<M> as MacroFunctions>⟧.answers self.old }
-        requires callable { (call : _) → IsSoundCall call.now → MacroFn.pre function call }
-        requires as_meant { (call : _) (a : _) → IsSoundCall call.now
-            → MacroFn.post function call (Ok a) → answer_of a ≡ M.functions.answer name (call_of call.now) }
+        requires callable { (call : _) → IsSoundCall call → MacroFn.pre function call }
+        requires as_meant { (call : _) (a : _) → IsSoundCall call
+            → MacroFn.post function call (Ok a) → answer_of a ≡ M.functions.answer name (call_of call) }
         ensures answers { ⟦<Macros<M> as MacroFunctions>⟧.answers self.new }
         ensures meant { ⟦<Macros<M> as MacroFunctions>⟧.meant self.new
             ≡ ⟦<Macros<M> as MacroFunctions>⟧.meant self.old }
@@ -154,8 +154,8 @@ impl<M: Meaning> MacroFunctions for Macros<M> {
     ghost meant = { λ m. m.meaning };
 
     ghost answers = { λ m. All (λ s. IsTrue (is_among M.functions.names s.name)) m.stored.items
-        × All (λ s. (call : _) (a : _) → IsSoundCall call.now → MacroFn.post s.function call (Ok a)
-        → answer_of a ≡ M.functions.answer s.name (call_of call.now)) m.stored.items };
+        × All (λ s. (call : _) (a : _) → IsSoundCall call → MacroFn.post s.function call (Ok a)
+        → answer_of a ≡ M.functions.answer s.name (call_of call)) m.stored.items };
 
     ghost as_meant = { λ m. refl };
 
@@ -172,7 +172,7 @@ impl<M: Meaning> MacroFunctions for Macros<M> {
         }
     }
 
-    fn call(&self, name: FnName, call: &Call) -> Result<Answer, AllocError> {
+    fn call(&self, name: FnName, call: Call) -> Result<Answer, AllocError> {
         let stored = self.find(name).unwrap();
         (stored.function)(call)
     }

@@ -11,6 +11,18 @@
 //! - `writer`: `write`, `write_in`; `package_rows`, `property_rows`: packages and property lists as text, `table_rows`: readtables as data;
 //!   `texts`: lists of texts; `printing`: data printed at the end of a text
 //! - `laws`: `printed_objects_read_back`, `one_text_one_state`, `snapshot_lines_are_read`
+//!
+//! # Laws for the crates above
+//!
+//! - proofs/Whole.antt, proofs/Spelling.antt, proofs/PlainObjects.antt: each object is read back from its printed
+//!   text.
+//! - proofs/LinesRead.antt, proofs/WithinLimits.antt: the lines of a sound state are read, and are within the
+//!   limits of a snapshot.
+//! - proofs/OneLine.antt, proofs/SameText.antt, proofs/SamePackages.antt, proofs/RowsByKey.antt: a text is that of
+//!   one sound state.
+//! - proofs/PackageEntries.antt: the lists of the names of a package say what is at each name.
+//! - proofs/Versions.antt: the third object of a state, by version.
+//! - proofs/Ascii.antt: the names of sound packages are of characters.
 #![tactic(auto)]
 
 mod laws;

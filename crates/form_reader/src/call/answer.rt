@@ -1,15 +1,16 @@
 //! Which data a function of a user may answer.
-ghost use Rattle.std.specs.Prelude.{◌≡◌, ◌&&◌, true};
-ghost use Rattle.std.specs.List.{list_all};
-ghost use Rattle.std.specs.Option.{option_map_or};
-ghost use Rattle.lisp_object.specs.Object.{is_nil};
-ghost use Rattle.lisp_object.specs.Datum.{object_of, is_proper};
-ghost use Rattle.lisp_reading.specs.Answering.{is_known, is_home, are_known, may_be_answered};
+ghost use Rattle.std.specs.Prelude.{◌≡◌, ◌&&◌, ◌+◌, ◌≤◌, nat_le, length, All, IsTrue};
+ghost use Rattle.std.specs.List.{list_all, sum_by};
+ghost use Rattle.lisp_object.specs.Ascii.{is_ascii};
+ghost use Rattle.lisp_object.specs.Object.{is_nil, object_depth};
+ghost use Rattle.lisp_object.specs.Datum.{object_of, is_proper, size};
+ghost use Rattle.lisp_reading.specs.Answering.{is_known, is_home, may_be_answered};
+ghost use Rattle.form_reader.specs.Fits.{Fits, FitsEnd, end_size};
 ghost use Rattle.package_table.specs.Table.{IsPackage};
 ghost use Rattle.package_table.specs.Resolving.{resolution};
 ghost use Rattle.std.specs.FinMap as finite;
 
-use lisp_object::{Boxed, Datum, Items};
+use lisp_object::{Boxed, Bytes, Datum, Items};
 use package_table::{Packages, Resolved};
 
 // The most bytes in the name of a symbol that is answered.
@@ -18,57 +19,127 @@ const LONGEST_NAME: usize = 4096;
 // The largest size of what is answered.
 const LARGEST_ANSWER: u64 = 1_000_000;
 
-/// Whether a proper datum may be answered, its depth aside: its size is at most 1,000,000, and each symbol in it may be
-/// answered. Takes no memory.
-pub(crate) fn may_be_answered(packages: &Packages, datum: &Datum) -> bool
-    requires { is_proper datum.now ≡ true }
-    ensures { result ≡ may_be_answered packages.now.0 (object_of datum.now) }
+/// Whether a datum may be answered that may have this depth: it is proper, its size is at most 1,000,000, and each symbol in
+/// it may be answered. It looks at each part once, and takes no memory.
+pub(crate) fn may_be_answered(packages: &Packages, room: u64, datum: &Datum) -> bool
+    ensures { result ≡ (is_proper datum.now && (may_be_answered packages.now.0 (object_of datum.now)
+        && nat_le (object_depth (object_of datum.now)) room)) }
 {
-    datum.size() <= LARGEST_ANSWER && are_known(packages, datum)
+    let mut left = LARGEST_ANSWER;
+    fits(packages, room, &mut left, datum)
 }
 
-/// Whether each symbol in it may be answered.
-#[cycle(known)]
-#[tactic(auto, using(lisp_object::proofs::Objects::object_laws, crate::proofs::Calls::known_pairs, crate::proofs::Calls::known_nil))]
-fn are_known(packages: &Packages, datum: &Datum) -> bool
-    ensures { result ≡ are_known packages.now.0 (object_of datum.now) }
+/// Whether a datum fits, where so many parts are left.
+#[cycle(fitting)]
+fn fits(packages: &Packages, room: u64, left: &mut u64, datum: &Datum) -> bool
+    ensures fits { IsTrue result → Fits packages.now.0 room datum.now × (left.new + size datum.now ≡ left.old) }
+    ensures others { Fits packages.now.0 room datum.now → size datum.now ≤ left.old → IsTrue result }
 {
     match datum {
-        Datum::Symbol { package, name } => {
-            is_known(packages, package.as_slice(), name.as_slice())
-        }
-        Datum::Uninterned(name) => name.as_slice().len() <= LONGEST_NAME,
-        Datum::List { items, tail } => {
-            if !each_known(packages, items) {
-                return false;
-            }
-            end_known(packages, tail)
-        }
-        Datum::Vector(items) => each_known(packages, items),
-        _ => true,
+        Datum::Integer(_) => atom_fits(left, true),
+        Datum::Rational(_) => atom_fits(left, true),
+        Datum::Char(c) => atom_fits(left, *c < 128),
+        Datum::Text(bytes) => atom_fits(left, bytes.is_ascii()),
+        Datum::Symbol { package, name } => atom_fits(left, symbol_fits(packages, package, name)),
+        Datum::Uninterned(name) => atom_fits(left, name_fits(name)),
+        Datum::List { items, tail } => list_fits(packages, room, left, items, tail),
+        Datum::Vector(items) => vector_fits(packages, room, left, items),
     }
 }
 
-#[cycle(known)]
-fn each_known(packages: &Packages, items: &Items<Datum>) -> bool
-    ensures { result ≡ list_all (λ d. are_known packages.now.0 (object_of d)) items.now }
+/// One part less is left; whether it fits.
+#[inline(always)]
+fn atom_fits(left: &mut u64, fits: bool) -> bool
+    ensures fits { IsTrue result → IsTrue fits × (left.new + 1 ≡ left.old) }
+    ensures others { IsTrue fits → 1 ≤ left.old → IsTrue result }
+{
+    if *left == 0 {
+        return false;
+    }
+    *left -= 1;
+    fits
+}
+
+fn symbol_fits(packages: &Packages, home: &Bytes, name: &Bytes) -> bool
+    ensures { result ≡ ((list_all is_ascii home.now && list_all is_ascii name.now)
+        && is_known packages.now.0 home.now name.now) }
+{
+    home.is_ascii() && name.is_ascii() && is_known(packages, home.as_slice(), name.as_slice())
+}
+
+fn name_fits(name: &Bytes) -> bool
+    ensures { result ≡ (list_all is_ascii name.now && nat_le (length name.now) 4096) }
+{
+    name.is_ascii() && name.as_slice().len() <= LONGEST_NAME
+}
+
+#[cycle(fitting)]
+fn list_fits(
+    packages: &Packages,
+    room: u64,
+    left: &mut u64,
+    items: &Items<Datum>,
+    tail: &Option<Boxed<Datum>>,
+) -> bool
+    ensures fits { IsTrue result → Fits packages.now.0 room (Datum.List items.now tail.now)
+        × (left.new + size (Datum.List items.now tail.now) ≡ left.old) }
+    ensures others { Fits packages.now.0 room (Datum.List items.now tail.now)
+        → size (Datum.List items.now tail.now) ≤ left.old → IsTrue result }
+{
+    if room == 0 || items.is_empty() {
+        return false;
+    }
+    if !atom_fits(left, true) || !all_fit(packages, room - 1, left, items) {
+        return false;
+    }
+    end_fits(packages, room - 1, left, tail)
+}
+
+#[cycle(fitting)]
+fn vector_fits(packages: &Packages, room: u64, left: &mut u64, items: &Items<Datum>) -> bool
+    ensures fits { IsTrue result → Fits packages.now.0 room (Datum.Vector items.now)
+        × (left.new + size (Datum.Vector items.now) ≡ left.old) }
+    ensures others { Fits packages.now.0 room (Datum.Vector items.now)
+        → size (Datum.Vector items.now) ≤ left.old → IsTrue result }
+{
+    if room == 0 || !atom_fits(left, true) {
+        return false;
+    }
+    all_fit(packages, room - 1, left, items)
+}
+
+#[cycle(fitting)]
+fn all_fit(packages: &Packages, room: u64, left: &mut u64, items: &Items<Datum>) -> bool
+    ensures fits { IsTrue result → All (Fits packages.now.0 room) items.now
+        × (left.new + sum_by size items.now ≡ left.old) }
+    ensures others { All (Fits packages.now.0 room) items.now
+        → sum_by size items.now ≤ left.old → IsTrue result }
 {
     let items = items.as_slice();
     for item in items {
-        if !are_known(packages, item) {
+        if !fits(packages, room, left, item) {
             return false;
         }
     }
     true
 }
 
-#[cycle(known)]
-fn end_known(packages: &Packages, tail: &Option<Boxed<Datum>>) -> bool
-    ensures { result ≡ option_map_or (λ d. are_known packages.now.0 (object_of d)) tail.now true }
+#[cycle(fitting)]
+fn end_fits(packages: &Packages, room: u64, left: &mut u64, tail: &Option<Boxed<Datum>>) -> bool
+    ensures fits { IsTrue result → FitsEnd packages.now.0 room tail.now
+        × (left.new + end_size tail.now ≡ left.old) }
+    ensures others { FitsEnd packages.now.0 room tail.now
+        → end_size tail.now ≤ left.old → IsTrue result }
 {
     match tail {
         None => true,
-        Some(tail) => are_known(packages, tail.get()),
+        Some(tail) => {
+            let tail = tail.get();
+            if tail.is_list() {
+                return false;
+            }
+            fits(packages, room, left, tail)
+        }
     }
 }
 

@@ -26,9 +26,9 @@ fn read_with(
     text: &[u8],
 ) -> Result<ReadOutcome, Fail>
     requires name { IsFalse (is_dispatch_name name) }
-    requires callable { (call : _) → IsSoundCall call.now → MacroFn.pre function call }
-    requires as_meant { (call : _) (a : _) → IsSoundCall call.now → MacroFn.post function call (Ok a)
-        → answer_of a ≡ trial_answer name (call_of call.now) }
+    requires callable { (call : _) → IsSoundCall call → MacroFn.pre function call }
+    requires as_meant { (call : _) (a : _) → IsSoundCall call → MacroFn.post function call (Ok a)
+        → answer_of a ≡ trial_answer name (call_of call) }
 {
     let mut macros = Macros::new(rt.alloc(), Trial::new());
     if let Err(refusal) = macros.register(name, function) {
@@ -75,7 +75,7 @@ fn counted_in(rt: &HostRuntime, name: FnName, text: &[u8]) -> Result<(i128, usiz
     requires counts { other_answer name ≡ None }
     requires only { makes name ≡ false }
 {
-    let function: MacroFn = Box::new(rt.alloc(), |call: &Call| Ok(counted(call)))?;
+    let function: MacroFn = Box::new(rt.alloc(), |call: Call| Ok(counted(&call)))?;
     match read_with(rt, name, function, text)? {
         ReadOutcome::Form {
             datum: Datum::Integer(n),
@@ -127,18 +127,18 @@ fn symbols_of_no_package(rt: HostRuntime) -> Result<(), Fail> {
     let alien = name_of(b"ALIEN");
     let function: MacroFn = Box::new(
         rt.alloc(),
-        move |_call: &Call| symbol(alloc, b"NOWHERE", b"X"),
+        move |_call: Call| symbol(alloc, b"NOWHERE", b"X"),
     )?;
     assert!(rt; refusal(&read_with(&rt, alien, function, b"!")?) == (21, 1));
     let nickname = name_of(b"NICKNAME");
     let function: MacroFn = Box::new(
         rt.alloc(),
-        move |_call: &Call| symbol(alloc, b"CL-USER", b"X"),
+        move |_call: Call| symbol(alloc, b"CL-USER", b"X"),
     )?;
     assert!(rt; refusal(&read_with(&rt, nickname, function, b"(!)")?) == (21, 2));
     let function: MacroFn = Box::new(
         rt.alloc(),
-        move |_call: &Call| symbol(alloc, b"CL-USER", b"X"),
+        move |_call: Call| symbol(alloc, b"CL-USER", b"X"),
     )?;
     assert!(rt; refusal(&read_with(&rt, nickname, function, b"!")?) == (21, 1));
     Ok(())
@@ -150,19 +150,19 @@ fn symbols_and_their_homes(rt: HostRuntime) -> Result<(), Fail> {
     let fresh = name_of(b"FRESH");
     let function: MacroFn = Box::new(
         rt.alloc(),
-        move |_call: &Call| symbol(alloc, b"COMMON-LISP-USER", b"X"),
+        move |_call: Call| symbol(alloc, b"COMMON-LISP-USER", b"X"),
     )?;
     assert!(rt; refusal(&read_with(&rt, fresh, function, b"'! ")?) == (0, 2));
     let own = name_of(b"OWN");
     let function: MacroFn = Box::new(
         rt.alloc(),
-        move |_call: &Call| symbol(alloc, b"COMMON-LISP", b"X"),
+        move |_call: Call| symbol(alloc, b"COMMON-LISP", b"X"),
     )?;
     assert!(rt; refusal(&read_with(&rt, own, function, b"!")?) == (21, 1));
     let other = name_of(b"OTHER");
     let function: MacroFn = Box::new(
         rt.alloc(),
-        move |_call: &Call| symbol(alloc, b"COMMON-LISP-USER", b"GET"),
+        move |_call: Call| symbol(alloc, b"COMMON-LISP-USER", b"GET"),
     )?;
     assert!(rt; refusal(&read_with(&rt, other, function, b"!")?) == (21, 1));
     Ok(())
@@ -190,9 +190,9 @@ fn answers_at_a_limit(rt: HostRuntime) -> Result<(), Fail> {
         let text = repeated(&rt, front.as_bytes(), b"(", depth, closed.as_slice())?;
         let function: MacroFn = Box::new(
             rt.alloc(),
-            move |call: &Call| -> Result<Answer, AllocError>
-                requires { IsSoundCall call.now }
-            { wrapped(alloc, call) },
+            move |call: Call| -> Result<Answer, AllocError>
+                requires { IsSoundCall call }
+            { wrapped(alloc, &call) },
         )?;
         assert!(rt;
             refusal(&read_with(&rt, wrap, function, text.as_slice())?) == (code, offset),
@@ -204,9 +204,9 @@ fn answers_at_a_limit(rt: HostRuntime) -> Result<(), Fail> {
         let text = repeated(&rt, b"!", b"A", count, b"}")?;
         let function: MacroFn = Box::new(
             rt.alloc(),
-            move |call: &Call| -> Result<Answer, AllocError>
-                requires { IsSoundCall call.now }
-            { named(alloc, call) },
+            move |call: Call| -> Result<Answer, AllocError>
+                requires { IsSoundCall call }
+            { named(alloc, &call) },
         )?;
         assert!(rt; refusal(&read_with(&rt, name, function, text.as_slice())?) == expected);
     }
@@ -217,13 +217,13 @@ fn answers_at_a_limit(rt: HostRuntime) -> Result<(), Fail> {
 fn answers_past_a_limit(rt: HostRuntime) -> Result<(), Fail> {
     let alloc = rt.alloc();
     let deep = name_of(b"DEEP");
-    let function: MacroFn = Box::new(rt.alloc(), move |_call: &Call| too_deep(alloc))?;
+    let function: MacroFn = Box::new(rt.alloc(), move |_call: Call| too_deep(alloc))?;
     assert!(rt; refusal(&read_with(&rt, deep, function, b"!")?) == (21, 1));
     let long = name_of(b"LONG");
-    let function: MacroFn = Box::new(rt.alloc(), move |_call: &Call| too_long(alloc))?;
+    let function: MacroFn = Box::new(rt.alloc(), move |_call: Call| too_long(alloc))?;
     assert!(rt; refusal(&read_with(&rt, long, function, b"!")?) == (21, 1));
     let large = name_of(b"LARGE");
-    let function: MacroFn = Box::new(rt.alloc(), move |_call: &Call| too_large(alloc))?;
+    let function: MacroFn = Box::new(rt.alloc(), move |_call: Call| too_large(alloc))?;
     assert!(rt; refusal(&read_with(&rt, large, function, b"!")?) == (21, 1));
     Ok(())
 }
@@ -231,12 +231,12 @@ fn answers_past_a_limit(rt: HostRuntime) -> Result<(), Fail> {
 #[test]
 fn functions_that_refuse(rt: HostRuntime) -> Result<(), Fail> {
     let low = name_of(b"LOW");
-    let refuses: MacroFn = Box::new(rt.alloc(), |_call: &Call| Ok(Answer::Refused(0)))?;
+    let refuses: MacroFn = Box::new(rt.alloc(), |_call: Call| Ok(Answer::Refused(0)))?;
     assert!(rt; refusal(&read_with(&rt, low, refuses, b" (!A)")?) == (20, 3));
-    let refuses: MacroFn = Box::new(rt.alloc(), |_call: &Call| Ok(Answer::Refused(0)))?;
+    let refuses: MacroFn = Box::new(rt.alloc(), |_call: Call| Ok(Answer::Refused(0)))?;
     assert!(rt; refusal(&read_with(&rt, low, refuses, b"!")?) == (20, 1));
     let high = name_of(b"HIGH");
-    let refuses: MacroFn = Box::new(rt.alloc(), |_call: &Call| Ok(Answer::Refused(65_535)))?;
+    let refuses: MacroFn = Box::new(rt.alloc(), |_call: Call| Ok(Answer::Refused(65_535)))?;
     assert!(rt; refusal(&read_with(&rt, high, refuses, b"!")?) == (20, 1));
     Ok(())
 }
@@ -245,14 +245,14 @@ fn functions_that_refuse(rt: HostRuntime) -> Result<(), Fail> {
 fn answers_without_an_object(rt: HostRuntime) -> Result<(), Fail> {
     let alloc = rt.alloc();
     let improper = name_of(b"IMPROPER");
-    let answers: MacroFn = Box::new(rt.alloc(), move |_call: &Call| Ok(empty_list(alloc)))?;
+    let answers: MacroFn = Box::new(rt.alloc(), move |_call: Call| Ok(empty_list(alloc)))?;
     assert!(rt; refusal(&read_with(&rt, improper, answers, b"!")?) == (21, 1));
-    let answers: MacroFn = Box::new(rt.alloc(), move |_call: &Call| list_before_a_list(alloc))?;
+    let answers: MacroFn = Box::new(rt.alloc(), move |_call: Call| list_before_a_list(alloc))?;
     assert!(rt; refusal(&read_with(&rt, improper, answers, b"!")?) == (21, 1));
     let mute = name_of(b"MUTE");
-    let nothing: MacroFn = Box::new(rt.alloc(), |_call: &Call| Ok(Answer::Nothing))?;
+    let nothing: MacroFn = Box::new(rt.alloc(), |_call: Call| Ok(Answer::Nothing))?;
     assert!(rt; refusal(&read_with(&rt, mute, nothing, b"!a b ")?) == (0, 5));
-    let nothing: MacroFn = Box::new(rt.alloc(), |_call: &Call| Ok(Answer::Nothing))?;
+    let nothing: MacroFn = Box::new(rt.alloc(), |_call: Call| Ok(Answer::Nothing))?;
     assert!(rt; matches!(read_with(&rt, mute, nothing, b" !a")?, ReadOutcome::Empty));
     Ok(())
 }

@@ -3,6 +3,7 @@ use Rattle.std.specs.List.{position}
 use Rattle.plist_state.specs.Shown.{numbered_property}
 use Rattle.plist_state.specs.Undoing.{with_inserted}
 use Rattle.plist_state.proofs.Indices.{has, IsFirstAt, IsAbsent, first_at, absent, inserted-removed}
+use Rattle.plist_state.proofs.Noted.{indexed_removed}
 use Rattle.plist_state.proofs.rows.cut.Goals as goal
 
 pub returns-in-Some-clause-after : goal.returns-in-Some-clause-after
@@ -38,3 +39,10 @@ returns-in-None-clause-had c =
     let i = c.args.indicator in
     let none : IsAbsent c.args.row.now.items i = absent c.args.row.now.items i (ap (position (has i)) (sym c.as_slice.ensures.value) ∙ sym c.in-None.ensures) in
     sym (ap is_some none.stands)
+
+pub returns-in-Some-clause-indexed : goal.returns-in-Some-clause-indexed
+returns-in-Some-clause-indexed c =
+    let items = c.args.row.now.items in
+    let i = c.args.indicator in
+    let at : IsFirstAt items i c.in-Some.index = first_at items i c.in-Some.index (ap (position (has i)) (sym c.as_slice.ensures.value) ∙ sym c.in-Some.ensures) in
+    indexed_removed c.args.indexes.now.entries c.args.number items c.requires c.in-Some.index c.remove-property.new.self.items at.within c.remove-property.ensures.items

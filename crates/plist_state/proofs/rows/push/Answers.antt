@@ -1,4 +1,4 @@
-use Rattle.std.proofs.Common.{sym, ap, ◌∙◌}
+use Rattle.std.proofs.Common.{sym, ap, ◌∙◌, refl}
 use Rattle.std.proofs.lemmas.Bool.{false≢true}
 use Rattle.lisp_object.specs.Datum.{object_of}
 use Rattle.plist_state.specs.Properties.{value_by}
@@ -7,6 +7,8 @@ use Rattle.plist_state.specs.Shown.{plist_of}
 use Rattle.plist_state.specs.Undoing.{list_before}
 use Rattle.plist_state.specs.Pushed.{holds_pair, with_pushed_by}
 use Rattle.plist_state.proofs.ListRows.{written, lists_made, list_now, written_same, row_shown, none_shown}
+use Rattle.plist_state.proofs.ListRows.{put_set}
+use Rattle.plist_state.proofs.Placing.{are_indexed}
 use Rattle.plist_state.proofs.rows.push.Goals as goal
 
 pub unreachable-requires : goal.unreachable-requires
@@ -44,3 +46,18 @@ returns-in-Err-clause-err c =
     written_same c.args.rows.now.entries _ c.args.number (plist_of c.write_first.new.row)
     (written c.args.rows.now.entries _ c.args.number c.in-Some.row.now c.write_first.new.row c.in-Some.ensures.value (c.get_mut.follows.holds c.write_first.new.row).0 c.write_first.ensures.room (λ _. c.write_first.ensures.values))
     (c.in-Err.ensures.err ∙ sym (row_shown c.args.rows.now.entries c.args.number c.in-Some.row.now c.in-Some.ensures.value))
+
+pub write_first-requires-clause-indexed : goal.write_first-requires-clause-indexed
+write_first-requires-clause-indexed c = c.requires.indexed c.args.number c.in-Some.row.now (sym c.in-Some.ensures.value)
+
+pub returns-in-Ok-clause-indexed : goal.returns-in-Ok-clause-indexed
+returns-in-Ok-clause-indexed c =
+    are_indexed c.args.rows.now.entries _ c.args.indexes.now.entries c.args.indexes.now.entries c.args.number c.write_first.new.row c.requires.indexed
+    (put_set c.args.rows.now.entries _ c.args.number c.in-Some.row.now c.write_first.new.row (sym c.in-Some.ensures.value) (c.get_mut.follows.holds c.write_first.new.row).0)
+    c.write_first.ensures.indexed (λ q other. refl)
+
+pub returns-in-Err-clause-indexed : goal.returns-in-Err-clause-indexed
+returns-in-Err-clause-indexed c =
+    are_indexed c.args.rows.now.entries _ c.args.indexes.now.entries c.args.indexes.now.entries c.args.number c.write_first.new.row c.requires.indexed
+    (put_set c.args.rows.now.entries _ c.args.number c.in-Some.row.now c.write_first.new.row (sym c.in-Some.ensures.value) (c.get_mut.follows.holds c.write_first.new.row).0)
+    c.write_first.ensures.indexed (λ q other. refl)

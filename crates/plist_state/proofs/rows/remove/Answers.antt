@@ -1,10 +1,15 @@
-use Rattle.std.proofs.Common.{◌≡◌, [], is_some, sym, ap, subst, ◌∙◌}
+use Rattle.std.proofs.Common.{◌≡◌, [], is_some, sym, ap, subst, ◌∙◌, refl, ℕ}
 use Rattle.std.specs.Prelude.{IfSome}
 use Rattle.plist_state.specs.Properties.{value_by, without_value_by}
 use Rattle.plist_state.specs.Lists.{NumberedPlist, same_number, row_of}
 use Rattle.plist_state.specs.Shown.{lists_of, lists_in}
 use Rattle.plist_state.specs.Undoing.{list_before}
 use Rattle.plist_state.proofs.ListRows.{written, lists_made, list_now, row_shown, none_shown, proper_shown, with_row_same, some_in}
+use Rattle.std.specs.Global.{Vec}
+use Rattle.std.specs.BTreeMap.{BTreeMap}
+use Rattle.plist_state.specs.declared.property.NumberedProperty.{NumberedProperty}
+use Rattle.plist_state.proofs.ListRows.{put_set}
+use Rattle.plist_state.proofs.Placing.{are_indexed, still_indexed}
 use Rattle.plist_state.proofs.rows.remove.Goals as goal
 
 pub returns-in-Some-clause-after : goal.returns-in-Some-clause-after
@@ -42,3 +47,16 @@ returns-in-None-clause-after c =
 pub returns-in-None-clause-had : goal.returns-in-None-clause-had
 returns-in-None-clause-had c =
     sym (ap (λ ps. is_some (value_by same_number ps c.args.indicator)) (none_shown c.args.rows.now.entries c.args.number c.in-None.ensures.value))
+
+pub cut-requires : goal.cut-requires
+cut-requires c = c.requires.indexed c.args.number c.in-Some.row.now (sym c.in-Some.ensures.value)
+
+pub returns-in-Some-clause-indexed : goal.returns-in-Some-clause-indexed
+returns-in-Some-clause-indexed c =
+    are_indexed c.args.rows.now.entries _ c.args.indexes.now.entries c.args.indexes.now.entries c.args.number c.cut.new.row c.requires.indexed
+    (put_set c.args.rows.now.entries _ c.args.number c.in-Some.row.now c.cut.new.row (sym c.in-Some.ensures.value) (c.get_mut.follows.holds c.cut.new.row).0)
+    c.cut.ensures.indexed (λ q other. refl)
+
+pub returns-in-None-clause-indexed : goal.returns-in-None-clause-indexed
+returns-in-None-clause-indexed c =
+    still_indexed c.args.rows.now.entries _ c.args.indexes.now.entries (ap (λ (m : BTreeMap ℕ (Vec NumberedProperty)). m.entries) c.get_mut.follows.holds-at-none) c.requires.indexed

@@ -1,4 +1,4 @@
-use Rattle.std.proofs.Common.{◌≡◌, ◌≤◌, ◌<◌, suc, true, length, map, sym, ap, subst, ◌∙◌, arith, IsOk}
+use Rattle.std.proofs.Common.{◌≡◌, ◌≤◌, ◌<◌, ◌-◌, suc, true, length, map, sym, ap, subst, ◌∙◌, arith, IsOk}
 use Rattle.std.specs.Prelude.{vec_capacity, vec_len, min}
 use Rattle.std.proofs.lemmas.Bool.{false≢true}
 use Rattle.std.proofs.lemmas.List.{length-map}
@@ -9,6 +9,7 @@ use Rattle.plist_state.specs.Shown.{numbered_property, plist_of}
 use Rattle.plist_state.specs.Undoing.{list_before}
 use Rattle.plist_state.proofs.Indices.{shown-set, with_value_at-past, shown-rest, with_rest_at-past, shown-insert, length-inserted}
 use Rattle.plist_state.specs.Kept.{IsProperChange}
+use Rattle.plist_state.proofs.Noted.{indexed_set, indexed_taken}
 use Rattle.plist_state.proofs.rows.revert.Goals as goal
 
 pub returns-then-index-len-clause-after : goal.returns-then-index-len-clause-after
@@ -56,3 +57,16 @@ pub returns-else-index-len-2-clause-after : goal.returns-else-index-len-2-clause
 returns-else-index-len-2-clause-after c =
     let past : length (plist_of c.args.row.now) ≤ c.in-Pushed.index = omega (arith, length-map c.args.row.now.items numbered_property) in
     sym (ap (λ change. list_before change (plist_of c.args.row.now)) c.in-Pushed.is ∙ with_rest_at-past (plist_of c.args.row.now) c.in-Pushed.index past)
+
+pub returns-then-index-len-clause-indexed : goal.returns-then-index-len-clause-indexed
+returns-then-index-len-clause-indexed c =
+    indexed_set c.args.indexes.now.entries c.args.number c.args.row.now.items c.requires.indexed c.in-Set.index c.index_mut.result.now c.in-Set.value c.index_mut.ensures.value
+
+pub returns-in-Added-clause-indexed : goal.returns-in-Added-clause-indexed
+returns-in-Added-clause-indexed c =
+    let row = c.args.row.now in
+    indexed_taken c.args.indexes.now.entries c.args.number row.items c.requires.indexed (vec_len row - 1) c.pop-added.new.self.items (omega (arith, row.ok.0)) c.pop-added.ensures.rest
+
+pub returns-then-index-len-2-clause-indexed : goal.returns-then-index-len-2-clause-indexed
+returns-then-index-len-2-clause-indexed c =
+    indexed_set c.args.indexes.now.entries c.args.number c.args.row.now.items c.requires.indexed c.in-Pushed.index c.index_mut-then-index-len-2.result.now c.take_first.new.list c.index_mut-then-index-len-2.ensures.value

@@ -1,9 +1,14 @@
-use Rattle.std.proofs.Common.{◌≡◌, ◌≤◌, [], ◌∷◌, length, refl, sym, ap, ◌∙◌, arith}
+use Rattle.std.proofs.Common.{◌≡◌, ◌≤◌, [], ◌∷◌, length, refl, sym, ap, ◌∙◌, arith, ℕ}
 use Rattle.std.specs.Prelude.{vec_capacity}
 use Rattle.plist_state.specs.Lists.{NumberedPlist, row_of}
 use Rattle.plist_state.specs.Shown.{plist_of, lists_of, lists_in, room_at}
 use Rattle.plist_state.specs.Undoing.{list_before}
 use Rattle.plist_state.proofs.ListRows.{written, lists_made, row_shown, none_shown, room_shown, no_room, with_row_same, some_in}
+use Rattle.std.specs.Global.{Vec}
+use Rattle.std.specs.BTreeMap.{BTreeMap}
+use Rattle.plist_state.specs.declared.property.NumberedProperty.{NumberedProperty}
+use Rattle.plist_state.proofs.ListRows.{put_set}
+use Rattle.plist_state.proofs.Placing.{are_indexed, still_indexed}
 use Rattle.plist_state.proofs.rows.take_back.Goals as goal
 
 pub revert-requires-clause-room : goal.revert-requires-clause-room
@@ -39,3 +44,16 @@ returns-in_default-clause-after c =
     no_items : (ps : NumberedPlist) → length ps ≤ 0 → ps ≡ []
     no_items [] h = refl
     no_items (p ∷ ps) h = absurd (omega (arith, h))
+
+pub revert-requires-clause-indexed : goal.revert-requires-clause-indexed
+revert-requires-clause-indexed c = c.requires.indexed c.args.number c.in-Some.row.now (sym c.in-Some.ensures.value)
+
+pub returns-in-Some-clause-indexed : goal.returns-in-Some-clause-indexed
+returns-in-Some-clause-indexed c =
+    are_indexed c.args.rows.now.entries _ c.args.indexes.now.entries c.revert.new.indexes.entries c.args.number c.revert.new.row c.requires.indexed
+    (put_set c.args.rows.now.entries _ c.args.number c.in-Some.row.now c.revert.new.row (sym c.in-Some.ensures.value) (c.get_mut.follows.holds c.revert.new.row).0)
+    c.revert.ensures.indexed c.revert.ensures.others
+
+pub returns-in_default-clause-indexed : goal.returns-in_default-clause-indexed
+returns-in_default-clause-indexed c =
+    still_indexed c.args.rows.now.entries _ c.args.indexes.now.entries (ap (λ (m : BTreeMap ℕ (Vec NumberedProperty)). m.entries) c.get_mut.follows.holds-at-none) c.requires.indexed

@@ -14,3 +14,6 @@ pub returns-in-None-clause-value : goal.returns-in-None-clause-value
 returns-in-None-clause-value c =
     let i = c.args.indicator in
     sym (absent c.row-row.result.now i (sym c.in-None.ensures)).stands ∙ ap (λ l. value_by same_number l i) c.row-row.ensures.list
+
+pub place-requires : goal.place-requires
+place-requires c = c.row-row.ensures.indexed c.args.indexes.now.entries c.requires.indexed

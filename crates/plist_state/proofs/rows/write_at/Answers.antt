@@ -7,6 +7,8 @@ use Rattle.plist_state.specs.Lists.{same_number}
 use Rattle.plist_state.specs.Shown.{numbered_property, plist_of}
 use Rattle.plist_state.specs.Undoing.{list_before}
 use Rattle.plist_state.proofs.ListRows.{written, lists_made, list_now, written_same, row_shown, proper_shown}
+use Rattle.plist_state.proofs.ListRows.{put_set}
+use Rattle.plist_state.proofs.Placing.{are_indexed}
 use Rattle.plist_state.proofs.rows.write_at.Goals as goal
 
 pub unreachable-requires : goal.unreachable-requires
@@ -42,3 +44,18 @@ returns-in-Err-clause-err c =
     written_same c.args.rows.now.entries _ c.args.number (plist_of c.write.new.row)
     (written c.args.rows.now.entries _ c.args.number c.in-Some.row.now c.write.new.row c.in-Some.ensures.value (c.get_mut.follows.holds c.write.new.row).0 c.write.ensures.room c.write.ensures.values)
     (ap (λ xs. map numbered_property xs) c.in-Err.ensures.err ∙ sym (row_shown c.args.rows.now.entries c.args.number c.in-Some.row.now c.in-Some.ensures.value))
+
+pub write-requires-clause-indexed : goal.write-requires-clause-indexed
+write-requires-clause-indexed c = c.requires.indexed c.args.number c.in-Some.row.now (sym c.in-Some.ensures.value)
+
+pub returns-in-Ok-clause-indexed : goal.returns-in-Ok-clause-indexed
+returns-in-Ok-clause-indexed c =
+    are_indexed c.args.rows.now.entries _ c.args.indexes.now.entries c.write.new.indexes.entries c.args.number c.write.new.row c.requires.indexed
+    (put_set c.args.rows.now.entries _ c.args.number c.in-Some.row.now c.write.new.row (sym c.in-Some.ensures.value) (c.get_mut.follows.holds c.write.new.row).0)
+    c.write.ensures.indexed c.write.ensures.others
+
+pub returns-in-Err-clause-indexed : goal.returns-in-Err-clause-indexed
+returns-in-Err-clause-indexed c =
+    are_indexed c.args.rows.now.entries _ c.args.indexes.now.entries c.write.new.indexes.entries c.args.number c.write.new.row c.requires.indexed
+    (put_set c.args.rows.now.entries _ c.args.number c.in-Some.row.now c.write.new.row (sym c.in-Some.ensures.value) (c.get_mut.follows.holds c.write.new.row).0)
+    c.write.ensures.indexed c.write.ensures.others

@@ -1,9 +1,9 @@
 use Rattle.std.proofs.Common.{sym, ap, ◌∙◌}
 use Rattle.std.specs.List.{position}
 use Rattle.std.proofs.lemmas.Bool.{false≢true}
-use Rattle.lisp_object.specs.Datum.{object_of}
 use Rattle.plist_state.specs.Pushed.{holds_pair}
 use Rattle.plist_state.proofs.Indices.{has, absent, stands_at, pushed_at, pushed_back, unpushed}
+use Rattle.plist_state.proofs.Noted.{indexed_set}
 use Rattle.plist_state.proofs.rows.write_first.Goals as goal
 
 pub unreachable-requires : goal.unreachable-requires
@@ -31,3 +31,11 @@ returns-clause-ok c =
 pub returns-clause-back : goal.returns-clause-back
 returns-clause-back c =
     pushed_back c.args.row.now.items c.in-Some.index c.index_mut.result.now c.put_first.new.list c.args.first c.index_mut.ensures.value c.in_ok-put_first.ensures.ok
+
+pub returns-in_err-put_first-clause-indexed : goal.returns-in_err-put_first-clause-indexed
+returns-in_err-put_first-clause-indexed c =
+    indexed_set c.args.indexes.now.entries c.args.number c.args.row.now.items c.requires.indexed c.in-Some.index c.index_mut.result.now c.put_first.new.list c.index_mut.ensures.value
+
+pub returns-clause-indexed : goal.returns-clause-indexed
+returns-clause-indexed c =
+    indexed_set c.args.indexes.now.entries c.args.number c.args.row.now.items c.requires.indexed c.in-Some.index c.index_mut.result.now c.put_first.new.list c.index_mut.ensures.value

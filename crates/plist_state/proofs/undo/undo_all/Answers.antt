@@ -28,4 +28,5 @@ loop-note-preserved c =
       ap (all_undone left) c.undo.ensures.after ∙ sym (all_push left n r) ∙ ap (λ ns. all_undone ns r) (sym c.in-Some.ensures.items) ∙ c.loop-note.invariant.0,
       leads_wider left (rest_of c.undo.new.stored) rows c.undo.new.stored.properties.entries c.undo.ensures.wider (subst (λ s. LeadsBack left s rows) (sym c.undo.ensures.after) leads.2),
       wider_both _ rows c.undo.new.stored.properties.entries c.loop-note.invariant.2 c.undo.ensures.wider,
+      c.undo.ensures.indexed,
     )

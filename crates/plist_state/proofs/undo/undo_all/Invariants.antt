@@ -1,5 +1,6 @@
 use Rattle.std.proofs.Common.{◌≡◌, length}
 use Rattle.plist_state.specs.Shown.{rest_of}
+use Rattle.plist_state.specs.Indexed.{AreIndexed}
 use Rattle.plist_state.specs.Kept.{IsWider}
 use Rattle.plist_state.specs.Undoing.{all_undone}
 use Rattle.plist_state.specs.Journal.{LeadsBack}
@@ -11,6 +12,7 @@ invariant-loop-note l =
     (all_undone l.notes.items (rest_of l.stored) ≡ all_undone l.initial.notes.items (rest_of l.initial.stored))
     × LeadsBack l.notes.items (rest_of l.stored) l.stored.properties.entries
     × IsWider l.initial.stored.properties.entries l.stored.properties.entries
+    × AreIndexed l.stored.properties.entries l.stored.indexes.entries
 
 abbrev pub decreases-loop-note : goal.decreases-loop-note
 decreases-loop-note l = length l.notes.items

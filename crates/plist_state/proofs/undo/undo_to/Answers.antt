@@ -47,4 +47,5 @@ loop-newest-preserved c =
       omega (arith, fewer, is_length, c.if-len-mark.false, c.loop-newest.invariant.2),
       journal_wider (marks_of left) u rows later c.undo_all.ensures.wider (leads left m c.loop-newest.marks.items c.in-Some.ensures.items t u c.undo_all.ensures.after rows c.loop-newest.invariant.3).1,
       wider_both _ rows later c.loop-newest.invariant.4 c.undo_all.ensures.wider,
+      c.undo_all.ensures.indexed,
     )

@@ -1,5 +1,6 @@
 use Rattle.std.proofs.Common.{◌≡◌, ◌<◌, ◌++◌, List, length}
 use Rattle.plist_state.specs.Shown.{NumberedRest, rest_of}
+use Rattle.plist_state.specs.Indexed.{AreIndexed}
 use Rattle.plist_state.specs.Kept.{IsWider}
 use Rattle.plist_state.specs.Undoing.{rests_at}
 use Rattle.plist_state.specs.Journal.{marks_of, IsJournal}
@@ -12,6 +13,7 @@ invariant-loop-newest l =
     × (l.mark < length l.marks.items)
     × IsJournal (marks_of l.marks.items) (rest_of l.stored) l.stored.properties.entries
     × IsWider l.initial.stored.properties.entries l.stored.properties.entries
+    × AreIndexed l.stored.properties.entries l.stored.indexes.entries
 
 abbrev pub decreases-loop-newest : goal.decreases-loop-newest
 decreases-loop-newest l = length l.marks.items

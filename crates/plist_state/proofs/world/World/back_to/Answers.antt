@@ -37,6 +37,7 @@ invariant_of-self c =
     let u : NumberedRest = rest_of c.undo_to.new.stored in
     record {
       values = c.undo_to.ensures.wider.values c.self.invariant.values;
+      indexed = c.undo_to.ensures.indexed;
       owned = owned_at ts ms r rows c.self.invariant.marked c.args.mark (numbered c.back_to.new.self) u c.back_to.ensures.now c.undo_to.ensures.now;
       sound = sound_at ts ms r rows c.self.invariant.marked c.args.mark (numbered c.back_to.new.self) u c.back_to.ensures.now c.undo_to.ensures.now;
       marked = subst (λ us. AreKept us ns u c.undo_to.new.stored.properties.entries) (sym c.back_to.ensures.past)

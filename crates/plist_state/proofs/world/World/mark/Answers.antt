@@ -26,6 +26,7 @@ invariant_of-self-2 c =
     ap marks_of (c.push_reserved.ensures.items ∙ ap (λ xs. xs ++ c.new.result ∷ []) c.in_ok-reserve.ensures.items) ∙ map_push notes_of a.marks.items c.new.result ∙ ap (λ n. ms ++ n ∷ []) c.new.ensures.items in
     record {
       values = c.self.invariant.values;
+      indexed = c.self.invariant.indexed;
       owned = subst (λ (us : Tables). IsOwned (numbered us) r.properties) (sym changed) c.self.invariant.owned;
       sound = subst (λ (us : Tables). IsSound (state_in (numbered us) r)) (sym changed) c.self.invariant.sound;
       marked = subst (λ (us : Tables). AreKept us.1.marked (marks_of c.push_reserved.new.self.items) r rows) (sym changed)

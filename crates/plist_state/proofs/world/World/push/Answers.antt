@@ -2,7 +2,7 @@ use Rattle.std.proofs.Common.{◌≡◌, refl, sym, ap, subst, ◌∙◌}
 use Rattle.package_table.specs.Table.{symbol_count}
 use Rattle.package_table.specs.Numbers.{numbered}
 use Rattle.lisp_object.specs.Datum.{object_of}
-use Rattle.plist_state.specs.Properties.{same_symbol, with_value, value_by}
+use Rattle.plist_state.specs.Properties.{same_symbol, value_by}
 use Rattle.plist_state.specs.Changes.{property}
 use Rattle.plist_state.specs.Pushed.{holds_pair, pushed, with_pushed_by}
 use Rattle.plist_state.specs.State.{Worlds}
@@ -56,6 +56,7 @@ invariant_of-self c =
     pushed_named s (symbol_count s.0) c.numbering.ensures i j c.number-indicator.ensures row (c.self.invariant.owned.indicators n) v in
     record {
       values = c.push.ensures.wider.values c.self.invariant.values;
+      indexed = c.push.ensures.indexed;
       owned = kept_rest c.push.result (λ q. IsOwned s q.properties) r made u c.push.ensures.ok c.push.ensures.err c.self.invariant.owned
           (owned_put s (symbol_count s.0) c.numbering.ensures r.properties x n _ c.number-owner.ensures numbers c.self.invariant.owned);
       marked = kept_continued a.packages.1.marked (marks_of a.marks.items) r a.stored.properties.entries c.self.invariant.marked (marks_of c.push.new.marks.items) u c.push.new.stored.properties.entries

@@ -46,6 +46,7 @@ invariant_of-self c =
     with_named s (symbol_count s.0) c.numbering.ensures i j c.number-indicator.ensures row (c.self.invariant.owned.indicators n) v in
     record {
       values = c.put.ensures.wider.values c.self.invariant.values;
+      indexed = c.put.ensures.indexed;
       owned = kept_rest c.put.result (λ q. IsOwned s q.properties) r made u c.put.ensures.ok c.put.ensures.err c.self.invariant.owned
           (owned_put s (symbol_count s.0) c.numbering.ensures r.properties x n _ c.number-owner.ensures numbers c.self.invariant.owned);
       marked = kept_continued a.packages.1.marked (marks_of a.marks.items) r a.stored.properties.entries c.self.invariant.marked (marks_of c.put.new.marks.items) u c.put.new.stored.properties.entries

@@ -60,6 +60,7 @@ invariant_of-self c =
     without_named s (symbol_count s.0) c.numbering.ensures i j is row (c.self.invariant.owned.indicators n) in
     record {
       values = c.remove.ensures.wider.values c.self.invariant.values;
+      indexed = c.remove.ensures.indexed;
       owned = kept_rest c.remove.result (λ q. IsOwned s q.properties) r made u c.remove.ensures.ok c.remove.ensures.err c.self.invariant.owned
           (owned_put s (symbol_count s.0) c.numbering.ensures r.properties x n _ c.number-owner.ensures
           (all_without same_number (λ p. IsNumber s p.0) row j (c.self.invariant.owned.indicators n)) c.self.invariant.owned);

@@ -24,6 +24,7 @@ invariant_of-self-2 c =
     let named : c.replace-before.new.dest.items ≡ c.args.name.now = ap (λ (v : Vec ℕ). v.items) c.replace-before.ensures.after ∙ c.in_ok-name.ensures.name in
     record {
       values = c.self.invariant.values;
+      indexed = c.self.invariant.indexed;
       owned = c.self.invariant.owned;
       sound = subst (λ n. IsSound (record s { current_readtable = n })) (sym named) (sound_in_readtable s c.args.name.now c.self.invariant.sound there);
       marked = kept_continued a.packages.1.marked (marks_of a.marks.items) r a.stored.properties.entries c.self.invariant.marked (marks_of c.push_note.new.marks.items) u a.stored.properties.entries

@@ -18,6 +18,7 @@ invariant_of-result c =
     let r : NumberedRest = rest_of c.in_ok-first_stored.field-0 in
     record {
       values = c.in_ok-first_stored.ensures.values;
+      indexed = c.in_ok-first_stored.ensures.indexed;
       owned = subst (λ (q : NumberedRest). IsOwned (numbered ps) q.properties) (sym c.in_ok-first_stored.ensures.first) (owned_empty (numbered ps));
       marked = kept_none ps.1.marked (marks_of c.new.result.items) r c.in_ok-first_stored.field-0.properties.entries c.in_ok-packages.ensures.marked (ap marks_of c.new.ensures.items);
       sound = subst IsSound (sym (first_state (numbered ps) r c.in_ok-packages.ensures.table c.in_ok-first_stored.ensures.first)) first_sound;

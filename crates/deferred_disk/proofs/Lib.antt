@@ -1,0 +1,4 @@
+mod Between
+mod FirstByte
+mod Pending
+mod Walks

@@ -1,0 +1,23 @@
+-- What a `DeferredDisk` is, by what it was asked.
+use Rattle.std.specs.Prelude.{◌≡◌, List, Result, OnOk, OnErr}
+use Rattle.disk_trait.specs.Disk.{State}
+use Rattle.deferred_disk.specs.Calls.{CallsValue, all_of, asked}
+use Rattle.deferred_disk.specs.Orders.{OrderValue}
+use Rattle.deferred_disk.specs.State.{ordered}
+use Rattle.deferred_disk.specs.declared.disk.DeferredDisk.{DeferredDisk}
+
+-- what it was asked
+abbrev pub calls_of : DeferredDisk → CallsValue
+calls_of disk = disk.past.calls
+
+-- the orders that were not reported done, the newest first
+abbrev pub pending_of : DeferredDisk → List OrderValue
+pending_of disk = disk.past.calls.pending
+
+abbrev pub state_of : DeferredDisk → State
+state_of disk = ordered disk.past.calls.start (all_of disk.past.calls) disk.failures
+
+-- A call of which this is the order: it is pending after it, or the call failed and nothing was asked.
+pub record Asks {T E : Type 0} (order : OrderValue) (old new : DeferredDisk) (result : Result T E) : Type 0 where
+  pub ok : OnOk result (calls_of new ≡ asked (calls_of old) order)
+  pub refused : OnErr result (calls_of new ≡ calls_of old)

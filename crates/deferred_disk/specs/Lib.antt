@@ -1,0 +1,8 @@
+pub mod Bytes
+pub mod Calls
+pub mod Disk
+pub mod Kept
+pub mod Noted
+pub mod Orders
+pub mod Sound
+pub mod State

@@ -1,0 +1,87 @@
+-- What a disk holds whose calls are orders: it is told from the bytes that the files began with and the orders, the newest first.
+use Rattle.std.specs.Prelude.{◌≡◌, ◌⊎◌, ℕ, ◌≤◌, true, List, [], ◌∷◌, length, take}
+use Rattle.std.specs.Coded.{×_prop, Unit-prop, le_prop}
+use Rattle.disk_trait.specs.Disk.{Image, State, AreBytes, HoldsBytes, Cut, OnHalf, Partly, Torn, file_of, written}
+use Rattle.disk_trait.specs.declared.half.Half.{Half}
+use Rattle.disk_trait.specs.declared.half.Half.TheVariants.{A, B}
+use Rattle.deferred_disk.specs.Orders.{OrderValue, writes, cuts, syncs}
+
+-- ---- one order
+
+abbrev pub with_file : Half → List ℕ → Image → Image
+with_file A file image = record { a = file; b = image.b }
+with_file B file image = record { a = image.a; b = file }
+
+-- what a read gives after it
+abbrev pub reads_after : OrderValue → Image → Image
+reads_after (writes half at bytes) image = with_file half (written at bytes (file_of half image)) image
+reads_after (cuts half len) image = with_file half (take len (file_of half image)) image
+reads_after (syncs half) image = image
+
+-- what a crash may make of an image on which it is pending, beside leaving it undone: a part of it, or all
+abbrev pub PartOf : OrderValue → Image → Image → Type 0
+PartOf (writes half at bytes) = OnHalf half (Torn at (length bytes))
+PartOf (cuts half len) = OnHalf half (Cut len)
+PartOf (syncs half) = λ _ _. ⊥
+
+-- after a sync a crash leaves of the half what a read gives
+abbrev pub Binds : OrderValue → Image → Image → Type 0
+Binds (syncs half) reads left = file_of half left ≡ file_of half reads
+Binds _ reads left = Unit {0}
+
+-- what it writes is bytes
+abbrev pub WritesBytes : OrderValue → Type 0
+WritesBytes (writes half at bytes) = AreBytes bytes
+WritesBytes _ = Unit {0}
+
+-- ---- orders in turn, of which the newest is the first here
+
+abbrev pub reads_by : Image → List OrderValue → Image
+reads_by start [] = start
+reads_by start (order ∷ earlier) = reads_after order (reads_by start earlier)
+
+-- what a crash after them may leave
+abbrev pub MayLeave : Image → List OrderValue → Image → Type 0
+MayLeave start [] c = c ≡ start
+MayLeave start (order ∷ earlier) c =
+    ((d : Image) × MayLeave start earlier d × Partly (PartOf order) d c) × Binds order (reads_by start earlier) c
+
+-- what a crash might have left at some moment from t on: a moment is the number of orders before it
+abbrev pub LeftSince : Image → List OrderValue → ℕ → Image → Type 0
+LeftSince start [] t c = (t ≤ 0) × MayLeave start [] c
+LeftSince start (order ∷ earlier) t c = LeftSince start earlier t c ⊎ ((t ≤ length (order ∷ earlier)) × MayLeave start (order ∷ earlier) c)
+
+abbrev pub AllWriteBytes : List OrderValue → Type 0
+AllWriteBytes [] = Unit {0}
+AllWriteBytes (order ∷ earlier) = WritesBytes order × AllWriteBytes earlier
+
+-- ---- what holds once
+
+pub bytes-prop : (bytes : List ℕ) → IsProp (AreBytes bytes)
+bytes-prop [] = Unit-prop
+bytes-prop (b ∷ bs) = ×_prop le_prop (bytes-prop bs)
+
+pub holds-prop : (image : Image) → IsProp (HoldsBytes image)
+holds-prop image = ×_prop (bytes-prop image.a) (bytes-prop image.b)
+
+writes-prop : (order : OrderValue) → IsProp (WritesBytes order)
+writes-prop (writes half at bytes) = bytes-prop bytes
+writes-prop (cuts half len) = Unit-prop
+writes-prop (syncs half) = Unit-prop
+
+pub all_write-prop : (orders : List OrderValue) → IsProp (AllWriteBytes orders)
+all_write-prop [] = Unit-prop
+all_write-prop (order ∷ earlier) = ×_prop (writes-prop order) (all_write-prop earlier)
+
+-- ---- the state
+
+-- The files began with these bytes and nothing pending, and these orders were done.
+abbrev pub ordered : Image → List OrderValue → ℕ → State
+ordered start orders failures = record {
+  honest = true;
+  reads = reads_by start orders;
+  may_leave = MayLeave start orders;
+  moment = length orders;
+  left_since = LeftSince start orders;
+  failures = failures;
+}

@@ -1,0 +1,41 @@
+// What was asked of a disk since it was made. It exists only in proofs.
+ghost use Rattle.std.specs.Prelude.{◌≡◌};
+ghost use base.Fml.{ftrue};
+ghost use Rattle.deferred_disk.specs.Calls.{CallsValue, asked, begun, calls_code, reported};
+
+use crate::order::Order;
+use std::marker::Model;
+
+#[derive(Drop)]
+pub(crate) struct Past {
+    ghost calls: { CallsValue } by { calls_code },
+}
+
+impl Model for Past {
+    ghost also_owns = { λ _. ftrue };
+}
+
+impl Past {
+    ghost use Rattle.deferred_disk.specs.Noted.{order_of};
+
+    // Two files of these bytes, and no order.
+    pub(crate) fn of(_a: &Vec<u8>, _b: &Vec<u8>) -> Past
+        ensures { result.calls ≡ begun _a.now.items _b.now.items }
+    {
+        Past {}
+    }
+
+    // One order more.
+    pub(crate) fn then(&self, _order: &Order<'_>) -> Past
+        ensures { result.calls ≡ asked self.now.calls (order_of _order.now) }
+    {
+        Past {}
+    }
+
+    // All orders are done.
+    pub(crate) fn reported(&self) -> Past
+        ensures { result.calls ≡ reported self.now.calls }
+    {
+        Past {}
+    }
+}

@@ -1,0 +1,307 @@
+-- The index of a row of properties.
+--     blank, nth_is, nth_item      a property of a row, by its place
+--     placed, unplaced, elsewhere      `position`, from the places at which an indicator stands, and back
+--     searched_by      what a binary search by the orders finds
+--     unknown, unmatched, mismatched, matched      what the index says of an indicator
+--     orders-set, orders-remove      the orders of a row that is written
+--     IsIndexed-nil, IsIndexed-remove, IsIndexed-take, IsIndexed-noted, IsIndexed-added, IsIndexed-next      an index stays one
+use Rattle.std.proofs.Common.{◌≡◌, ◌≢◌, ℕ, zero, suc, ◌+◌, ◌-◌, ◌<◌, ◌≤◌, true, false, cond, Option, None, Some, unwrap_or, Result, Ok, Err, IfOk, IfErr, List, [], ◌∷◌, ◌++◌, length, take, get_or, set, refl, sym, ap, subst, ◌∙◌, arith}
+use Rattle.std.specs.List.{position, position_from, remove, slice_get}
+use Rattle.std.specs.List.Sorted.{IsSearchInRange, IsBinarySearchResult, IsNonDecreasingBy}
+use Rattle.std.specs.Ordering.{nat_cmp, eq_by_cmp, ordering_index}
+use Rattle.std.proofs.lemmas.Bool.Decides.{nat_tests}
+use Rattle.std.proofs.lemmas.Cmp.{ranked}
+use Rattle.std.proofs.lemmas.Iterator.Adapters.{position_from-zero}
+use Rattle.std.specs.Prelude.{nat_lt, is_some}
+use Rattle.std.proofs.Math.Seq.{get_or-append_seam, take-suc}
+use Rattle.std.proofs.lemmas.Bool.{false≢true}
+use Rattle.std.proofs.lemmas.List.{length_push, length-map, length-take-le, get_or-take, get_or_append_left}
+use Rattle.std.proofs.lemmas.List.Edits.{length-remove, get_or-remove_below, get_or-remove_above}
+use Rattle.std.proofs.lemmas.List.Sorted.{IsNonDecreasingBy-from_default}
+use Rattle.lisp_object.specs.declared.datum.Datum.{Datum}
+use Rattle.lisp_object.specs.declared.datum.Datum.TheVariants.{Char}
+use Rattle.plist_state.specs.declared.property.NumberedProperty.{NumberedProperty}
+use Rattle.plist_state.specs.Lists.{same_number}
+use Rattle.plist_state.specs.Indexed.{Orders, order_of, orders, nth, order_in, IsRising, IsIndexed}
+use Rattle.plist_state.proofs.Indices.{has}
+use Rattle.plist_state.proofs.ListRows.{number_tied}
+use Rattle.plist_state.proofs.Placing.{not_same}
+
+abbrev pub blank : NumberedProperty
+blank = record { indicator = 0; order = 0; value = Char 0 }
+
+pub nth_is : (items : List NumberedProperty) (k : ℕ) → nth (orders items) k ≡ order_of (get_or items k blank)
+nth_is [] k = refl
+nth_is (p ∷ ps) zero = refl
+nth_is (p ∷ ps) (suc k) = nth_is ps k
+
+-- the same of the one that stands there
+pub nth_item : (items : List NumberedProperty) (k : ℕ) (p : NumberedProperty) → k < length items → p ≡ get_or items k p → nth (orders items) k ≡ order_of p
+nth_item [] k p less e = absurd (omega (arith, less))
+nth_item (q ∷ qs) zero p less e = ap order_of (sym e)
+nth_item (q ∷ qs) (suc k) p less e = nth_item qs k p (omega (arith, less)) e
+
+-- ---- places
+placed_from : (items : List NumberedProperty) (i k n : ℕ) → k < length items → (nth (orders items) k).0 ≡ i → ((j : ℕ) → j < k → (nth (orders items) j).0 ≢ i) → position_from (has i) n items ≡ Some (n + k)
+placed_from [] i k n less is none = absurd (omega (arith, less))
+placed_from (p ∷ ps) i zero n less is none =
+    let here : same_number i p.indicator ≡ true = grind (arith, nat_tests, is) in
+    ap (λ b. cond b (Some n) (position_from (has i) (n + 1) ps)) here ∙ ap Some (omega arith)
+placed_from (p ∷ ps) i (suc k) n less is none =
+    let there : same_number i p.indicator ≡ false = grind (arith, nat_tests, none 0 (omega arith)) in
+    ap (λ b. cond b (Some n) (position_from (has i) (n + 1) ps)) there
+    ∙ placed_from ps i k (n + 1) (omega (arith, less)) is (λ j lt. none (suc j) (omega (arith, lt)))
+    ∙ ap Some (omega arith)
+
+pub placed : (items : List NumberedProperty) (i k : ℕ) → k < length items → (nth (orders items) k).0 ≡ i → ((j : ℕ) → j < k → (nth (orders items) j).0 ≢ i) → position (has i) items ≡ Some k
+placed items i k less is none = position_from-zero (has i) items ∙ placed_from items i k 0 less is none ∙ ap Some (omega arith)
+
+unplaced_from : (items : List NumberedProperty) (i n : ℕ) → ((k : ℕ) → k < length items → (nth (orders items) k).0 ≢ i) → position_from (has i) n items ≡ None
+unplaced_from [] i n none = refl
+unplaced_from (p ∷ ps) i n none =
+    let there : same_number i p.indicator ≡ false = grind (arith, nat_tests, none 0 (omega arith)) in
+    ap (λ b. cond b (Some n) (position_from (has i) (n + 1) ps)) there
+    ∙ unplaced_from ps i (n + 1) (λ k lt. none (suc k) (omega (arith, lt)))
+
+pub unplaced : (items : List NumberedProperty) (i : ℕ) → ((k : ℕ) → k < length items → (nth (orders items) k).0 ≢ i) → position (has i) items ≡ None
+unplaced items i none = position_from-zero (has i) items ∙ unplaced_from items i 0 none
+
+elsewhere_at : (p : NumberedProperty) (ps : List NumberedProperty) (i : ℕ) → has i p ≡ false → ((k : ℕ) → k < length ps → (nth (orders ps) k).0 ≢ i)
+    → (k : ℕ) → k < length (p ∷ ps) → (nth (orders (p ∷ ps)) k).0 ≢ i
+elsewhere_at p ps i t none zero less same = grind (arith, nat_tests, t, same)
+elsewhere_at p ps i t none (suc k) less same = none k (omega (arith, less)) same
+
+elsewhere_from : (items : List NumberedProperty) (i n : ℕ) → position_from (has i) n items ≡ None → (k : ℕ) → k < length items → (nth (orders items) k).0 ≢ i
+elsewhere_from [] i n is = λ k less. absurd (omega (arith, less))
+elsewhere_from (p ∷ ps) i n is =
+    elim (has i p) as (λ b. has i p ≡ b → cond b (Some n) (position_from (has i) (n + 1) ps) ≡ None → (k : ℕ) → k < length (p ∷ ps) → (nth (orders (p ∷ ps)) k).0 ≢ i) [
+      | true ↦ λ t e k less. absurd (cc)
+      | false ↦ λ t e. elsewhere_at p ps i t (elsewhere_from ps i (n + 1) e)
+    ] refl is
+
+pub elsewhere : (items : List NumberedProperty) (i : ℕ) → position (has i) items ≡ None → (k : ℕ) → k < length items → (nth (orders items) k).0 ≢ i
+elsewhere items i is = elsewhere_from items i 0 (sym (position_from-zero (has i) items) ∙ is)
+
+-- ---- a search by the orders
+module _ (items : List NumberedProperty) (rising : IsRising (orders items)) (o : ℕ) where
+  rises : (i j : ℕ) → i ≤ j → j < length items → (get_or items i blank).order ≤ (get_or items j blank).order
+  rises i j le less =
+      let a : (nth (orders items) i).1 ≡ (get_or items i blank).order = ap (λ (p : ℕ × ℕ). p.1) (nth_is items i) in
+      let b : (nth (orders items) j).1 ≡ (get_or items j blank).order = ap (λ (p : ℕ × ℕ). p.1) (nth_is items j) in
+      let long : length (orders items) ≡ length items = length-map items order_of in
+      grind (arith, a, b, long, rising i j, λ (same : i ≡ j). ap (λ k. (get_or items k blank).order) same)
+
+  comparisons_rise : IsNonDecreasingBy (λ (p : NumberedProperty). ordering_index (nat_cmp p.order o)) items
+  comparisons_rise = IsNonDecreasingBy-from_default (λ (p : NumberedProperty). ordering_index (nat_cmp p.order o)) items blank (λ i j le less.
+      let orders_rise : (get_or items i blank).order ≤ (get_or items j blank).order = rises i j le less in
+      grind (arith, nat_tests))
+
+  pub searched_by : (r : Result ℕ ℕ) → IsSearchInRange r (length items) → IsBinarySearchResult (λ (p : NumberedProperty). nat_cmp p.order o) items r
+      → IfOk r (λ k. (k < length items) × ((nth (orders items) k).1 ≡ o)) × IfErr r (λ _. (k : ℕ) → k < length items → (nth (orders items) k).1 ≢ o)
+  searched_by (Ok at) in_range equal = ((in_range, ap (λ (p : ℕ × ℕ). p.1) (nth_is items at) ∙ ranked _ o _ (sym (equal blank))), tt)
+  searched_by (Err at) in_range parted = (
+    tt,
+    λ k less same.
+        let is : (nth (orders items) k).1 ≡ (get_or items k blank).order = ap (λ (p : ℕ × ℕ). p.1) (nth_is items k) in
+        let before : k < at → (get_or items k blank).order < o = λ lt. ranked _ o _ (sym ((parted comparisons_rise).0 k blank (omega arith) lt)) in
+        let after : at ≤ k → o < (get_or items k blank).order = λ le. ranked _ o _ (sym ((parted comparisons_rise).1 k blank le less)) in
+        grind (arith, is, same, before, after),
+  )
+
+-- ---- what an index says
+same_order : (a b : ℕ) → Some a ≡ Some b → a ≡ b
+same_order a b e = ap (λ o. unwrap_or o a) e
+
+module _ (x : Orders) (items : List NumberedProperty) (indexed : IsIndexed x (orders items)) (i : ℕ) where
+  -- the order of each property with this indicator
+  known : (k : ℕ) → k < length items → (nth (orders items) k).0 ≡ i → order_in x i ≡ Some (nth (orders items) k).1
+  known k less is =
+      subst (λ j. order_in x j ≡ Some (nth (orders items) k).1) is
+      (indexed.finds k (let long : length (orders items) ≡ length items = length-map items order_of in omega (arith, long, less)))
+
+  pub unknown : order_in x i ≡ None → position (has i) items ≡ None
+  unknown none = unplaced items i (λ k less is. let e : None ≡ Some (nth (orders items) k).1 = sym none ∙ known k less is in cc)
+
+  module _ (o : ℕ) (has_order : order_in x i ≡ Some o) where
+    ordered : (k : ℕ) → k < length items → (nth (orders items) k).0 ≡ i → (nth (orders items) k).1 ≡ o
+    ordered k less is = same_order _ _ (sym (known k less is) ∙ has_order)
+
+    pub unmatched : ((k : ℕ) → k < length items → (nth (orders items) k).1 ≢ o) → position (has i) items ≡ None
+    unmatched none = unplaced items i (λ k less is. none k less (ordered k less is))
+
+    module _ (k : ℕ) (less : k < length items) (is : (nth (orders items) k).1 ≡ o) where
+      rise : (a b : ℕ) → a < b → b < length items → (nth (orders items) a).1 < (nth (orders items) b).1
+      rise a b lt within = indexed.rising a b lt (let long : length (orders items) ≡ length items = length-map items order_of in omega (arith, long, within))
+
+      pub mismatched : (nth (orders items) k).0 ≢ i → position (has i) items ≡ None
+      mismatched other = unplaced items i (λ j within same.
+          let equal : (nth (orders items) j).1 ≡ o = ordered j within same in
+          let here : j ≡ k → (nth (orders items) k).0 ≡ i = λ e. subst (λ m. (nth (orders items) m).0 ≡ i) e same in
+          grind (arith, equal, is, here, other, rise j k, rise k j, within, less))
+
+      pub matched : (nth (orders items) k).0 ≡ i → position (has i) items ≡ Some k
+      matched here = placed items i k less here (λ j lt same.
+          let within : j < length items = omega (arith, lt, less) in
+          let equal : (nth (orders items) j).1 ≡ o = ordered j within same in
+          omega (arith, equal, is, rise j k lt less))
+
+-- ---- what stays an index
+pub orders-set : (items : List NumberedProperty) (k : ℕ) (p : NumberedProperty) (v : Datum) → p ≡ get_or items k p → orders (set items k (record { indicator = p.indicator; order = p.order; value = v })) ≡ orders items
+orders-set [] k p v e = refl
+orders-set (q ∷ qs) zero p v e = ap (λ (t : NumberedProperty). order_of t ∷ orders qs) e
+orders-set (q ∷ qs) (suc k) p v e = ap (λ ps. order_of q ∷ ps) (orders-set qs k p v e)
+
+pub orders-remove : (items : List NumberedProperty) (k : ℕ) → orders (remove items k) ≡ remove (orders items) k
+orders-remove [] zero = refl
+orders-remove [] (suc k) = refl
+orders-remove (q ∷ qs) zero = refl
+orders-remove (q ∷ qs) (suc k) = ap (λ ps. order_of q ∷ ps) (orders-remove qs k)
+
+pub orders-take : (n : ℕ) (items : List NumberedProperty) → orders (take n items) ≡ take n (orders items)
+orders-take zero items = refl
+orders-take (suc n) [] = refl
+orders-take (suc n) (q ∷ qs) = ap (λ ps. order_of q ∷ ps) (orders-take n qs)
+
+pub IsIndexed-nil : (x : Orders) → IsIndexed x []
+IsIndexed-nil x = record {
+  finds = λ k less. absurd (omega (arith, less));
+  rising = λ i j lt less. absurd (omega (arith, less));
+}
+
+pub IsIndexed-remove : (x ks : Orders) (k : ℕ) → k < length ks → IsIndexed x ks → IsIndexed x (remove ks k)
+IsIndexed-remove x ks k within indexed =
+    let long : length (remove ks k) + 1 ≡ length ks = length-remove ks k within in
+    let below : (j : ℕ) → j < k → nth (remove ks k) j ≡ nth ks j = λ j lt. get_or-remove_below ks k (0, 0) j lt within in
+    let above : (j : ℕ) → k ≤ j → nth (remove ks k) j ≡ nth ks (j + 1) = λ j le. get_or-remove_above ks k (0, 0) j le within in
+    let at : (j : ℕ) → (m : ℕ) × (nth (remove ks k) j ≡ nth ks m) × (j ≤ m) × (m ≤ j + 1) × (j < k → m ≡ j) × (k ≤ j → m ≡ j + 1) = λ j. moved j below above in
+    record {
+      finds = λ j less.
+          let (m, is, low, high, left, right) = at j in
+          subst (λ (p : ℕ × ℕ). order_in x p.0 ≡ Some p.1) (sym is) (indexed.finds m (omega (arith, long, less, high)));
+      rising = λ i j lt less.
+          let (m, is, low, high, left, right) = at i in
+          let (n, same, under, over, first, second) = at j in
+          let a : (nth (remove ks k) i).1 ≡ (nth ks m).1 = ap (λ (p : ℕ × ℕ). p.1) is in
+          let b : (nth (remove ks k) j).1 ≡ (nth ks n).1 = ap (λ (p : ℕ × ℕ). p.1) same in
+          let rise : (nth ks m).1 < (nth ks n).1 = indexed.rising m n (grind (arith, left, right, first, second, lt)) (omega (arith, long, less, over)) in
+          omega (arith, a, b, rise);
+    }
+  where
+    moved : (j : ℕ) → ((j : ℕ) → j < k → nth (remove ks k) j ≡ nth ks j) → ((j : ℕ) → k ≤ j → nth (remove ks k) j ≡ nth ks (j + 1)) → (m : ℕ) × (nth (remove ks k) j ≡ nth ks m) × (j ≤ m) × (m ≤ j + 1) × (j < k → m ≡ j) × (k ≤ j → m ≡ j + 1)
+    moved j below above = elim (nat_lt j k) as (λ b. nat_lt j k ≡ b → (m : ℕ) × (nth (remove ks k) j ≡ nth ks m) × (j ≤ m) × (m ≤ j + 1) × (j < k → m ≡ j) × (k ≤ j → m ≡ j + 1)) [
+      | true ↦ λ t. (j, below j (grind (arith, nat_tests, t)), omega arith, omega arith, λ lt. refl, λ le. absurd (grind (arith, nat_tests, t, le)))
+      | false ↦ λ t. (j + 1, above j (grind (arith, nat_tests, t)), omega arith, omega arith, λ lt. absurd (grind (arith, nat_tests, t, lt)), λ le. refl)
+    ] refl
+
+pub IsIndexed-take : (x ks : Orders) (n : ℕ) → n ≤ length ks → IsIndexed x ks → IsIndexed x (take n ks)
+IsIndexed-take x ks n within indexed =
+    let long : length (take n ks) ≡ n = length-take-le n ks within in
+    let at : (j : ℕ) → j < n → nth (take n ks) j ≡ nth ks j = λ j lt. get_or-take n ks j (0, 0) lt in
+    record {
+      finds = λ j less. subst (λ (p : ℕ × ℕ). order_in x p.0 ≡ Some p.1) (sym (at j (omega (arith, long, less)))) (indexed.finds j (omega (arith, long, less, within)));
+      rising = λ i j lt less.
+          let a : (nth (take n ks) i).1 ≡ (nth ks i).1 = ap (λ (p : ℕ × ℕ). p.1) (at i (omega (arith, long, less, lt))) in
+          let b : (nth (take n ks) j).1 ≡ (nth ks j).1 = ap (λ (p : ℕ × ℕ). p.1) (at j (omega (arith, long, less))) in
+          omega (arith, a, b, indexed.rising i j lt (omega (arith, long, less, within)));
+    }
+
+-- an indicator more in the index, which the row does not have
+module _ (x later ks : Orders) (i o : ℕ)
+    (put : (q : ℕ) → order_in later q ≡ cond (eq_by_cmp nat_cmp q i) (Some o) (order_in x q))
+    (absent : (k : ℕ) → k < length ks → (nth ks k).0 ≢ i)
+    (other : (q : ℕ) → q ≢ i → eq_by_cmp nat_cmp q i ≡ false) (same : eq_by_cmp nat_cmp i i ≡ true)
+    (indexed : IsIndexed x ks) where
+  pub IsIndexed-noted : IsIndexed later ks
+  IsIndexed-noted = record {
+    finds = λ k less.
+        put (nth ks k).0 ∙ ap (λ b. cond b (Some o) (order_in x (nth ks k).0)) (other (nth ks k).0 (absent k less)) ∙ indexed.finds k less;
+    rising = indexed.rising;
+  }
+
+  -- the property of this order is there
+  pub IsIndexed-added : ((k : ℕ) → k < length ks → (nth ks k).1 < o) → IsIndexed later (ks ++ (i, o) ∷ [])
+  IsIndexed-added above =
+      let long : length (ks ++ (i, o) ∷ []) ≡ length ks + 1 = omega (arith, length_push ks (i, o)) in
+      let left : (k : ℕ) → k < length ks → nth (ks ++ (i, o) ∷ []) k ≡ nth ks k = λ k lt. get_or_append_left ks ((i, o) ∷ []) (0, 0) k lt in
+      let last : nth (ks ++ (i, o) ∷ []) (length ks) ≡ (i, o) = get_or-append_seam ks (i, o) [] (0, 0) in
+      record {
+        finds = λ k less. elim (nat_lt k (length ks)) as (λ b. nat_lt k (length ks) ≡ b → order_in later (nth (ks ++ (i, o) ∷ []) k).0 ≡ Some (nth (ks ++ (i, o) ∷ []) k).1) [
+          | true ↦ λ t.
+              let lt : k < length ks = grind (arith, nat_tests, t) in
+              subst (λ (p : ℕ × ℕ). order_in later p.0 ≡ Some p.1) (sym (left k lt)) (IsIndexed-noted.finds k lt)
+          | false ↦ λ t.
+              let is : k ≡ length ks = grind (arith, nat_tests, t, long, less) in
+              subst (λ (p : ℕ × ℕ). order_in later p.0 ≡ Some p.1) (sym (ap (nth (ks ++ (i, o) ∷ [])) is ∙ last)) (put i ∙ ap (λ b. cond b (Some o) (order_in x i)) same)
+        ] refl;
+        rising = λ a b lt less. elim (nat_lt b (length ks)) as (λ t. nat_lt b (length ks) ≡ t → (nth (ks ++ (i, o) ∷ []) a).1 < (nth (ks ++ (i, o) ∷ []) b).1) [
+          | true ↦ λ t.
+              let within : b < length ks = grind (arith, nat_tests, t) in
+              let p : (nth (ks ++ (i, o) ∷ []) a).1 ≡ (nth ks a).1 = ap (λ (p : ℕ × ℕ). p.1) (left a (omega (arith, lt, within))) in
+              let q : (nth (ks ++ (i, o) ∷ []) b).1 ≡ (nth ks b).1 = ap (λ (p : ℕ × ℕ). p.1) (left b within) in
+              omega (arith, p, q, indexed.rising a b lt within)
+          | false ↦ λ t.
+              let is : b ≡ length ks = grind (arith, nat_tests, t, long, less) in
+              let p : (nth (ks ++ (i, o) ∷ []) a).1 ≡ (nth ks a).1 = ap (λ (p : ℕ × ℕ). p.1) (left a (omega (arith, lt, is))) in
+              let q : (nth (ks ++ (i, o) ∷ []) b).1 ≡ o = ap (λ (p : ℕ × ℕ). p.1) (ap (nth (ks ++ (i, o) ∷ [])) is ∙ last) in
+              omega (arith, p, q, above a (omega (arith, lt, is)))
+        ] refl;
+      }
+
+-- the next property of a row, in the index of those before it
+module _ (x later : Orders) (items : List NumberedProperty) (n next : ℕ) (p : NumberedProperty) (less : n < length items) (is : p ≡ get_or items n p)
+    (indexed : IsIndexed x (take n (orders items))) (below : (k : ℕ) → k < n → (nth (orders items) k).1 < next) (high : next ≤ p.order)
+    (new : is_some (order_in x p.indicator) ≡ false)
+    (put : (q : ℕ) → order_in later q ≡ cond (eq_by_cmp nat_cmp q p.indicator) (Some p.order) (order_in x q)) where
+  long : length (orders items) ≡ length items
+  long = length-map items order_of
+
+  cut : length (take n (orders items)) ≡ n
+  cut = length-take-le n (orders items) (omega (arith, long, less))
+
+  unlike : (k : ℕ) → k < length (take n (orders items)) → (nth (take n (orders items)) k).0 ≢ p.indicator
+  unlike k lt same =
+      let there : is_some (order_in x p.indicator) ≡ true = ap (λ i. is_some (order_in x i)) (sym same) ∙ ap is_some (indexed.finds k lt) in
+      false≢true (sym new ∙ there)
+
+  pub IsIndexed-next : IsIndexed later (take (n + 1) (orders items))
+  IsIndexed-next =
+      subst (IsIndexed later) (sym more)
+      (IsIndexed-added x later (take n (orders items)) p.indicator p.order put unlike (λ q other. not_same q p.indicator other) (number_tied p.indicator) indexed
+      (λ k lt.
+      let same : (nth (take n (orders items)) k).1 ≡ (nth (orders items) k).1 = ap (λ (e : ℕ × ℕ). e.1) (get_or-take n (orders items) k (0, 0) (omega (arith, cut, lt))) in
+      omega (arith, same, below k (omega (arith, cut, lt)), high)))
+    where
+      here : nth (orders items) n ≡ (p.indicator, p.order)
+      here = nth_item items n p less is
+
+      one_more : n + 1 ≡ suc n
+      one_more = omega arith
+
+      more : take (n + 1) (orders items) ≡ take n (orders items) ++ (p.indicator, p.order) ∷ []
+      more = ap (λ m. take m (orders items)) one_more ∙ take-suc (orders items) n (0, 0) (omega (arith, length-map items order_of, less))
+          ∙ ap (λ e. take n (orders items) ++ e ∷ []) here
+
+  pub below_next : (above : ℕ) → p.order < above → (k : ℕ) → k < n + 1 → (nth (orders items) k).1 < above
+  below_next above more k lt =
+      let here : (nth (orders items) n).1 ≡ p.order = ap (λ (e : ℕ × ℕ). e.1) (nth_item items n p less is) in
+      let at : k ≡ n → (nth (orders items) k).1 ≡ p.order = λ e. ap (λ m. (nth (orders items) m).1) e ∙ here in
+      grind (arith, at, below k, high, more, lt)
+
+-- a property that is got from a row
+nth_got : (xs : List NumberedProperty) (j : ℕ) (q : NumberedProperty) → slice_get xs j ≡ Some q → nth (orders xs) j ≡ order_of q
+nth_got [] j q e = absurd (cc)
+nth_got (x ∷ xs) zero q e = ap order_of (got x q e)
+  where
+    got : (a b : NumberedProperty) → ◌≡◌ {A = Option NumberedProperty} (Some a) (Some b) → a ≡ b
+    got a b e = ap (λ o. unwrap_or o a) e
+nth_got (x ∷ xs) (suc j) q e = nth_got xs j q e
+
+-- the order of the last property is the greatest
+pub above_last : (items : List NumberedProperty) (p : NumberedProperty) → Some p ≡ slice_get items (length items - 1) → IsRising (orders items)
+    → (k : ℕ) → k < length items → (next : ℕ) → p.order < next → (nth (orders items) k).1 < next
+above_last items p is rising k less next more =
+    let last : nth (orders items) (length items - 1) ≡ order_of p = nth_got items (length items - 1) p (sym is) in
+    let long : length (orders items) ≡ length items = length-map items order_of in
+    let end : (nth (orders items) (length items - 1)).1 ≡ p.order = ap (λ (e : ℕ × ℕ). e.1) last in
+    let at : k ≡ length items - 1 → (nth (orders items) k).1 ≡ p.order = λ e. ap (λ m. (nth (orders items) m).1) e ∙ end in
+    grind (arith, long, end, at, rising k (length items - 1), less, more)

@@ -1,0 +1,176 @@
+//! The index of a long row: the order of each of its properties by the number of its indicator.
+ghost use Rattle.std.specs.Prelude.{◌≡◌, ◌≢◌, ◌<◌, ◌++◌, ◌∷◌, [], ℕ, None, length, IfOk, IfErr, IfSome, OnOk};
+ghost use Rattle.std.specs.List.{position};
+ghost use Rattle.plist_state.specs.declared.property.NumberedProperty.{NumberedProperty as Numbered};
+ghost use Rattle.plist_state.specs.Lists.{same_number};
+ghost use Rattle.plist_state.specs.Indexed.{orders, nth, IsRising, IsIndexed, IsIndexedIn, KeepsOthers};
+
+use crate::property::NumberedProperty;
+use std::alloc::{AllocError, Global};
+use std::collections::BTreeMap;
+
+/// The order of each property of a row, by the number of its indicator.
+pub(crate) type Index = BTreeMap<u32, u64>;
+
+/// The indexes of long rows, by the numbers of their symbols.
+pub(crate) type Indexes = BTreeMap<u32, Index>;
+
+// From so many properties on a row has an index.
+const LONG: usize = 32;
+
+// The place of the indicator in a row, from its front.
+fn searched(row: &[NumberedProperty], indicator: u32) -> Option<usize>
+    ensures { result ≡ position (λ p. same_number indicator p.indicator) row.now }
+{
+    row.iter()
+        .position(|property| indicator == property.indicator)
+}
+
+// Where the property of this order is, or where it would go.
+fn by_order(row: &[NumberedProperty], order: u64) -> Result<usize, usize>
+    requires { IsRising (orders row.now) }
+    ensures found { IfOk result (λ k. (k < length row.now) × ((nth (orders row.now) k).1 ≡ order)) }
+    ensures absent { IfErr result (λ _. (k : ℕ) → k < length row.now → (nth (orders row.now) k).1 ≢ order) }
+{
+    row.binary_search_by_key(&order, |property| property.order)
+}
+
+// The place of the indicator in a row with an index.
+fn indexed(index: &Index, row: &[NumberedProperty], indicator: u32) -> Option<usize>
+    requires { IsIndexed index.now.entries (orders row.now) }
+    ensures { result ≡ position (λ p. same_number indicator p.indicator) row.now }
+{
+    let Some(order) = index.get(&indicator) else {
+        return None;
+    };
+    let Ok(place) = by_order(row, *order) else {
+        return None;
+    };
+    if row[place].indicator == indicator {
+        Some(place)
+    } else {
+        None
+    }
+}
+
+/// The place of the indicator in the row of a number. Where the row has an index, it is not searched from its front.
+pub(crate) fn place(
+    row: &[NumberedProperty],
+    indexes: &Indexes,
+    number: u32,
+    indicator: u32,
+) -> Option<usize>
+    requires { IsIndexedIn indexes.now.entries number row.now }
+    ensures { result ≡ position (λ p. same_number indicator p.indicator) row.now }
+{
+    if row.len() < LONG {
+        return searched(row, indicator);
+    }
+    match indexes.get(&number) {
+        Some(index) => indexed(index, row, indicator),
+        None => searched(row, indicator),
+    }
+}
+
+// The order of a property that is new in a row.
+fn next_order(row: &[NumberedProperty]) -> Result<u64, AllocError>
+    ensures { IfOk result (λ next. IsRising (orders row.now)
+        → (k : ℕ) → k < length row.now → (nth (orders row.now) k).1 < next) }
+{
+    match row.last() {
+        Some(last) => match last.order.checked_add(1) {
+            Some(next) => Ok(next),
+            None => Err(AllocError),
+        },
+        None => Ok(0),
+    }
+}
+
+// The index of a row, if its orders rise and no indicator comes twice.
+fn index_of(alloc: Global, row: &[NumberedProperty]) -> Result<Option<Index>, AllocError>
+    ensures { IfOk result (λ index. IfSome index (λ x. IsIndexed x.entries (orders row.now))) }
+{
+    let mut index = BTreeMap::new(alloc);
+    let mut next = 0;
+    for property in row {
+        if property.order < next || index.contains_key(&property.indicator) {
+            return Ok(None);
+        }
+        let Some(above) = property.order.checked_add(1) else {
+            return Ok(None);
+        };
+        next = above;
+        index.insert(property.indicator, property.order)?;
+    }
+    Ok(Some(index))
+}
+
+// Makes the index of a long row, where it has none.
+fn make_index(
+    alloc: Global,
+    row: &[NumberedProperty],
+    indexes: &mut Indexes,
+    number: u32,
+) -> Result<(), AllocError>
+    requires { IsIndexedIn indexes.old.entries number row.now }
+    ensures indexed { IsIndexedIn indexes.new.entries number row.now }
+    ensures others { KeepsOthers indexes.old.entries indexes.new.entries number }
+{
+    if row.len() < LONG || indexes.contains_key(&number) {
+        return Ok(());
+    }
+    let Some(index) = index_of(alloc, row)? else {
+        return Ok(());
+    };
+    match indexes.insert(number, index) {
+        Ok(_) => Ok(()),
+        Err(_) => Err(AllocError),
+    }
+}
+
+// Gives the index of a row, if it has one, the order of an indicator that is new in it.
+fn note_order(
+    row: &[NumberedProperty],
+    indexes: &mut Indexes,
+    number: u32,
+    indicator: u32,
+    order: u64,
+) -> Result<(), AllocError>
+    requires indexed { IsIndexedIn indexes.old.entries number row.now }
+    requires new { position (λ p. same_number indicator p.indicator) row.now ≡ None }
+    requires above { IsRising (orders row.now) → (k : ℕ) → k < length row.now → (nth (orders row.now) k).1 < order }
+    ensures indexed { IsIndexedIn indexes.new.entries number row.now }
+    ensures next { OnOk result ((p : Numbered) → p.indicator ≡ indicator → p.order ≡ order
+        → IsIndexedIn indexes.new.entries number (row.now ++ p ∷ [])) }
+    ensures others { KeepsOthers indexes.old.entries indexes.new.entries number }
+{
+    let Some(index) = indexes.get_mut(&number) else {
+        return Ok(());
+    };
+    match index.insert(indicator, order) {
+        Ok(_) => Ok(()),
+        Err(_) => Err(AllocError),
+    }
+}
+
+/// The order of a property whose indicator is new in the row of a number. If the row has an index, this knows it then; a
+/// long row gets one.
+pub(crate) fn new_order(
+    alloc: Global,
+    row: &[NumberedProperty],
+    indexes: &mut Indexes,
+    number: u32,
+    indicator: u32,
+) -> Result<u64, AllocError>
+    requires indexed { IsIndexedIn indexes.old.entries number row.now }
+    requires new { position (λ p. same_number indicator p.indicator) row.now ≡ None }
+    ensures indexed { IsIndexedIn indexes.new.entries number row.now }
+    ensures next { IfOk result (λ order. (p : Numbered) → p.indicator ≡ indicator → p.order ≡ order
+        → IsIndexedIn indexes.new.entries number (row.now ++ p ∷ [])) }
+    ensures others { KeepsOthers indexes.old.entries indexes.new.entries number }
+{
+    let order = next_order(row)?;
+    make_index(alloc, row, indexes, number)?;
+    note_order(row, indexes, number, indicator, order)?;
+    Ok(order)
+}
