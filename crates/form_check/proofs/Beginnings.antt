@@ -12,8 +12,10 @@ use Rattle.lisp_reading.specs.Deciding.{decided_from}
 use Rattle.form_reader.specs.declared.reader.FormReader.{FormReader}
 use Rattle.form_reader.specs.declared.reader.Advance.{Advance}
 use Rattle.form_reader.specs.declared.reader.Advance.TheVariants.{More as AdvanceMore, Form as AdvanceForm, Refused as AdvanceRefused}
-use Rattle.form_reader.specs.Reader.{begun, Feeds, HasBegun, IsAfter, Steps, StepsBegun}
-use Rattle.form_check.specs.Checking.{IsBeginning}
+use Rattle.form_reader.specs.declared.reader.ReadOutcome.{ReadOutcome}
+use Rattle.form_reader.specs.declared.reader.ReadOutcome.TheVariants as outcomes
+use Rattle.form_reader.specs.Reader.{begun, Feeds, HasBegun, IsAfter, IsOutcome, RefusesFrom, Steps, StepsBegun}
+use Rattle.form_check.specs.Checking.{IsBeginning, ending}
 use Rattle.form_check.specs.declared.begin.Beginning.TheVariants as begins
 
 -- a form has no more bytes than the text
@@ -58,3 +60,18 @@ whole_begun setting new text count step has is all =
     let began : StepsBegun setting new (take count text) AdvanceMore = subst (StepsBegun setting new (take count text)) is has in
     let same : take count text ≡ text = ap (λ n. take n text) all ∙ take-length text in
     subst (HasBegun setting new) same began
+
+-- at the end of the text
+pub ends : (setting : Setting) (text : List ℕ) (outcome : ReadOutcome) (start : ℕ) → IsOutcome outcome (reads setting text) → RefusesFrom setting text start outcome
+    → start ≤ length text → FormsFit → RefusalsFit → IsBeginning setting text (ending outcome start)
+ends setting text outcomes.Empty start is from far forms refusals = is
+ends setting text (outcomes.Form datum first «end» next) start is from far forms refusals =
+    (object_of datum, first, «end», is.0, forms setting text (object_of datum) first «end» next is.0)
+ends setting text (outcomes.Refused number at) start is from far forms refusals = (is, from, far, refusals setting text number at is)
+
+pub began_within : (setting : Setting) (reader : FormReader) (text : List ℕ) (start : ℕ) → start ≡ begun reader → HasBegun setting reader text → start ≤ length text
+began_within setting reader text start same has = subst (λ (n : ℕ). n ≤ length text) (sym same) has.begins.within
+
+pub refused_from : (setting : Setting) (text : List ℕ) (outcome : ReadOutcome) (first start : ℕ) → start ≡ first → RefusesFrom setting text first outcome
+    → RefusesFrom setting text start outcome
+refused_from setting text outcome first start same from = subst (λ (n : ℕ). RefusesFrom setting text n outcome) (sym same) from

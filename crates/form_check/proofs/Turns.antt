@@ -1,6 +1,6 @@
 -- Form after form of a text.
-use Rattle.std.proofs.Common.{◌≡◌, ℕ, zero, suc, ◌+◌, ◌-◌, ◌≤◌, ◌<◌, List, [], ◌∷◌, ◌++◌, length, drop, refl, sym, ap, subst, ◌∙◌, append_assoc, arith, add-one}
-use Rattle.std.proofs.lemmas.List.{append-nil}
+use Rattle.std.proofs.Common.{◌≡◌, ℕ, zero, suc, ◌+◌, ◌-◌, ◌≤◌, ◌<◌, List, [], ◌∷◌, ◌++◌, length, take, drop, length-drop, refl, sym, ap, subst, ◌∙◌, append_assoc, arith, add-one}
+use Rattle.std.proofs.lemmas.List.{append-nil, take_all}
 use Rattle.lisp_object.specs.Object.{Object}
 use Rattle.lisp_reading.specs.Setting.{Setting}
 use Rattle.lisp_reading.specs.Reading.{Outcome, form, empty, refused, reads}
@@ -71,3 +71,18 @@ at_last setting forms whole text before all far so_far =
     let is : left whole forms ≡ 0 = omega (arith, far) in
     ap (λ z. (forms, z)) (sym (append-nil before))
     ∙ sym (ap (after_found before) (ap (λ k. checked_in setting k forms whole text) is ∙ none_left setting forms whole text)) ∙ so_far
+
+-- what is left of a text behind so many bytes
+pub behind : (rest : List ℕ) (n : ℕ) → take (length rest - n) (drop n rest) ≡ drop n rest
+behind rest n = take_all (length rest - n) (drop n rest) (rw (length-drop n rest) (omega arith))
+
+pub within_rest : (rest now text : List ℕ) (n : ℕ) → now ≡ drop n rest → length rest ≤ length text → length now ≤ length text
+within_rest rest now text n is within =
+    let size : length (drop n rest) ≡ length rest - n = length-drop n rest in
+    subst (λ (t : List ℕ). length t ≤ length text) (sym is) (omega (arith, size, within))
+
+pub within_line : (rest now given text : List ℕ) (n : ℕ) → now ≡ given → length given ≤ length (take (length rest - n) (drop n rest)) → length rest ≤ length text
+    → length now ≤ length text
+within_line rest now given text n is more within =
+    let size : length (take (length rest - n) (drop n rest)) ≡ length rest - n = ap length (behind rest n) ∙ length-drop n rest in
+    subst (λ (t : List ℕ). length t ≤ length text) (sym is) (omega (arith, size, more, within))

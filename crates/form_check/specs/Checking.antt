@@ -8,6 +8,8 @@ use Rattle.lisp_reading.specs.declared.limits.Limits.{Limits}
 use Rattle.lisp_reading.specs.Setting.{Setting, setting_of}
 use Rattle.lisp_reading.specs.Reading.{Outcome, form, empty, refused, reads}
 use Rattle.lisp_reading.specs.Deciding.{decided_from}
+use Rattle.form_reader.specs.declared.reader.ReadOutcome.{ReadOutcome}
+use Rattle.form_reader.specs.declared.reader.ReadOutcome.TheVariants as outcomes
 use Rattle.form_check.specs.declared.begin.Beginning.{Beginning}
 use Rattle.form_check.specs.declared.begin.Beginning.TheVariants as begins
 use Rattle.form_check.specs.declared.checking.Unreadable.{Unreadable}
@@ -57,3 +59,9 @@ IsBeginning setting text (begins.Form next) =
     (x : Object) × (start : ℕ) × («end» : ℕ) × (reads setting text ≡ form x start «end» next) × (next ≤ length text)
 IsBeginning setting text (begins.Refused number start at) =
     (reads setting text ≡ refused number at) × (decided_from setting text ≡ start) × (start ≤ length text) × (at ≤ length text)
+
+-- what a text begins with that came to this at its end, where what is open began there
+abbrev pub ending : ReadOutcome → ℕ → Beginning
+ending outcomes.Empty start = begins.Nothing
+ending (outcomes.Form datum from «end» next) start = begins.Form next
+ending (outcomes.Refused number at) start = begins.Refused number start at

@@ -2,7 +2,7 @@
 ghost use Rattle.std.specs.Prelude.{◌≡◌, ◌≤◌, ◌^◌, ℕ, List, IfOk};
 ghost use Rattle.package_table.specs.Table.{IsPackage};
 ghost use Rattle.lisp_reading.specs.Setting.{setting_of};
-ghost use Rattle.form_check.specs.Checking.{IsBeginning, setting_under};
+ghost use Rattle.form_check.specs.Checking.{IsBeginning, ending, setting_under};
 ghost use Rattle.form_reader.specs.Reader.{IsAfter, HasBegun, fed, limits_of};
 
 use form_reader::{
@@ -102,13 +102,21 @@ fn finished<M: MacroFunctions>(
         packages,
         current,
     } = *under;
-    match reader.finish(readtable, base, packages, current, macros)? {
-        ReadOutcome::Empty => Ok(Beginning::Nothing),
-        ReadOutcome::Form { next, .. } => Ok(Beginning::Form(next)),
-        ReadOutcome::Refused { code, at } => Ok(Beginning::Refused {
-            number: code,
+    let outcome = reader.finish(readtable, base, packages, current, macros)?;
+    Ok(ended(&outcome, start))
+}
+
+// What a text begins with that came to this, where what is open began there.
+fn ended(outcome: &ReadOutcome, start: usize) -> Beginning
+    ensures { result ≡ ending outcome.now start }
+{
+    match outcome {
+        ReadOutcome::Empty => Beginning::Nothing,
+        ReadOutcome::Form { next, .. } => Beginning::Form(*next),
+        ReadOutcome::Refused { code, at } => Beginning::Refused {
+            number: *code,
             start,
-            at,
-        }),
+            at: *at,
+        },
     }
 }
