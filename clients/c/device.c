@@ -247,10 +247,16 @@ bool device_sync(const struct device *device, int half, pazturrok_fault *fault) 
     return sync_file(device->files[half]) || failed(fault);
 }
 
-void device_close(struct device *device) {
+void device_leave(struct device *device) {
     for (int half = 0; half < 2; half++) {
         int file = device->files[half];
         device->files[half] = -1;
         if (file >= 0) (void)close(file);
     }
+}
+
+void device_close(struct device *device) {
+    for (int half = 0; half < 2; half++)
+        if (device->files[half] >= 0) (void)flock(device->files[half], LOCK_UN);
+    device_leave(device);
 }

@@ -25,8 +25,11 @@ bool device_write(const struct device *device, int half, const uint8_t *bytes, s
 bool device_cut(const struct device *device, int half, uint64_t length, pazturrok_fault *fault);
 bool device_sync(const struct device *device, int half, pazturrok_fault *fault);
 
-/* Closes the files, by which the lock is let go. It makes no other call of the system. */
+/* Lets the lock go, whoever else has the files by a fork, and closes them. */
 void device_close(struct device *device);
+
+/* Closes the files in a child: the lock stays with the parent. It makes no other call of the system. */
+void device_leave(struct device *device);
 
 /* Fills a fault with a number and a sentence, or with the last error of the system. */
 void set_fault(pazturrok_fault *fault, int number, const char *cause);

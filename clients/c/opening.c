@@ -81,10 +81,11 @@ int pazturrok_open(const char *folder, int flags, pazturrok_store *store, paztur
     if (store) *store = 0;
     if (!store || !folder || (flags & ~PAZTURROK_EXISTING)) {
         set_fault(&own, PAZTURROK_MISUSE, "no folder, no place for the store, or an unknown flag");
+    } else if (!begin_alone(&cancel_state)) {
+        set_fault(&own, PAZTURROK_REOPEN, "this thread is in another call");
     } else {
-        (void)pthread_setcancelstate(PTHREAD_CANCEL_DISABLE, &cancel_state);
         *store = opened(folder, flags, &own);
-        (void)pthread_setcancelstate(cancel_state, NULL);
+        end_alone(cancel_state);
     }
     if (fault) *fault = own;
     return own.number;

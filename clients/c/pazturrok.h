@@ -3,8 +3,8 @@
    A form is a text, as (SETF (GET 'APPLE 'PRICE) 7); its answer is the printed text of its value. When a call has answered 0 to
    a form that writes, the form is on the disk. A call that answers another number has changed nothing, but for 60.
 
-   - Which thread: each call may come from any thread. Calls on one store wait for one another. A call from a signal handler that
-     has interrupted a call on the same store is refused with 61, and none is allowed there.
+   - Which thread: each call may come from any thread. Calls on one store wait for one another. None may come from a signal
+     handler; one that has interrupted a call is refused with 61.
    - A fork: the child has no store. Each call there is 61, and the parent goes on.
    - Who owns what: what is handed over stays the caller's, and nothing of it is kept after the call. Answers belong to the
      store, and last until the next call on it; so threads that share a store look at an answer under a lock of their own.
@@ -12,7 +12,8 @@
 
    Numbers: 0; 1 to 26 the text cannot be read as one form; 30 to 46 the form is refused; 60 the device failed, and the store has
    to be closed and opened again; 61 there is no store, or it has failed before; 62, 63, 65, 66 what stands in the files is
-   refused; 64 the files are full; 67 the system gave no random bytes; 90 no memory. docs/use/refusals.md tells them all. */
+   refused; 64 the file in use is full: take a snapshot, and execute the form again; 67 the system gave no random bytes; 90 no
+   memory. docs/use/refusals.md tells them all. */
 #ifndef PAZTURROK_H
 #define PAZTURROK_H
 #include <stddef.h>
@@ -73,9 +74,9 @@ int pazturrok_open(const char *folder, int flags, pazturrok_store *store, paztur
 int pazturrok_execute(pazturrok_store store, int mode, const char *text, size_t length, const char **answer,
                       size_t *answer_length);
 
-/* Executes many forms, one after the other, whether one is refused or not. Those that write get to the disk together: a stop
-   of the process leaves all of them or none. Fills an outcome for each, whose answer belongs to the store as that of
-   pazturrok_execute. If the number is not 0, there are no outcomes, and no form was executed, but after 60. */
+/* Executes many forms, one after the other, whether one is refused or not. Fills an outcome for each, whose answer belongs to
+   the store as that of pazturrok_execute. If the number is not 0, there are no outcomes, and no form was executed; but after 60
+   the first ones may be on the disk. */
 int pazturrok_execute_all(pazturrok_store store, int mode, const char *const *texts, const size_t *lengths, size_t count,
                           pazturrok_outcome *outcomes);
 

@@ -1,6 +1,7 @@
 #define _POSIX_C_SOURCE 200809L
 #define _DEFAULT_SOURCE
 #include "stores.h"
+#include <signal.h>
 #include <stdlib.h>
 #include <string.h>
 
@@ -13,6 +14,8 @@ static bool has_locks = true;
 /* Held while files are opened or closed, and over a fork: so a child knows each file that it has to close. */
 static pthread_mutex_t files_lock = PTHREAD_MUTEX_INITIALIZER;
 static atomic_uint_fast64_t ids_given;
+/* Whether this thread is in a call: a signal handler that calls within one is refused, and does not wait for itself. */
+static _Thread_local volatile sig_atomic_t is_in_call;
 
 /* Forks */
 
@@ -20,28 +23,17 @@ static void before_fork(void) { (void)pthread_mutex_lock(&files_lock); }
 
 static void after_fork(void) { (void)pthread_mutex_unlock(&files_lock); }
 
-/* A mutex that a thread cannot take twice: a call within a call of its own is refused, and does not wait for ever. */
-static int make_lock(pthread_mutex_t *lock) {
-    pthread_mutexattr_t kind;
-    int error = pthread_mutexattr_init(&kind);
-    if (error) return error;
-    error = pthread_mutexattr_settype(&kind, PTHREAD_MUTEX_ERRORCHECK);
-    if (!error) error = pthread_mutex_init(lock, &kind);
-    (void)pthread_mutexattr_destroy(&kind);
-    return error;
-}
-
 /* The child has no store: it closes the files, so that the lock is the parent's alone, and leaves the memory as it is. */
 static void in_child(void) {
     for (size_t place = 0; place < STORE_COUNT; place++) {
         struct store *store = &stores[place];
         if (!atomic_load(&store->is_taken)) continue;
-        device_close(&store->device);
+        device_leave(&store->device);
         atomic_store(&store->id, 0);
         store->answer = NULL;
         store->capacity = 0;
         memset(&store->engine, 0, sizeof store->engine);
-        (void)make_lock(&store->lock);
+        (void)pthread_mutex_init(&store->lock, NULL);
         atomic_store(&store->is_taken, false);
     }
     after_fork();
@@ -50,32 +42,39 @@ static void in_child(void) {
 static void begin(void) {
     for (size_t place = 0; place < STORE_COUNT; place++) {
         stores[place].device = NO_DEVICE;
-        if (make_lock(&stores[place].lock)) has_locks = false;
+        if (pthread_mutex_init(&stores[place].lock, NULL)) has_locks = false;
     }
     if (pthread_atfork(before_fork, after_fork, in_child)) has_locks = false;
 }
 
 /* Calls */
 
-static struct call no_call(int cancel_state) {
+bool begin_alone(int *cancel_state) {
+    if (is_in_call) return false;
+    is_in_call = 1;
+    (void)pthread_setcancelstate(PTHREAD_CANCEL_DISABLE, cancel_state);
+    return true;
+}
+
+void end_alone(int cancel_state) {
+    is_in_call = 0;
     (void)pthread_setcancelstate(cancel_state, NULL);
-    return (struct call){NULL, cancel_state};
 }
 
 struct call enter(pazturrok_store id) {
     struct store *store = &stores[id % STORE_COUNT];
-    int cancel_state;
-    if (id == 0 || atomic_load(&store->id) != id) return (struct call){NULL, 0};
-    (void)pthread_setcancelstate(PTHREAD_CANCEL_DISABLE, &cancel_state);
-    if (pthread_mutex_lock(&store->lock) != 0) return no_call(cancel_state);
-    if (atomic_load(&store->id) == id) return (struct call){store, cancel_state};
+    struct call none = {NULL, 0}, call = {store, 0};
+    if (id == 0 || atomic_load(&store->id) != id || !begin_alone(&call.cancel_state)) return none;
+    (void)pthread_mutex_lock(&store->lock);
+    if (atomic_load(&store->id) == id) return call;
     (void)pthread_mutex_unlock(&store->lock);
-    return no_call(cancel_state);
+    end_alone(call.cancel_state);
+    return none;
 }
 
 int leave(struct call call, int number) {
     (void)pthread_mutex_unlock(&call.store->lock);
-    (void)pthread_setcancelstate(call.cancel_state, NULL);
+    end_alone(call.cancel_state);
     return number;
 }
 

@@ -27,6 +27,11 @@ struct call {
     int cancel_state;
 };
 
+/* Begins what no signal handler of this thread may call within, and in which the thread is not cancelled; or gives false, if
+   such a thing is under way. */
+bool begin_alone(int *cancel_state);
+void end_alone(int cancel_state);
+
 /* Locks an open store. There is no store of a number that was closed, and none within a call of this thread on it. */
 struct call enter(pazturrok_store id);
 /* Ends a call, and gives the number. */
