@@ -3,8 +3,9 @@
    A form is a text, as (SETF (GET 'APPLE 'PRICE) 7); its answer is the printed text of its value. When a call has answered 0 to
    a form that writes, the form is on the disk. A call that answers another number has changed nothing, but for 60.
 
-   - Which thread: each call may come from any thread. Calls on one store wait for one another. None may come from a signal
-     handler; one that has interrupted a call is refused with 61.
+   - Which thread: calls on one store wait for one another, so threads may share it. That is tried; what is proved speaks of a
+     store that stays on the thread that opened it. No call may come from a signal handler; one that has interrupted a call is
+     refused with 61.
    - A fork: the child has no store. Each call there is 61, and the parent goes on.
    - Who owns what: what is handed over stays the caller's, and nothing of it is kept after the call. Answers belong to the
      store, and last until the next call on it; so threads that share a store look at an answer under a lock of their own.
