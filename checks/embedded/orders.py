@@ -15,6 +15,10 @@ class Done(ctypes.Structure):
     _fields_ = (("number", ctypes.c_uint16), ("answer", SIZE), ("orders", SIZE))
 
 
+class Setting(ctypes.Structure):
+    _fields_ = (("limit", ctypes.c_uint64), ("seed_first", ctypes.c_uint64), ("seed_second", ctypes.c_uint64))
+
+
 def has_groups(library):
     """Whether the engine has a call for many forms."""
     return hasattr(library, "pzt_execute_all")
@@ -24,7 +28,7 @@ def load(path):
     """The exports of crates/pazturrok_c, in a shared library."""
     library = ctypes.CDLL(path)
     slot, done, text, word = ctypes.POINTER(Slot), ctypes.POINTER(Done), ctypes.c_char_p, ctypes.c_uint64
-    library.pzt_open.argtypes = [slot, text, SIZE, text, SIZE, word, word, word, done]
+    library.pzt_open.argtypes = [slot, text, SIZE, text, SIZE, ctypes.POINTER(Setting), done]
     library.pzt_execute.argtypes = [slot, ctypes.c_bool, text, SIZE, text, SIZE, done]
     if has_groups(library):
         library.pzt_execute_all.argtypes = [slot, ctypes.c_bool, text, SIZE, ctypes.POINTER(word), SIZE, done]
@@ -44,7 +48,7 @@ class Engine:
     def __init__(self, library, files):
         self.library, self.slot, self.done = library, Slot(), Done()
         first, second = bytes(files[0]), bytes(files[1])
-        library.pzt_open(self.slot, first, len(first), second, len(second), 1 << 30, 1, 2, self.done)
+        library.pzt_open(self.slot, first, len(first), second, len(second), Setting(1 << 30, 1, 2), self.done)
         self.number = self.done.number
 
     def execute(self, text):

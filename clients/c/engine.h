@@ -26,12 +26,19 @@ typedef struct {
     uint16_t version;
 } pzt_told;
 
+/* How many bytes a half may take, and the words by which names are hashed. */
+typedef struct {
+    uint64_t limit;
+    uint64_t seed_first;
+    uint64_t seed_second;
+} pzt_setting;
+
 /* An order: a kind, a half (0 or 1), a place and a length of eight bytes each, and the bytes of a write. */
 enum { ORDER_HEAD = 18, ORDER_WRITES = 1, ORDER_CUTS = 2, ORDER_SYNCS = 3 };
 
-/* Opens the store of two files that hold these bytes, whose halves may take `limit` bytes. */
-void pzt_open(pzt_slot *slot, const uint8_t *a, size_t a_length, const uint8_t *b, size_t b_length, uint64_t limit,
-              uint64_t seed_first, uint64_t seed_second, pzt_done *done);
+/* Opens the store of two files that hold these bytes, and of which a crash leaves just these. */
+void pzt_open(pzt_slot *slot, const uint8_t *a, size_t a_length, const uint8_t *b, size_t b_length, const pzt_setting *setting,
+              pzt_done *done);
 
 /* Executes a form. As much of its answer is copied as there is room for. */
 void pzt_execute(pzt_slot *slot, bool rescue, const uint8_t *text, size_t length, uint8_t *answer, size_t capacity,

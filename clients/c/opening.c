@@ -8,11 +8,15 @@
 
 #define HALF_LIMIT 1073741824u
 
-static bool draw(uint64_t seed[2], pazturrok_fault *fault) {
+/* Draws the words by which names are hashed: who does not know them cannot choose names that fall together. */
+static bool draw(pzt_setting *setting, pazturrok_fault *fault) {
+    uint64_t seed[2] = {0, 0};
     ssize_t drawn;
-    do drawn = getrandom(seed, 2 * sizeof seed[0], 0);
+    do drawn = getrandom(seed, sizeof seed, 0);
     while (drawn < 0 && errno == EINTR);
-    if (drawn == (ssize_t)(2 * sizeof seed[0])) return true;
+    setting->seed_first = seed[0];
+    setting->seed_second = seed[1];
+    if (drawn == (ssize_t)sizeof seed) return true;
     set_system_fault(fault, errno);
     fault->number = PAZTURROK_RANDOM;
     return false;
@@ -23,14 +27,14 @@ static bool is_half_in_use(const contents *file) { return file->length >= 2 && f
 
 /* Opens the engine over the bytes of both files, and tells how many bytes of orders it gave. */
 static bool open_engine(struct store *store, const contents both[2], int flags, size_t *orders, pazturrok_fault *fault) {
-    uint64_t seed[2];
+    pzt_setting setting = {HALF_LIMIT, 0, 0};
     pzt_done done = {0, 0, 0};
     if ((flags & PAZTURROK_EXISTING) && !is_half_in_use(&both[0]) && !is_half_in_use(&both[1])) {
         set_fault(fault, PAZTURROK_DEVICE, "there is no store in this folder");
         return false;
     }
-    if (!draw(seed, fault)) return false;
-    pzt_open(&store->engine, both[0].bytes, both[0].length, both[1].bytes, both[1].length, HALF_LIMIT, seed[0], seed[1], &done);
+    if (!draw(&setting, fault)) return false;
+    pzt_open(&store->engine, both[0].bytes, both[0].length, both[1].bytes, both[1].length, &setting, &done);
     *orders = done.orders;
     if (done.number == 0) return true;
     set_fault(fault, done.number, done.number == PAZTURROK_NO_MEMORY ? "out of memory" : "");
