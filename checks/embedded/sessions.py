@@ -32,7 +32,7 @@ def is_played(step):
     if b"no form of the input was answered" in b"".join(part for part in step.wanted if isinstance(part, bytes)):
         return False
     options = [word for word in step.words[2:] if not word.isdigit()]
-    return step.words[:1] == ["run"] and step.words[1:2] and step.words[1].startswith("DIR") and all(word in OWN for word in options)
+    return len(step.words) > 1 and step.words[0] == "run" and step.words[1].startswith("DIR") and all(word in OWN for word in options)
 
 
 def answered(module, step, player, folder):
