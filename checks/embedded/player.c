@@ -12,7 +12,7 @@
 #include <string.h>
 #include <unistd.h>
 
-enum { UNREAD = 1, MANY = 26, PIECE = 65536, LINES = 4096, UNSPLIT = 77, TRIED = 1 << 28 };
+enum { UNREAD = 1, MANY = 26, PIECE = 65536, LINES = 4096, UNSPLIT = 77, TRIED = 1 << 26 };
 
 static char input[1 << 23];
 static size_t have;
