@@ -125,7 +125,7 @@ def lengths(folder):
     """Files that are missing, or longer than what they hold."""
     folder.anew()
     os.unlink(folder.a)
-    # as in a new folder: the model of a crash allows it (docs/operating.md)
+    # as in a new folder: the model of a crash allows it (docs/run/operating.md)
     yield "half A is missing, and half B is empty", folder.run(text=GET), Answer(0, b"NIL\n", b""), b"NIL\n"
     folder.anew()
     folder.run(options=["--snapshot-every", "1"])
@@ -137,7 +137,7 @@ def lengths(folder):
     want(os.path.getsize(folder.b) < 1000, "half B was not cut")
     folder.anew()
     os.truncate(folder.a, 1 << 40)
-    # what comes after the records is not read (docs/operating.md)
+    # what comes after the records is not read (docs/run/operating.md)
     yield "half A is in use, and goes on past its records", folder.run(), SERVED, b"8\n"
     folder.anew()
     with open(folder.b, "wb") as file:

@@ -1,7 +1,7 @@
 ;;;; Answers: first where the text of one ends, then the object that it is the text of.
 ;;;;
 ;;;; READ is not used: it interns what it reads, and evaluates #. of it. The printed text of a store is
-;;;; canonical and its grammar short (docs/protocol.md), and a text that is not of it is an error here.
+;;;; canonical and its grammar short (docs/run/protocol.md), and a text that is not of it is an error here.
 
 (in-package "PAZTURROK-CLIENT")
 

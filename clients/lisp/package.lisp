@@ -1,5 +1,5 @@
 ;;;; A client of Pazturrok: it starts the program over a folder, sends it forms, and reads the answers.
-;;;; docs/protocol.md says how it is used, and what goes to and fro.
+;;;; docs/run/protocol.md says how it is used, and what goes to and fro.
 
 (defpackage "PAZTURROK-CLIENT"
   (:use "COMMON-LISP")

@@ -3,7 +3,7 @@
     with Store("store") as store:
         store.execute("(SETF (GET 'APPLE 'PRICE) 7)")
 
-docs/protocol.md of the repository says how it is used, and what goes to and fro.
+docs/run/protocol.md of the repository says how it is used, and what goes to and fro.
 """
 
 from .errors import (
