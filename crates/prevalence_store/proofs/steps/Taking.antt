@@ -1,5 +1,5 @@
 -- What became of a form, of texts and of the forms of a group, by what logging their records did to the store.
-use Rattle.std.proofs.Common.{◌≡◌, ℕ, ◌+◌, ◌<◌, ◌≤◌, Bool, true, false, List, [], ◌∷◌, ◌++◌, length, map, Some, Ok, Err, Bor, refl, sym, ap, subst, ◌∙◌, arith}
+use Rattle.std.proofs.Common.{◌≡◌, ℕ, ◌+◌, ◌<◌, Bool, true, false, List, [], ◌∷◌, ◌++◌, length, map, Some, Result, Ok, Err, IfOk, OnOk, OnErr, Bor, refl, sym, ap, subst, ◌∙◌, arith}
 use Rattle.std.specs.Global.{Vec}
 use Rattle.std.specs.List.{AllByRecursion, flat_map}
 use Rattle.disk_trait.specs.Disk.{State, IsHonest, IsSound}
@@ -24,7 +24,7 @@ use Rattle.prevalence_store.specs.calls.ExecuteAll.{LogsAll, Turns, in_turn, tol
 use Rattle.prevalence_store.specs.calls.Store.{StoreView}
 use Rattle.prevalence_store.specs.steps.Batch.{IsNotAdded, StoresBatch, TakesBatch, TakesForm, entries_in, entries_of_texts}
 use Rattle.prevalence_store.specs.steps.Failure.{IsCause, is_device}
-use Rattle.prevalence_store.specs.steps.Gather.{IsGathered, TakesGroup}
+use Rattle.prevalence_store.specs.steps.Gather.{IsCounted, IsGathered, TakesGroup}
 use Rattle.prevalence_store.specs.steps.Group.{TakesAll}
 use Rattle.prevalence_store.proofs.steps.Counting.{room_is}
 use Rattle.prevalence_store.proofs.steps.Grouping.{of_value}
@@ -38,6 +38,20 @@ one_size mode text = let none : 0 + (6 + length text) ≡ 6 + length text = omeg
 -- a form that was added to a batch of none
 pub alone : (mode : Mode) (begun new : Batch) (taken : List LogRecord) → begun.texts.items ≡ [] → entries_in mode new ≡ entries_in mode begun ++ taken → entries_in mode new ≡ taken
 alone mode begun new taken none is = is ∙ ap (λ (ts : List (Vec ℕ)). entries_of_texts mode ts ++ taken) none
+
+-- what follows of a result
+pub ok_on : {T E : Type 0} (result : Result T E) {P Q : Type 0} → (P → Q) → OnOk result P → OnOk result Q
+ok_on (Ok value) f is = f is
+ok_on (Err error) f is = tt
+
+pub err_on : {T E : Type 0} (result : Result T E) {P Q : Type 0} → (P → Q) → OnErr result P → OnErr result Q
+err_on (Ok value) f is = tt
+err_on (Err error) f is = f is
+
+-- forms that were given back
+pub counted_again : (next many most : ℕ) (gathered : Gathered) (result : Result Gathered Failure) → IfOk result (λ given. given ≡ gathered) → IsCounted next many most gathered → IfOk result (IsCounted next many most)
+counted_again next many most gathered (Ok given) same counts = subst (IsCounted next many most) (sym same) counts
+counted_again next many most gathered (Err failure) same counts = tt
 
 -- the cause of a form that was not added, in words of the store
 pub cause_not_added : (given : Evaluation Object) (size limit n : ℕ) (failure : Failure) → IsNotAdded given failure → IsCause given size limit n failure
@@ -184,6 +198,12 @@ module _ (functions : Functions) where
               all_or_none = stopped.all_or_none;
             };
       }
+
+      -- it was given back if it was logged
+      pub group_taken : (gathered : Gathered) (is : IsGathered functions wanted w text v gathered) → 0 < gathered.forms → (result : Result Gathered Failure) → IfOk result (λ given. given ≡ gathered)
+          → TakesBatch functions state old new w is.far.world is.far.taken result → TakesGroup functions wanted state old new w text result
+      group_taken gathered is some (Ok given) same took = subst (λ (x : Gathered). TakesGroup functions wanted state old new w text (Ok x)) (sym same) (group_stored gathered is took.stored)
+      group_taken gathered is some (Err failure) same took = group_left gathered is some failure took
 
       pub group_untouched : (failure : Failure) → is_device failure ≡ false → new ≡ old → TakesGroup functions wanted state old new w text (Err failure)
       group_untouched failure calm same = record { together = tt; unchanged = λ _. same; stopped = λ device. absurd (cc) }

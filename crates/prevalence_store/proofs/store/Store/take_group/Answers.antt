@@ -1,4 +1,4 @@
-use Rattle.std.proofs.Common.{rules, ◌≡◌, List, ℕ, [], false, drop, Some, Ok, Err, refl, sym, ap, subst, ◌∙◌}
+use Rattle.std.proofs.Common.{rules, ◌≡◌, List, ℕ, [], false, drop, length, refl, sym, ap, subst, ◌∙◌}
 use Rattle.std.specs.List.{AllByRecursion}
 use Rattle.disk_trait.specs.Disk.{IsHonest}
 use Rattle.gate_log.specs.Layout.{IsLogRecord, LogRecord}
@@ -12,7 +12,7 @@ use Rattle.prevalence_store.specs.Theorem.{Keeps}
 use Rattle.prevalence_store.proofs.calls.Executing.{not_failed, world_inside, world_told}
 use Rattle.prevalence_store.proofs.steps.Grouping.{first_marked, some_marks}
 use Rattle.prevalence_store.proofs.steps.Pendings.{may_evaluate}
-use Rattle.prevalence_store.proofs.steps.Taking.{group_left, group_stored, group_untouched}
+use Rattle.prevalence_store.proofs.steps.Taking.{counted_again, err_on, group_taken, group_untouched, ok_on}
 use Rattle.prevalence_store.proofs.steps.Together.{stays_open, store_takes}
 use Rattle.prevalence_store.proofs.store.Store.take_group.Goals as goal
 
@@ -34,13 +34,13 @@ gather-requires-clause-form g c =
     (may_evaluate g.R.Meaning.Meaning.functions w c.args.wanted.mode read c.args.first.now.own.items c.requires.form.proper c.requires.form.sound (c.requires.form.all_there w here) (c.requires.form.begins w here)
     c.soundness.ensures.present)
 
-pub log-requires-clause-marked : goal.log-requires-clause-marked
-log-requires-clause-marked g c =
+pub log_gathered-requires-clause-marked : goal.log_gathered-requires-clause-marked
+log_gathered-requires-clause-marked g c =
     let inside = c.self.inside in
     (inside.world.0, c.in-Ok-gather.ensures.marks inside.world.0 (first_marked inside.world c.begin.new.world c.self.invariant.0 c.in-Ok.ensures.marked))
 
-pub log-requires-clause-fit : goal.log-requires-clause-fit
-log-requires-clause-fit g c =
+pub log_gathered-requires-clause-fit : goal.log_gathered-requires-clause-fit
+log_gathered-requires-clause-fit g c =
     let functions = g.R.Meaning.Meaning.functions in
     let state = g.D.Disk.state in
     let inside = c.self.inside in
@@ -52,13 +52,13 @@ log-requires-clause-fit g c =
     let is = gathers b.0 b.1.0 b.1.1 in
     subst (λ (es : List LogRecord). AllByRecursion IsLogRecord es) (sym is.taken) is.fit
 
-pub log-requires-clause-open : goal.log-requires-clause-open
-log-requires-clause-open g c =
+pub log_gathered-requires-clause-open : goal.log_gathered-requires-clause-open
+log_gathered-requires-clause-open g c =
     let inside = c.self.inside in
     not_failed inside.log.failed inside.log.halves inside.world.0 inside.macros c.args.self.now c.self.view_is c.requires.form.is_open
 
-pub log-requires-clause-ready : goal.log-requires-clause-ready
-log-requires-clause-ready g c =
+pub log_gathered-requires-clause-ready : goal.log_gathered-requires-clause-ready
+log_gathered-requires-clause-ready g c =
     let inside = c.self.inside in
     c.self.invariant.1 (not_failed inside.log.failed inside.log.halves inside.world.0 inside.macros c.args.self.now c.self.view_is c.requires.form.is_open)
 
@@ -67,94 +67,63 @@ back_to-requires g c =
     let inside = c.self.inside in
     some_marks inside.world.0 c.gather.new.world.1 (c.in-Err.ensures.marks inside.world.0 (first_marked inside.world c.begin.new.world c.self.invariant.0 c.in-Ok.ensures.marked))
 
--- ---- they were logged together
-
-pub returns-in-Ok-log-clause-takes : goal.returns-in-Ok-log-clause-takes
-returns-in-Ok-log-clause-takes g c = λ u known text begins rest.
-    let functions = g.R.Meaning.Meaning.functions in
-    let state = g.D.Disk.state in
-    let inside = c.self.inside in
-    let w = inside.world.0 in
-    let now = c.args.self.now in
-    let new = c.log.new in
-    let gathered = c.in-Ok-gather.gathered in
-    let here = world_told inside.log.failed inside.log.halves w inside.macros c.args.self.now c.self.view_is c.requires.form.is_open in
-    let gathers = subst (λ (s : Worlds). (text : List ℕ) → BeginsWhole functions s.0 c.args.wanted.mode text (object_of c.args.first.now.read.datum) c.args.first.now.own.items c.args.first.now.next
-    → drop c.args.first.now.next text ≡ c.args.rest.now → IsGathered functions c.args.wanted s.0 text c.gather.new.world.0 c.in-Ok-gather.gathered) c.in-Ok.ensures.marked c.in-Ok-gather.ensures.gathers in
-    let same = world_inside inside.log.failed inside.log.halves w u inside.macros now c.self.view_is known in
-    let is = gathers text (subst (λ (a : WorldState). BeginsWhole functions a c.args.wanted.mode text (object_of c.args.first.now.read.datum) c.args.first.now.own.items c.args.first.now.next) (sym same) begins) rest in
-    let left = store_view_of new.log.failed new.log.halves new.world.0 inside.macros in
-    let logs = subst (λ (es : List LogRecord). LogsTogether state inside.log.halves new.log.halves es (Ok tt)) is.taken c.in-Ok-log.ensures.logs in
-    subst (λ (a : WorldState). TakesGroup functions c.args.wanted state now left a text (Ok gathered)) same
-    (group_stored functions state g.met.D.Disk.sound now left c.args.wanted w c.gather.new.world.0 text gathered is
-    (store_takes functions state g.met.D.Disk.sound inside.log.halves new.log.halves w new.world.0 inside.macros is.far.taken is.far.world is.again
-    inside.log.failed new.log.failed now c.self.view_is w here c.self.invariant.1 (Ok tt) logs (c.in-Ok-log.ensures.stays ∙ is.left) tt c.in-Ok-log.ensures.failed).stored)
-
-pub invariant_of-self-in-Ok-log : goal.invariant_of-self-in-Ok-log
-invariant_of-self-in-Ok-log g c =
-    let functions = g.R.Meaning.Meaning.functions in
-    let state = g.D.Disk.state in
-    let inside = c.self.inside in
-    let w = inside.world.0 in
-    let new = c.log.new in
-    let here = world_told inside.log.failed inside.log.halves w inside.macros c.args.self.now c.self.view_is c.requires.form.is_open in
-    let gathers = subst (λ (s : Worlds). (text : List ℕ) → BeginsWhole functions s.0 c.args.wanted.mode text (object_of c.args.first.now.read.datum) c.args.first.now.own.items c.args.first.now.next
-    → drop c.args.first.now.next text ≡ c.args.rest.now → IsGathered functions c.args.wanted s.0 text c.gather.new.world.0 c.in-Ok-gather.gathered) c.in-Ok.ensures.marked c.in-Ok-gather.ensures.gathers in
-    let b = c.requires.begins w here in
-    let is = gathers b.0 b.1.0 b.1.1 in
-    let logs = subst (λ (es : List LogRecord). LogsTogether state inside.log.halves new.log.halves es (Ok tt)) is.taken c.in-Ok-log.ensures.logs in
-    let still = stays_open functions state g.met.D.Disk.sound inside.log.failed new.log.failed inside.log.halves new.log.halves w new.world.0 is.far.world inside.macros
-    (not_failed inside.log.failed inside.log.halves w inside.macros c.args.self.now c.self.view_is c.requires.form.is_open) c.self.invariant.1 c.self.invariant.2 c.log.ensures.in_use
-    is.far.taken is.again (Ok tt) logs (c.in-Ok-log.ensures.stays ∙ is.left) tt c.in-Ok-log.ensures.failed in
-    (c.log.ensures.settled, still.0, still.1)
-
--- ---- they were not
+-- ---- they were logged together, or the device failed, or there was no room
 
 pub returns-in-Ok-gather-clause-takes : goal.returns-in-Ok-gather-clause-takes
 returns-in-Ok-gather-clause-takes g c = λ u known text begins rest.
     let functions = g.R.Meaning.Meaning.functions in
     let state = g.D.Disk.state in
     let inside = c.self.inside in
-    let w = inside.world.0 in
     let now = c.args.self.now in
-    let new = c.log.new in
+    let w = inside.world.0 in
+    let new = c.log_gathered.new in
+    let did = c.log_gathered.ensures in
+    let result = c.log_gathered.result in
     let gathered = c.in-Ok-gather.gathered in
-    let here = world_told inside.log.failed inside.log.halves w inside.macros c.args.self.now c.self.view_is c.requires.form.is_open in
+    let here = world_told inside.log.failed inside.log.halves w inside.macros now c.self.view_is c.requires.form.is_open in
+    let marked = c.in-Ok-gather.ensures.marks w (first_marked inside.world c.begin.new.world c.self.invariant.0 c.in-Ok.ensures.marked) in
     let gathers = subst (λ (s : Worlds). (text : List ℕ) → BeginsWhole functions s.0 c.args.wanted.mode text (object_of c.args.first.now.read.datum) c.args.first.now.own.items c.args.first.now.next
     → drop c.args.first.now.next text ≡ c.args.rest.now → IsGathered functions c.args.wanted s.0 text c.gather.new.world.0 c.in-Ok-gather.gathered) c.in-Ok.ensures.marked c.in-Ok-gather.ensures.gathers in
     let same = world_inside inside.log.failed inside.log.halves w u inside.macros now c.self.view_is known in
     let is = gathers text (subst (λ (a : WorldState). BeginsWhole functions a c.args.wanted.mode text (object_of c.args.first.now.read.datum) c.args.first.now.own.items c.args.first.now.next) (sym same) begins) rest in
     let left = store_view_of new.log.failed new.log.halves new.world.0 inside.macros in
-    let marked = c.in-Ok-gather.ensures.marks w (first_marked inside.world c.begin.new.world c.self.invariant.0 c.in-Ok.ensures.marked) in
-    let logs = subst (λ (es : List LogRecord). LogsTogether state inside.log.halves new.log.halves es (Err c.in-Err-log.failure)) is.taken c.in-Err-log.ensures.logs in
-    subst (λ (a : WorldState). TakesGroup functions c.args.wanted state now left a text (Err c.in-Err-log.failure)) same
-    (group_left functions state g.met.D.Disk.sound now left c.args.wanted w c.gather.new.world.0 text gathered is c.in-Ok-gather.ensures.counts.some c.in-Err-log.failure
+    let logs = subst (λ (es : List LogRecord). LogsTogether state inside.log.halves new.log.halves es result) is.taken did.logs in
+    subst (λ (a : WorldState). TakesGroup functions c.args.wanted state now left a text result) same
+    (group_taken functions state g.met.D.Disk.sound now left c.args.wanted w c.gather.new.world.0 text gathered is c.in-Ok-gather.ensures.counts.some result did.same
     (store_takes functions state g.met.D.Disk.sound inside.log.halves new.log.halves w new.world.0 inside.macros is.far.taken is.far.world is.again
-    inside.log.failed new.log.failed now c.self.view_is w here c.self.invariant.1 (Err c.in-Err-log.failure) logs tt (c.in-Err-log.ensures.goes_back w marked) c.in-Err-log.ensures.failed))
+    inside.log.failed new.log.failed now c.self.view_is w here c.self.invariant.1 result logs (ok_on result (λ stays. stays ∙ is.left) did.stays) (err_on result (λ back. back w marked) did.goes_back) did.failed))
+
+pub returns-in-Ok-gather-clause-counts : goal.returns-in-Ok-gather-clause-counts
+returns-in-Ok-gather-clause-counts g c =
+    counted_again c.args.first.now.next (length c.args.rest.now) c.args.most c.in-Ok-gather.gathered c.log_gathered.result c.log_gathered.ensures.same c.in-Ok-gather.ensures.counts
 
 pub invariant_of-self-in-Ok-gather : goal.invariant_of-self-in-Ok-gather
 invariant_of-self-in-Ok-gather g c =
     let functions = g.R.Meaning.Meaning.functions in
     let state = g.D.Disk.state in
     let inside = c.self.inside in
+    let now = c.args.self.now in
     let w = inside.world.0 in
-    let new = c.log.new in
-    let here = world_told inside.log.failed inside.log.halves w inside.macros c.args.self.now c.self.view_is c.requires.form.is_open in
+    let new = c.log_gathered.new in
+    let did = c.log_gathered.ensures in
+    let result = c.log_gathered.result in
+    let gathered = c.in-Ok-gather.gathered in
+    let here = world_told inside.log.failed inside.log.halves w inside.macros now c.self.view_is c.requires.form.is_open in
+    let marked = c.in-Ok-gather.ensures.marks w (first_marked inside.world c.begin.new.world c.self.invariant.0 c.in-Ok.ensures.marked) in
     let gathers = subst (λ (s : Worlds). (text : List ℕ) → BeginsWhole functions s.0 c.args.wanted.mode text (object_of c.args.first.now.read.datum) c.args.first.now.own.items c.args.first.now.next
     → drop c.args.first.now.next text ≡ c.args.rest.now → IsGathered functions c.args.wanted s.0 text c.gather.new.world.0 c.in-Ok-gather.gathered) c.in-Ok.ensures.marked c.in-Ok-gather.ensures.gathers in
     let b = c.requires.begins w here in
     let is = gathers b.0 b.1.0 b.1.1 in
-    let marked = c.in-Ok-gather.ensures.marks w (first_marked inside.world c.begin.new.world c.self.invariant.0 c.in-Ok.ensures.marked) in
-    let logs = subst (λ (es : List LogRecord). LogsTogether state inside.log.halves new.log.halves es (Err c.in-Err-log.failure)) is.taken c.in-Err-log.ensures.logs in
+    let logs = subst (λ (es : List LogRecord). LogsTogether state inside.log.halves new.log.halves es result) is.taken did.logs in
     let still = stays_open functions state g.met.D.Disk.sound inside.log.failed new.log.failed inside.log.halves new.log.halves w new.world.0 is.far.world inside.macros
-    (not_failed inside.log.failed inside.log.halves w inside.macros c.args.self.now c.self.view_is c.requires.form.is_open) c.self.invariant.1 c.self.invariant.2 c.log.ensures.in_use
-    is.far.taken is.again (Err c.in-Err-log.failure) logs tt (c.in-Err-log.ensures.goes_back w marked) c.in-Err-log.ensures.failed in
-    (c.log.ensures.settled, still.0, still.1)
+    (not_failed inside.log.failed inside.log.halves w inside.macros now c.self.view_is c.requires.form.is_open) c.self.invariant.1 c.self.invariant.2 did.in_use
+    is.far.taken is.again result logs (ok_on result (λ stays. stays ∙ is.left) did.stays) (err_on result (λ back. back w marked) did.goes_back) did.failed in
+    (did.settled, still.0, still.1)
 
 -- ---- nothing of them is left
 
-pub returns-clause-takes : goal.returns-clause-takes
-returns-clause-takes g c = λ u known text begins left.
+pub returns-in-Err-clause-takes : goal.returns-in-Err-clause-takes
+returns-in-Err-clause-takes g c = λ u known text begins left.
     let inside = c.self.inside in
     let marked = c.in-Err.ensures.marks inside.world.0 (first_marked inside.world c.begin.new.world c.self.invariant.0 c.in-Ok.ensures.marked) in
     group_untouched g.R.Meaning.Meaning.functions g.D.Disk.state g.met.D.Disk.sound c.args.self.now _ c.args.wanted u u text c.in-Err.failure c.in-Err.ensures.calm
@@ -165,8 +134,7 @@ invariant_of-self-in-Err g c =
     let inside = c.self.inside in
     let w = inside.world.0 in
     let marked = c.in-Err.ensures.marks w (first_marked inside.world c.begin.new.world c.self.invariant.0 c.in-Ok.ensures.marked) in
-    let back = c.back_to.ensures.whole (w, []) marked.0 marked.1 refl in
-    (
+    let back = c.back_to.ensures.whole (w, []) marked.0 marked.1 refl in (
       ap (λ (s : Worlds). s.1) back,
       c.self.invariant.1,
       subst (λ (s : Worlds). inside.log.failed ≡ false → IsHonest (g.D.Disk.state inside.log.halves.disk) → Keeps g.R.Meaning.Meaning.functions (g.D.Disk.state inside.log.halves.disk) s.0) (sym back) c.self.invariant.2,
