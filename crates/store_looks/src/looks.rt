@@ -26,7 +26,8 @@ use store_commands::{
     status_of_output,
 };
 use store_reports::{
-    BackupError, Layout, Selection, ShowError, backup, half_figures, info, log_lines, show,
+    BackupError, Layout, LogPart, Selection, ShowError, backup, half_figures, info, log_lines,
+    show,
 };
 use user_macros::MacroFunctions;
 
@@ -144,7 +145,12 @@ where
         Look::Show(shown) => show_on(alloc, sight, macros, seed, shown, output),
         Look::Info => info_on(rt, looked.folder, sight, macros, seed, output),
         Look::Log(from) => {
-            let lines = log_lines(alloc, sight, from)?;
+            let part = LogPart {
+                from,
+                generation: None,
+                with_generation: false,
+            };
+            let lines = log_lines(alloc, sight, &part)?;
             write_told(output, lines.as_slice())
         }
         Look::Backup(to) => {
@@ -286,7 +292,7 @@ where
         None => Err(AllocError),
     };
     let _ = store.close();
-    write_told(output, text?.as_bytes())
+    write_told(output, text?.as_slice())
 }
 
 // Makes a new store of the world that was seen.
