@@ -36,6 +36,7 @@ use user_macros::MacroFunctions;
 ///
 /// What was asked for and is not there, as a package, a record or a free place for a backup, is status 2, with a sentence on `faults`, and
 /// nothing is written to `output` then, nor after a fault but one of the output.
+#[tactic(auto, using(crate::proofs::Printing::text_told, crate::proofs::Printing::nothing_told, crate::proofs::Printing::words_told))]
 pub fn look<R, M, S, O, F>(rt: &R, macros: M, words: &[S], output: &mut O, faults: &mut F) -> Status
 where
     R: Files<File = File> + RandomSource + Clock + AllocGlobal,
