@@ -3,6 +3,7 @@ pub mod Fitting
 pub mod Committing
 pub mod Grouping
 pub mod Together
+pub mod Taking
 pub mod Loading
 pub mod Replays
 pub mod Refusing
@@ -20,6 +21,4 @@ pub mod Inputs
 pub mod Gathering
 pub mod Counting
 pub mod Gathered
-pub mod CommittingGroups
-pub mod TakingGroups
 pub mod Storing

@@ -1,7 +1,7 @@
 -- What the functions below the calls do, each file beside the source file of its name.
 pub mod Failure
 pub mod Setting
-pub mod Commit
+pub mod Batch
 pub mod Group
 pub mod Open
 pub mod Input

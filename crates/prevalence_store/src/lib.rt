@@ -52,10 +52,11 @@
 //!   which numbers refuse a form.
 #![tactic(auto)]
 
-mod commit;
+mod batch;
 mod failure;
 mod group;
 mod laws;
+mod log;
 mod mode;
 mod open_fault;
 mod outcome;

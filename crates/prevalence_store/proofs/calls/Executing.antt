@@ -51,6 +51,12 @@ not_failed {D = D} {R = R} failed log v macros now view known = by_failed failed
   by_failed true is = absurd (cc)
   by_failed false is = refl
 
+-- so it has that world
+pub world_told : {D R : Type 0} (failed : Bool) (log : HalvesValue D) (v : WorldState) (macros : R) (now : StoreView D R) → store_view_of failed log v macros ≡ now
+    → IsSome now.world → now.world ≡ Some v
+world_told {D = D} {R = R} failed log v macros now view known =
+    sym (ap (λ (s : StoreView D R). s.world) view) ∙ ap (λ b. cond b None (Some v)) (not_failed failed log v macros now view known)
+
 -- a text cut out between places within it is as long as they are apart
 pub length-between : (start «end» : ℕ) (text : List ℕ) → «end» ≤ length text → length (between start «end» text) ≡ «end» - start
 length-between start «end» text within =

@@ -19,7 +19,7 @@ use Rattle.prevalence_store.specs.declared.mode.Mode.{Mode}
 use Rattle.prevalence_store.specs.declared.outcome.Ending.TheVariants.{Store}
 use Rattle.prevalence_store.specs.meaning.Acceptance.{after, between, logged, read_in, records_of}
 use Rattle.prevalence_store.specs.steps.Failure.{is_device}
-use Rattle.prevalence_store.specs.steps.Commit.{TakesForm}
+use Rattle.prevalence_store.specs.steps.Batch.{TakesForm}
 use Rattle.prevalence_store.specs.calls.Execute.{Stores, SurvivesAs}
 use Rattle.prevalence_store.specs.meaning.Answers.{Progress, after_forms, begun, evaluated, last_line, one_form, refusal_line, value_line}
 use Rattle.prevalence_store.specs.calls.Pace.{fill_of}

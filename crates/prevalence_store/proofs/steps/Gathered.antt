@@ -181,14 +181,14 @@ module _ (functions : Functions) where
       (held written : Option (List ℕ)) (known : old.world ≡ Some w) where
     -- the forms were answered
     pub group_answered : (gathered : Gathered) (next count : ℕ) → TakesForms functions wanted state old new w text gathered → Writes held written gathered.lines.items → drop next text ≡ rest
-        → gathered.bytes ≡ next + count → CountsAll (length gathered.texts.items) course.pace later.pace → later.forms ≡ course.forms + gathered.forms → later.bytes ≡ course.bytes + gathered.bytes
+        → gathered.bytes ≡ next + count → CountsAll (length gathered.batch.texts.items) course.pace later.pace → later.forms ≡ course.forms + gathered.forms → later.bytes ≡ course.bytes + gathered.bytes
         → AnswersGroup functions wanted state course later old new w text rest held written (grouped.Answered count)
     group_answered gathered next count took writes left many counts forms bytes pending none =
         let is = took.gathers in
         let far : Progress = is.far in
         let far_is : after_forms functions gathered.forms w wanted.mode text ≡ Some far =
         ap (after_forms functions gathered.forms w wanted.mode) (sym (append-nil text)) ∙ is.stays [] ∙ ap (λ t. Some (record far { rest = t })) (append-nil far.rest) in
-        let entries : length gathered.texts.items ≡ length far.taken = sym (count_entries wanted.mode gathered) ∙ ap length is.taken in
+        let entries : length gathered.batch.texts.items ≡ length far.taken = sym (count_entries wanted.mode gathered) ∙ ap length is.taken in
         record {
           forms = gathered.forms;
           far = far;
@@ -256,7 +256,7 @@ module _ (functions : Functions) where
 
     -- the writer failed in their lines
     pub group_unwritten : wanted.group ≡ true → (gathered : Gathered) → 0 < gathered.forms → TakesForms functions wanted state old new w text gathered → WritesPart held written gathered.lines.items
-        → IsBeforeDue course.pace (length gathered.texts.items) → AnswersGroup functions wanted state course later old new w text rest held written (grouped.Ended (ways.Store OUTPUT))
+        → IsBeforeDue course.pace (length gathered.batch.texts.items) → AnswersGroup functions wanted state course later old new w text rest held written (grouped.Ended (ways.Store OUTPUT))
     group_unwritten grouped gathered some took writes before more = by_part (part_of held written far.lines (some_lines gathered.forms some far_is) (subst (WritesPart held written) is.lines writes)) where
       is : IsGathered functions wanted w text took.left gathered
       is = took.gathers

@@ -1,5 +1,5 @@
 -- Why a form is not accepted, and what is left after it.
-use Rattle.std.specs.Prelude.{◌≡◌, ℕ, ◌+◌, ◌<◌, ◌≤◌, Bool, true, false, length, Ok, Err}
+use Rattle.std.specs.Prelude.{◌≡◌, ℕ, ◌+◌, ◌<◌, ◌≤◌, Bool, true, false, length, Ok, Err, Result}
 use Rattle.lisp_object.specs.Object.{Object}
 use Rattle.lisp_object.specs.declared.refusal.TheConstants.{DEVICE, LOG_FULL, NO_MEMORY}
 use Rattle.lisp_operators.specs.Evaluation.{Done, Evaluation}
@@ -24,6 +24,11 @@ is_device (Refused number) = false
 is_device Full = false
 is_device DeviceFault = true
 is_device OutOfMemory = false
+
+-- so the call ended
+abbrev pub is_fault : {T : Type 0} → Result T Failure → Bool
+is_fault (Ok value) = false
+is_fault (Err failure) = is_device failure
 
 -- what was evaluated to this has written something
 abbrev pub HasWritten : Evaluation Object → Type 0

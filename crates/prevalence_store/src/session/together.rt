@@ -82,7 +82,7 @@ impl<D: Disk, R: MacroFunctions> Store<D, R> {
         // what is answered is stored: the lines come after the records
         match self.write_lines(writer, gathered.lines.as_slice()) {
             Ok(()) => {
-                course.schedule.pass(gathered.texts.len() as u64);
+                course.schedule.pass(gathered.batch.texts.len() as u64);
                 course.pass_all(gathered.forms, gathered.bytes);
                 Grouped::Answered(gathered.bytes - first.next)
             }

@@ -1,4 +1,4 @@
-use Rattle.std.proofs.Common.{◌≡◌, take, length, Some, sym, ap, subst, ◌∙◌, arith}
+use Rattle.std.proofs.Common.{Some, sym, ap, subst, ◌∙◌, arith}
 use Rattle.std.proofs.lemmas.List.{take_all}
 use Rattle.prevalence_store.specs.meaning.Acceptance.{after}
 use Rattle.prevalence_store.specs.meaning.Files.{MeansWorld}

@@ -6,4 +6,4 @@ pub returns-clause-line : goal.returns-clause-line
 returns-clause-line g c =
     let inside = c.self.inside in
     ok_map (λ line. IsLineOf inside.world.0 c.args.answer.now line.items) (λ line. IsLine c.args.self.now c.args.answer.now line.items) c.line_of_answer.result
-    (λ line is. line_inside inside.failed inside.log inside.world.0 inside.macros c.args.self.now c.self.view_is c.args.answer.now line.items is) c.line_of_answer.ensures.line
+    (λ line is. line_inside inside.log.failed inside.log.halves inside.world.0 inside.macros c.args.self.now c.self.view_is c.args.answer.now line.items is) c.line_of_answer.ensures.line

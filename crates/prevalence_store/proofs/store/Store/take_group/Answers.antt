@@ -1,97 +1,141 @@
-use Rattle.std.proofs.Common.{rules, ◌≡◌, true, List, ℕ, drop, length, Some, Ok, Err, subst, sym, ◌∙◌, arith}
+use Rattle.std.proofs.Common.{rules, ◌≡◌, List, ℕ, [], false, drop, length, refl, sym, ap, subst, ◌∙◌}
+use Rattle.std.specs.List.{AllByRecursion}
+use Rattle.disk_trait.specs.Disk.{IsHonest}
+use Rattle.gate_log.specs.Layout.{IsLogRecord, LogRecord}
 use Rattle.lisp_object.specs.Datum.{object_of}
-use Rattle.plist_state.specs.Sound.{IsSound}
-use Rattle.plist_state.specs.State.{WorldState}
 use Rattle.form_eval.specs.Laws.{MayEvaluate}
-use Rattle.lisp_reading.proofs.Bounded.{form_below}
-use Rattle.prevalence_store.specs.meaning.Acceptance.{setting_in}
-use Rattle.prevalence_store.specs.calls.Store.{StoreView, store_view_of}
-use Rattle.prevalence_store.specs.steps.Gather.{BeginsWhole, TakesGroup}
-use Rattle.prevalence_store.proofs.calls.Executing.{known_world, not_failed, world_inside}
-use Rattle.prevalence_store.proofs.steps.Pendings.{begins_whole, may_evaluate}
-use Rattle.prevalence_store.proofs.steps.Storing.{keeps_further}
-use Rattle.prevalence_store.proofs.steps.TakingGroups.{fault_takes_group, value_takes_group}
+use Rattle.plist_state.specs.State.{WorldState, Worlds}
+use Rattle.prevalence_store.specs.calls.Store.{store_view_of}
+use Rattle.prevalence_store.specs.steps.Batch.{LogsTogether}
+use Rattle.prevalence_store.specs.steps.Gather.{BeginsWhole, IsGathered, TakesGroup}
+use Rattle.prevalence_store.specs.Theorem.{Keeps}
+use Rattle.prevalence_store.proofs.calls.Executing.{not_failed, world_inside, world_told}
+use Rattle.prevalence_store.proofs.steps.Grouping.{first_marked, some_marks}
+use Rattle.prevalence_store.proofs.steps.Pendings.{may_evaluate}
+use Rattle.prevalence_store.proofs.steps.Taking.{counted_again, err_on, group_taken, group_untouched, ok_on}
+use Rattle.prevalence_store.proofs.steps.Together.{stays_open, store_takes}
 use Rattle.prevalence_store.proofs.store.Store.take_group.Goals as goal
 
-pub commit_group-result-requires-clause-form : goal.commit_group-result-requires-clause-form
-commit_group-result-requires-clause-form g c =
-    let functions = g.R.Meaning.Meaning.functions in
+-- no memory to begin
+pub returns-in_default-clause-takes : goal.returns-in_default-clause-takes
+returns-in_default-clause-takes g c = λ u known text begins left.
     let inside = c.self.inside in
-    let here = known_world c.args.self.now.world c.requires.form.is_open in
-    let same = world_inside inside.failed inside.log inside.world.0 here.0 inside.macros c.args.self.now c.self.view_is here.1 in
+    let same : c.begin.new.world ≡ inside.world = search rules in
+    group_untouched g.R.Meaning.Meaning.functions g.D.Disk.state g.met.D.Disk.sound c.args.self.now _ c.args.wanted u u text _ refl
+    (ap (λ (s : Worlds). store_view_of inside.log.failed inside.log.halves s.0 inside.macros) same ∙ c.self.view_is)
+
+pub gather-requires-clause-form : goal.gather-requires-clause-form
+gather-requires-clause-form g c =
+    let inside = c.self.inside in
+    let w = inside.world.0 in
     let read = c.args.first.now.read in
-    let own = c.args.first.now.own.items in
-    let b = c.requires.form.begins here.0 here.1 in record {
-      may = subst (λ (w : WorldState). MayEvaluate w.packages read) (sym same)
-          (may_evaluate functions here.0 c.args.wanted.mode read own c.requires.form.proper c.requires.form.sound (c.requires.form.all_there here.0 here.1) b
-          (subst (λ (v : WorldState). IsSound v) same c.soundness.ensures.present));
-      within =
-          let below = form_below (setting_in functions here.0 c.args.wanted.mode) own (object_of read.datum) 0 (length own) (length own) (begins_whole functions here.0 c.args.wanted.mode b.0 (object_of read.datum) own b.1.0 b.1.1) in
-          omega arith;
-    }
+    let here = world_told inside.log.failed inside.log.halves w inside.macros c.args.self.now c.self.view_is c.requires.form.is_open in
+    subst (λ (s : Worlds). MayEvaluate s.0.packages read) (sym c.in-Ok.ensures.marked)
+    (may_evaluate g.R.Meaning.Meaning.functions w c.args.wanted.mode read c.args.first.now.own.items c.requires.form.proper c.requires.form.sound (c.requires.form.all_there w here) (c.requires.form.begins w here)
+    c.soundness.ensures.present)
 
-pub commit_group-result-requires-clause-ready : goal.commit_group-result-requires-clause-ready
-commit_group-result-requires-clause-ready g c =
+pub log_gathered-requires-clause-marked : goal.log_gathered-requires-clause-marked
+log_gathered-requires-clause-marked g c =
     let inside = c.self.inside in
-    c.self.invariant.1 (not_failed inside.failed inside.log inside.world.0 inside.macros c.args.self.now c.self.view_is c.requires.form.is_open)
+    (inside.world.0, c.in-Ok-gather.ensures.marks inside.world.0 (first_marked inside.world c.begin.new.world c.self.invariant.0 c.in-Ok.ensures.marked))
 
-pub commit_group-result-requires-clause-begins : goal.commit_group-result-requires-clause-begins
-commit_group-result-requires-clause-begins g c =
-    let functions = g.R.Meaning.Meaning.functions in
-    let inside = c.self.inside in
-    let here = known_world c.args.self.now.world c.requires.form.is_open in
-    let same = world_inside inside.failed inside.log inside.world.0 here.0 inside.macros c.args.self.now c.self.view_is here.1 in
-    let first = c.args.first.now in
-    subst (λ (w : WorldState). (text : List ℕ) × (BeginsWhole functions w c.args.wanted.mode text (object_of first.read.datum) first.own.items first.next × (drop first.next text ≡ c.args.rest.now))) (sym same)
-    (c.requires.begins here.0 here.1)
-
-pub invariant_of-self : goal.invariant_of-self
-invariant_of-self g c =
+pub log_gathered-requires-clause-fit : goal.log_gathered-requires-clause-fit
+log_gathered-requires-clause-fit g c =
     let functions = g.R.Meaning.Meaning.functions in
     let state = g.D.Disk.state in
     let inside = c.self.inside in
-    let new = c.commit_group-result.new in
-    let here = known_world c.args.self.now.world c.requires.form.is_open in
-    let same = world_inside inside.failed inside.log inside.world.0 here.0 inside.macros c.args.self.now c.self.view_is here.1 in
-    let first = c.args.first.now in
-    let b =
-    subst (λ (w : WorldState). (text : List ℕ) × (BeginsWhole functions w c.args.wanted.mode text (object_of first.read.datum) first.own.items first.next × (drop first.next text ≡ c.args.rest.now))) (sym same)
-    (c.requires.begins here.0 here.1) in
-    let did = c.in-Ok.ensures.commits b.0 b.1.0 b.1.1 in (
-      search rules,
-      search rules,
-      keeps_further functions state inside.failed inside.log new.log inside.world.0 new.world.0 inside.macros
-          (λ held. (
-            _,
-            (
-              _,
-              (value_takes_group functions c.args.wanted state g.met.D.Disk.sound inside.log new.log inside.world.0 new.world.0 inside.macros b.0
-                  inside.failed c.self.invariant.1 inside.world.0 held c.in-Ok.gathered did).together.survives,
-            ),
-          ))
-          did.tells.honest c.self.invariant.2,
+    let w = inside.world.0 in
+    let here = world_told inside.log.failed inside.log.halves w inside.macros c.args.self.now c.self.view_is c.requires.form.is_open in
+    let gathers = subst (λ (s : Worlds). (text : List ℕ) → BeginsWhole functions s.0 c.args.wanted.mode text (object_of c.args.first.now.read.datum) c.args.first.now.own.items c.args.first.now.next
+    → drop c.args.first.now.next text ≡ c.args.rest.now → IsGathered functions c.args.wanted s.0 text c.gather.new.world.0 c.in-Ok-gather.gathered) c.in-Ok.ensures.marked c.in-Ok-gather.ensures.gathers in
+    let b = c.requires.begins w here in
+    let is = gathers b.0 b.1.0 b.1.1 in
+    subst (λ (es : List LogRecord). AllByRecursion IsLogRecord es) (sym is.taken) is.fit
+
+pub log_gathered-requires-clause-open : goal.log_gathered-requires-clause-open
+log_gathered-requires-clause-open g c =
+    let inside = c.self.inside in
+    not_failed inside.log.failed inside.log.halves inside.world.0 inside.macros c.args.self.now c.self.view_is c.requires.form.is_open
+
+pub log_gathered-requires-clause-ready : goal.log_gathered-requires-clause-ready
+log_gathered-requires-clause-ready g c =
+    let inside = c.self.inside in
+    c.self.invariant.1 (not_failed inside.log.failed inside.log.halves inside.world.0 inside.macros c.args.self.now c.self.view_is c.requires.form.is_open)
+
+pub back_to-requires : goal.back_to-requires
+back_to-requires g c =
+    let inside = c.self.inside in
+    some_marks inside.world.0 c.gather.new.world.1 (c.in-Err.ensures.marks inside.world.0 (first_marked inside.world c.begin.new.world c.self.invariant.0 c.in-Ok.ensures.marked))
+
+-- ---- they were logged together, or the device failed, or there was no room
+
+pub returns-in-Ok-gather-clause-takes : goal.returns-in-Ok-gather-clause-takes
+returns-in-Ok-gather-clause-takes g c = λ u known text begins rest.
+    let functions = g.R.Meaning.Meaning.functions in
+    let state = g.D.Disk.state in
+    let inside = c.self.inside in
+    let now = c.args.self.now in
+    let w = inside.world.0 in
+    let new = c.log_gathered.new in
+    let did = c.log_gathered.ensures in
+    let result = c.log_gathered.result in
+    let gathered = c.in-Ok-gather.gathered in
+    let here = world_told inside.log.failed inside.log.halves w inside.macros now c.self.view_is c.requires.form.is_open in
+    let marked = c.in-Ok-gather.ensures.marks w (first_marked inside.world c.begin.new.world c.self.invariant.0 c.in-Ok.ensures.marked) in
+    let gathers = subst (λ (s : Worlds). (text : List ℕ) → BeginsWhole functions s.0 c.args.wanted.mode text (object_of c.args.first.now.read.datum) c.args.first.now.own.items c.args.first.now.next
+    → drop c.args.first.now.next text ≡ c.args.rest.now → IsGathered functions c.args.wanted s.0 text c.gather.new.world.0 c.in-Ok-gather.gathered) c.in-Ok.ensures.marked c.in-Ok-gather.ensures.gathers in
+    let same = world_inside inside.log.failed inside.log.halves w u inside.macros now c.self.view_is known in
+    let is = gathers text (subst (λ (a : WorldState). BeginsWhole functions a c.args.wanted.mode text (object_of c.args.first.now.read.datum) c.args.first.now.own.items c.args.first.now.next) (sym same) begins) rest in
+    let left = store_view_of new.log.failed new.log.halves new.world.0 inside.macros in
+    let logs = subst (λ (es : List LogRecord). LogsTogether state inside.log.halves new.log.halves es result) is.taken did.logs in
+    subst (λ (a : WorldState). TakesGroup functions c.args.wanted state now left a text result) same
+    (group_taken functions state g.met.D.Disk.sound now left c.args.wanted w c.gather.new.world.0 text gathered is c.in-Ok-gather.ensures.counts.some result did.same
+    (store_takes functions state g.met.D.Disk.sound inside.log.halves new.log.halves w new.world.0 inside.macros is.far.taken is.far.world is.again
+    inside.log.failed new.log.failed now c.self.view_is w here c.self.invariant.1 result logs (ok_on result (λ stays. stays ∙ is.left) did.stays) (err_on result (λ back. back w marked) did.goes_back) did.failed))
+
+pub returns-in-Ok-gather-clause-counts : goal.returns-in-Ok-gather-clause-counts
+returns-in-Ok-gather-clause-counts g c =
+    counted_again c.args.first.now.next (length c.args.rest.now) c.args.most c.in-Ok-gather.gathered c.log_gathered.result c.log_gathered.ensures.same c.in-Ok-gather.ensures.counts
+
+pub invariant_of-self-in-Ok-gather : goal.invariant_of-self-in-Ok-gather
+invariant_of-self-in-Ok-gather g c =
+    let functions = g.R.Meaning.Meaning.functions in
+    let state = g.D.Disk.state in
+    let inside = c.self.inside in
+    let now = c.args.self.now in
+    let w = inside.world.0 in
+    let new = c.log_gathered.new in
+    let did = c.log_gathered.ensures in
+    let result = c.log_gathered.result in
+    let gathered = c.in-Ok-gather.gathered in
+    let here = world_told inside.log.failed inside.log.halves w inside.macros now c.self.view_is c.requires.form.is_open in
+    let marked = c.in-Ok-gather.ensures.marks w (first_marked inside.world c.begin.new.world c.self.invariant.0 c.in-Ok.ensures.marked) in
+    let gathers = subst (λ (s : Worlds). (text : List ℕ) → BeginsWhole functions s.0 c.args.wanted.mode text (object_of c.args.first.now.read.datum) c.args.first.now.own.items c.args.first.now.next
+    → drop c.args.first.now.next text ≡ c.args.rest.now → IsGathered functions c.args.wanted s.0 text c.gather.new.world.0 c.in-Ok-gather.gathered) c.in-Ok.ensures.marked c.in-Ok-gather.ensures.gathers in
+    let b = c.requires.begins w here in
+    let is = gathers b.0 b.1.0 b.1.1 in
+    let logs = subst (λ (es : List LogRecord). LogsTogether state inside.log.halves new.log.halves es result) is.taken did.logs in
+    let still = stays_open functions state g.met.D.Disk.sound inside.log.failed new.log.failed inside.log.halves new.log.halves w new.world.0 is.far.world inside.macros
+    (not_failed inside.log.failed inside.log.halves w inside.macros now c.self.view_is c.requires.form.is_open) c.self.invariant.1 c.self.invariant.2 did.in_use
+    is.far.taken is.again result logs (ok_on result (λ stays. stays ∙ is.left) did.stays) (err_on result (λ back. back w marked) did.goes_back) did.failed in
+    (did.settled, still.0, still.1)
+
+-- ---- nothing of them is left
+
+pub returns-in-Err-clause-takes : goal.returns-in-Err-clause-takes
+returns-in-Err-clause-takes g c = λ u known text begins left.
+    let inside = c.self.inside in
+    let marked = c.in-Err.ensures.marks inside.world.0 (first_marked inside.world c.begin.new.world c.self.invariant.0 c.in-Ok.ensures.marked) in
+    group_untouched g.R.Meaning.Meaning.functions g.D.Disk.state g.met.D.Disk.sound c.args.self.now _ c.args.wanted u u text c.in-Err.failure c.in-Err.ensures.calm
+    (ap (λ (s : Worlds). store_view_of inside.log.failed inside.log.halves s.0 inside.macros) (c.back_to.ensures.whole (inside.world.0, []) marked.0 marked.1 refl) ∙ c.self.view_is)
+
+pub invariant_of-self-in-Err : goal.invariant_of-self-in-Err
+invariant_of-self-in-Err g c =
+    let inside = c.self.inside in
+    let w = inside.world.0 in
+    let marked = c.in-Err.ensures.marks w (first_marked inside.world c.begin.new.world c.self.invariant.0 c.in-Ok.ensures.marked) in
+    let back = c.back_to.ensures.whole (w, []) marked.0 marked.1 refl in (
+      ap (λ (s : Worlds). s.1) back,
+      c.self.invariant.1,
+      subst (λ (s : Worlds). inside.log.failed ≡ false → IsHonest (g.D.Disk.state inside.log.halves.disk) → Keeps g.R.Meaning.Meaning.functions (g.D.Disk.state inside.log.halves.disk) s.0) (sym back) c.self.invariant.2,
     )
-
-pub returns-in-Ok-clause-takes : goal.returns-in-Ok-clause-takes
-returns-in-Ok-clause-takes g c = λ u known text begins left.
-    let functions = g.R.Meaning.Meaning.functions in
-    let inside = c.self.inside in
-    let new = c.commit_group-result.new in
-    let after : StoreView g.row.D.Denot g.row.R.Denot = store_view_of inside.failed new.log new.world.0 inside.macros in
-    let same = world_inside inside.failed inside.log inside.world.0 u inside.macros c.args.self.now c.self.view_is known in
-    let whole = subst (λ (w : WorldState). BeginsWhole functions w c.args.wanted.mode text (object_of c.args.first.now.read.datum) c.args.first.now.own.items c.args.first.now.next) (sym same) begins in
-    subst (λ (now : StoreView g.row.D.Denot g.row.R.Denot). now.world ≡ Some u → TakesGroup functions c.args.wanted g.D.Disk.state now after u text (Ok c.in-Ok.gathered)) c.self.view_is
-    (λ here. value_takes_group functions c.args.wanted g.D.Disk.state g.met.D.Disk.sound inside.log new.log inside.world.0 new.world.0 inside.macros text
-    inside.failed c.self.invariant.1 u here c.in-Ok.gathered (c.in-Ok.ensures.commits text whole left)) known
-
-pub returns-then-is_device-clause-takes : goal.returns-then-is_device-clause-takes
-returns-then-is_device-clause-takes g c = λ u known text begins left.
-    let functions = g.R.Meaning.Meaning.functions in
-    let inside = c.self.inside in
-    let new = c.commit_group-result.new in
-    let after : StoreView g.row.D.Denot g.row.R.Denot = store_view_of true new.log new.world.0 inside.macros in
-    let same = world_inside inside.failed inside.log inside.world.0 u inside.macros c.args.self.now c.self.view_is known in
-    let whole = subst (λ (w : WorldState). BeginsWhole functions w c.args.wanted.mode text (object_of c.args.first.now.read.datum) c.args.first.now.own.items c.args.first.now.next) (sym same) begins in
-    subst (λ (now : StoreView g.row.D.Denot g.row.R.Denot). now.world ≡ Some u → TakesGroup functions c.args.wanted g.D.Disk.state now after u text (Err c.in-Err.failure)) c.self.view_is
-    (λ here. fault_takes_group functions c.args.wanted g.D.Disk.state g.met.D.Disk.sound inside.log new.log inside.world.0 new.world.0 inside.macros text
-    inside.failed c.self.invariant.1 u here c.in-Err.failure (sym c.is_device.ensures ∙ c.if-is_device.true) (c.in-Err.ensures.commits text whole left)) known

@@ -20,7 +20,7 @@ take_form-answer-requires g c =
             let b = c.requires.form.begins w known in
             begins_whole functions w c.args.mode b.0 (object_of c.args.form.now.datum) c.args.own.now b.1.0 b.1.1;
         may = λ w known.
-            let same = world_inside inside.failed inside.log inside.world.0 w inside.macros c.args.self.now c.self.view_is known in
+            let same = world_inside inside.log.failed inside.log.halves inside.world.0 w inside.macros c.args.self.now c.self.view_is known in
             may_evaluate functions w c.args.mode c.args.form.now c.args.own.now c.requires.form.proper c.requires.form.sound (c.requires.form.all_there w known)
             (c.requires.form.begins w known) (subst (λ (v : WorldState). IsSound v) same c.soundness.ensures.present);
       };

@@ -1,0 +1,209 @@
+-- What became of a form, of texts and of the forms of a group, by what logging their records did to the store.
+use Rattle.std.proofs.Common.{◌≡◌, ℕ, ◌+◌, ◌<◌, Bool, true, false, List, [], ◌∷◌, ◌++◌, length, map, Some, Result, Ok, Err, IfOk, OnOk, OnErr, Bor, refl, sym, ap, subst, ◌∙◌, arith}
+use Rattle.std.specs.Global.{Vec}
+use Rattle.std.specs.List.{AllByRecursion, flat_map}
+use Rattle.disk_trait.specs.Disk.{State, IsHonest, IsSound}
+use Rattle.gate_log.specs.Layout.{IsLogRecord, LogRecord, open_record}
+use Rattle.lisp_object.specs.Object.{Object}
+use Rattle.form_eval.specs.Acceptance.{accept}
+use Rattle.lisp_operators.specs.Evaluated.{done}
+use Rattle.lisp_operators.specs.Evaluation.{Evaluation}
+use Rattle.lisp_operators.specs.declared.evaluated.Evaluated.{Evaluated}
+use Rattle.lisp_reading.specs.Reading.{form}
+use Rattle.plist_state.specs.State.{WorldState}
+use Rattle.prevalence_store.specs.declared.batch.Batch.{Batch}
+use Rattle.prevalence_store.specs.declared.failure.Failure.{Failure}
+use Rattle.prevalence_store.specs.declared.failure.Failure.TheVariants.{Refused, Full, DeviceFault, OutOfMemory}
+use Rattle.prevalence_store.specs.declared.mode.Mode.{Mode}
+use Rattle.prevalence_store.specs.declared.outcome.Outcome.{Outcome}
+use Rattle.prevalence_store.specs.declared.outcome.Wanted.{Wanted}
+use Rattle.prevalence_store.specs.declared.session.gather.Gathered.{Gathered}
+use Rattle.prevalence_store.specs.meaning.Acceptance.{after, logged, read_in, records_of}
+use Rattle.prevalence_store.specs.calls.Execute.{Stores, SurvivesAs, taken_in}
+use Rattle.prevalence_store.specs.calls.ExecuteAll.{LogsAll, Turns, in_turn, told_by}
+use Rattle.prevalence_store.specs.calls.Store.{StoreView}
+use Rattle.prevalence_store.specs.steps.Batch.{IsNotAdded, StoresBatch, TakesBatch, TakesForm, entries_in, entries_of_texts}
+use Rattle.prevalence_store.specs.steps.Failure.{IsCause, is_device}
+use Rattle.prevalence_store.specs.steps.Gather.{IsCounted, IsGathered, TakesGroup}
+use Rattle.prevalence_store.specs.steps.Group.{TakesAll}
+use Rattle.prevalence_store.proofs.steps.Counting.{room_is}
+use Rattle.prevalence_store.proofs.steps.Grouping.{of_value}
+use Rattle.prevalence_store.proofs.Surviving.{unchanged_survives}
+use Rattle.user_macros.specs.Functions.{Functions}
+
+-- the bytes of the record of a form
+one_size : (mode : Mode) (text : List ℕ) → length (flat_map open_record (logged mode text ∷ [])) ≡ 6 + length text
+one_size mode text = let none : 0 + (6 + length text) ≡ 6 + length text = omega arith in room_is (logged mode text ∷ []) ∙ none
+
+-- a form that was added to a batch of none
+pub alone : (mode : Mode) (begun new : Batch) (taken : List LogRecord) → begun.texts.items ≡ [] → entries_in mode new ≡ entries_in mode begun ++ taken → entries_in mode new ≡ taken
+alone mode begun new taken none is = is ∙ ap (λ (ts : List (Vec ℕ)). entries_of_texts mode ts ++ taken) none
+
+-- what follows of a result
+pub ok_on : {T E : Type 0} (result : Result T E) {P Q : Type 0} → (P → Q) → OnOk result P → OnOk result Q
+ok_on (Ok value) f is = f is
+ok_on (Err error) f is = tt
+
+pub err_on : {T E : Type 0} (result : Result T E) {P Q : Type 0} → (P → Q) → OnErr result P → OnErr result Q
+err_on (Ok value) f is = tt
+err_on (Err error) f is = f is
+
+-- forms that were given back
+pub counted_again : (next many most : ℕ) (gathered : Gathered) (result : Result Gathered Failure) → IfOk result (λ given. given ≡ gathered) → IsCounted next many most gathered → IfOk result (IsCounted next many most)
+counted_again next many most gathered (Ok given) same counts = subst (IsCounted next many most) (sym same) counts
+counted_again next many most gathered (Err failure) same counts = tt
+
+-- the cause of a form that was not added, in words of the store
+pub cause_not_added : (given : Evaluation Object) (size limit n : ℕ) (failure : Failure) → IsNotAdded given failure → IsCause given size limit n failure
+cause_not_added given size limit n (Refused number) why = why
+cause_not_added given size limit n OutOfMemory why = tt
+cause_not_added given size limit n Full why = absurd why
+cause_not_added given size limit n DeviceFault why = absurd why
+
+module _ (functions : Functions) where
+  -- the record of a form makes the world that the form left, and fits the log
+  pub one_record : (mode : Mode) (w v : WorldState) (text : List ℕ) (x : Object) (e : Evaluated) → read_in functions w mode text ≡ form x 0 (length text) (length text)
+      → accept functions.names w x ≡ Ok (done e v) → (after functions w (records_of e.wrote mode text) ≡ Some v) × AllByRecursion IsLogRecord (records_of e.wrote mode text)
+  one_record mode w v text x e whole valued = let is = of_value functions mode w text x (Ok (done e v)) valued whole in (is.again, is.fit)
+
+  module _ {D R : Type 0} (state : D → State) (sound : (d : D) → IsHonest (state d) → IsSound (state d)) (old new : StoreView D R) where
+    -- ---- one form
+
+    module _ (mode : Mode) (text : List ℕ) where
+      stored_one : (wrote : Bool) (v : WorldState) → LogsAll state old new (records_of wrote mode text) v → Stores state old new wrote mode text v
+      stored_one true v all = record {
+        left = all.left;
+        half = all.half;
+        version = all.version;
+        generation = all.generation;
+        record_count = all.record_count;
+        size = all.size ∙ ap (λ n. old.size + n) (one_size mode text);
+        fits = all.fits (omega arith);
+        limit = all.limit;
+        macros = all.macros;
+        described = all.described;
+        other = all.other;
+        failures = all.failures;
+      }
+      stored_one false v all = (all.nothing refl, all.left)
+
+      module _ (x : Object) where
+        -- of which nothing is left
+        nothing_survives : (failure : Failure) → is_device failure ≡ false → new ≡ old → (u : WorldState) → SurvivesAs functions state old new u (taken_in mode text (Err failure)) 0
+        nothing_survives (Refused number) is same u = unchanged_survives functions state sound old new u same
+        nothing_survives Full is same u = unchanged_survives functions state sound old new u same
+        nothing_survives OutOfMemory is same u = unchanged_survives functions state sound old new u same
+        nothing_survives DeviceFault is same u = absurd (cc)
+
+        pub takes_nothing : (failure : Failure) → is_device failure ≡ false → new ≡ old
+            → ((u : WorldState) → old.world ≡ Some u → IsCause (accept functions.names u x) old.size old.limit (length text) failure) → TakesForm functions state old new mode text x (Err failure)
+        takes_nothing failure calm same cause = record {
+          accepted = λ u known. tt;
+          cause = cause;
+          unchanged = λ _. same;
+          fault = λ device. absurd (cc);
+          survives = nothing_survives failure calm same;
+        }
+
+        -- which was evaluated in the world of the store
+        module _ (w v : WorldState) (known : old.world ≡ Some w) (e : Evaluated) (valued : accept functions.names w x ≡ Ok (done e v)) where
+          here : (u : WorldState) → old.world ≡ Some u → w ≡ u
+          here u is = cc
+
+          pub takes_value : StoresBatch functions state old new w v (records_of e.wrote mode text) → TakesForm functions state old new mode text x (Ok e)
+          takes_value stores = record {
+            accepted = λ u is. (v, ap (λ a. accept functions.names a x) (sym (here u is)) ∙ valued, stored_one e.wrote v stores.logs);
+            cause = λ u is. tt;
+            unchanged = tt;
+            fault = tt;
+            survives = λ u is. subst (λ a. SurvivesAs functions state old new a (records_of e.wrote mode text) (length (records_of e.wrote mode text))) (here u is) stores.survives is;
+          }
+
+          -- and whose record was not logged
+          by_wrote : (wrote : Bool) → e.wrote ≡ wrote → (failure : Failure) {T : Type 0} → TakesBatch functions state old new w v (records_of wrote mode text) {T = T} (Err failure)
+              → IsCause (accept functions.names w x) old.size old.limit (length text) failure × SurvivesAs functions state old new w (taken_in mode text (Err failure)) 0
+          by_wrote wrote is (Refused number) took = absurd (cc)
+          by_wrote wrote is OutOfMemory took = (tt, nothing_survives OutOfMemory refl (took.unchanged refl) w)
+          by_wrote true is Full took =
+              let over = took.full refl in
+              (((done e v, valued, is), omega (arith, over.1, one_size mode text)), nothing_survives Full refl (took.unchanged refl) w)
+          by_wrote false is Full took = let over = took.full refl in absurd (omega (arith, over.0))
+          by_wrote true is DeviceFault took =
+              let stopped = took.stopped refl in
+              (((done e v, valued, is), omega (arith, stopped.fits, one_size mode text)), stopped.survives)
+          by_wrote false is DeviceFault took = let stopped = took.stopped refl in absurd (omega (arith, stopped.some))
+
+          pub takes_failure : (failure : Failure) {T : Type 0} → TakesBatch functions state old new w v (records_of e.wrote mode text) {T = T} (Err failure) → TakesForm functions state old new mode text x (Err failure)
+          takes_failure failure took =
+              let told = by_wrote e.wrote refl failure took in record {
+                accepted = λ u is. tt;
+                cause = λ u is. subst (λ a. IsCause (accept functions.names a x) old.size old.limit (length text) failure) (here u is) told.0;
+                unchanged = took.unchanged;
+                fault = λ device. (took.stopped device).failed;
+                survives = λ u is. subst (λ a. SurvivesAs functions state old new a (taken_in mode text (Err failure)) 0) (here u is) told.1 is;
+              }
+
+    -- ---- texts
+
+    module _ (w : WorldState) (mode : Mode) (texts : List (Bor (List ℕ))) {V : Type 0} (items : V → List Outcome) where
+      abbrev turns : Turns
+      turns = in_turn functions w mode texts
+
+      pub texts_stored : (x : V) → map told_by (items x) ≡ turns.told → StoresBatch functions state old new w turns.left turns.entries → TakesAll functions state old new w mode texts items (Ok x)
+      texts_stored x told stores = record {
+        together = record { told = told; logs = stores.logs; survives = stores.survives; all_or_none = stores.all_or_none };
+        unchanged = tt;
+        stopped = tt;
+      }
+
+      pub texts_left : (failure : Failure) {T : Type 0} → TakesBatch functions state old new w turns.left turns.entries {T = T} (Err failure) → TakesAll functions state old new w mode texts items (Err failure)
+      texts_left failure took = record {
+        together = tt;
+        unchanged = took.unchanged;
+        stopped = λ device.
+            let stopped = took.stopped device in
+            record { some = stopped.some; fits = stopped.fits; failed = stopped.failed; survives = stopped.survives; all_or_none = stopped.all_or_none };
+      }
+
+      pub texts_untouched : (failure : Failure) → is_device failure ≡ false → new ≡ old → TakesAll functions state old new w mode texts items (Err failure)
+      texts_untouched failure calm same = record { together = tt; unchanged = λ _. same; stopped = λ device. absurd (cc) }
+
+    -- ---- the forms of a group
+
+    module _ (wanted : Wanted) (w v : WorldState) (text : List ℕ) where
+      pub group_stored : (gathered : Gathered) (is : IsGathered functions wanted w text v gathered) → StoresBatch functions state old new w is.far.world is.far.taken
+          → TakesGroup functions wanted state old new w text (Ok gathered)
+      group_stored gathered is stores = record {
+        together = record { left = v; gathers = is; logs = stores.logs; survives = stores.survives };
+        unchanged = tt;
+        stopped = tt;
+      }
+
+      pub group_left : (gathered : Gathered) (is : IsGathered functions wanted w text v gathered) → 0 < gathered.forms → (failure : Failure) {T : Type 0}
+          → TakesBatch functions state old new w is.far.world is.far.taken {T = T} (Err failure) → TakesGroup functions wanted state old new w text (Err failure)
+      group_left gathered is some failure took = record {
+        together = tt;
+        unchanged = took.unchanged;
+        stopped = λ device.
+            let stopped = took.stopped device in
+            record {
+              left = v;
+              gathered = gathered;
+              some_forms = some;
+              gathers = is;
+              some = stopped.some;
+              fits = stopped.fits;
+              failed = stopped.failed;
+              survives = stopped.survives;
+              all_or_none = stopped.all_or_none;
+            };
+      }
+
+      -- it was given back if it was logged
+      pub group_taken : (gathered : Gathered) (is : IsGathered functions wanted w text v gathered) → 0 < gathered.forms → (result : Result Gathered Failure) → IfOk result (λ given. given ≡ gathered)
+          → TakesBatch functions state old new w is.far.world is.far.taken result → TakesGroup functions wanted state old new w text result
+      group_taken gathered is some (Ok given) same took = subst (λ (x : Gathered). TakesGroup functions wanted state old new w text (Ok x)) (sym same) (group_stored gathered is took.stored)
+      group_taken gathered is some (Err failure) same took = group_left gathered is some failure took
+
+      pub group_untouched : (failure : Failure) → is_device failure ≡ false → new ≡ old → TakesGroup functions wanted state old new w text (Err failure)
+      group_untouched failure calm same = record { together = tt; unchanged = λ _. same; stopped = λ device. absurd (cc) }
