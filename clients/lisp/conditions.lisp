@@ -68,6 +68,23 @@ known, and the store is broken."))
    "An earlier form was left within its answer, by an error, a time limit or any other unwinding. What
 the program still has to say would be taken for the answer of another form, so nothing is sent."))
 
+(define-condition fault (store-error)
+  ((number :initarg :number :reader fault-number)
+   (name :initarg :name :reader fault-name)
+   (cause :initarg :cause :reader fault-cause))
+  (:report (lambda (condition stream)
+             (format stream "~D ~A~@[: ~A~]" (fault-number condition) (fault-name condition)
+                     (and (string/= (fault-cause condition) "") (fault-cause condition)))))
+  (:documentation
+   "A store in this process cannot be opened, or its device failed: CAUSE says why. Whether the form is in
+the store is not known, and the store is broken."))
+
+(define-condition no-library (store-error)
+  ((reason :initarg :reason :reader no-library-reason))
+  (:report (lambda (condition stream)
+             (format stream "there is no store in this process: ~A" (no-library-reason condition))))
+  (:documentation "The library cannot be loaded, or this Lisp has no way to call it."))
+
 (define-condition closed (store-error) ()
   (:report "the store is closed")
   (:documentation "The store was closed by CLOSE-STORE."))

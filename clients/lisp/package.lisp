@@ -1,4 +1,5 @@
-;;;; A client of Pazturrok: it starts the program over a folder, sends it forms, and reads the answers.
+;;;; A client of Pazturrok: it sends forms to a store, and reads the answers. The store is a program over a
+;;;; folder, or a library in this process.
 ;;;; docs/run/protocol.md says how it is used, and what goes to and fro.
 
 (defpackage "PAZTURROK-CLIENT"
@@ -9,6 +10,8 @@
    "STORE-STATE" "STORE-PROCESS" "STORE-ROUND-TRIPS"
    ;; Forms
    "SEND" "SEND-TEXT" "SEND-ALL"
+   ;; Of a store in this process
+   "SNAPSHOT" "FIGURES"
    ;; Conditions
    "STORE-ERROR"
    "REFUSED" "REFUSED-NUMBER" "REFUSED-NAME" "REFUSED-PLACE"
@@ -16,6 +19,8 @@
    "MALFORMED-ANSWER" "MALFORMED-ANSWER-TEXT" "MALFORMED-ANSWER-REASON"
    "STOPPED" "STOPPED-STATUS" "STOPPED-FAULT"
    "TIMED-OUT" "TIMED-OUT-SECONDS"
+   "FAULT" "FAULT-NUMBER" "FAULT-NAME" "FAULT-CAUSE"
+   "NO-LIBRARY" "NO-LIBRARY-REASON"
    "BROKEN" "CLOSED"
    ;; Restarts
    "RETRY-FORM" "SKIP-FORM"))

@@ -1,6 +1,6 @@
 (defsystem "pazturrok-client"
-  :version "0.2.0"
-  :description "Starts Pazturrok over a folder, sends it forms and reads its answers."
+  :version "0.3.0"
+  :description "Sends forms to a store of Pazturrok, a program or a library in this process, and reads its answers."
   :depends-on ("uiop")
   :serial t
   :components ((:file "package")
@@ -10,6 +10,7 @@
                (:file "answers")
                (:file "texts")
                (:file "process")
+               (:file "library")
                (:file "store"))
   :in-order-to ((test-op (test-op "pazturrok-client/tests"))))
 

@@ -3,7 +3,7 @@
 (in-package "PAZTURROK-CLIENT")
 
 (defstruct (store (:constructor make-store (words naming time-limit opening-limit)) (:copier nil))
-  "A program over a folder. It belongs to one thread at a time."
+  "A program over a folder, or a library in this process. It belongs to one thread at a time."
   words
   naming
   time-limit
@@ -25,14 +25,20 @@
 
 (defun store-process (store)
   "The process of the program, as UIOP has it, or NIL."
-  (and (store-program store) (program-process (store-program store))))
+  (and (program-p (store-program store)) (program-process (store-program store))))
+
+(defun in-process-p (store)
+  "Whether the store is a library in this process: its first word says so, and the others are its path and folder."
+  (eq (first (store-words store)) :library))
 
 ;;; Texts to and fro
 
 (defun end-session (store state)
   "Ends the program, and gives its status and what it wrote to standard error."
   (setf (store-state store) state)
-  (end (store-program store)))
+  (if (library-p (store-program store))
+      (close-library (store-program store))
+      (end (store-program store))))
 
 (defun stop (store seconds)
   "Signals why the program says no more."
@@ -43,14 +49,30 @@
           (error 'stopped :status status :fault fault)))))
 
 (defun ends-session-p (store answer)
-  (let ((number (refusal-of answer)))
+  (let ((number (and (not (in-process-p store)) (refusal-of answer))))
     (and number (or (<= number 25) (member "--strict" (store-words store) :test #'equal)))))
 
 (defun exchange (store texts receive seconds)
   "Sends the texts of whole forms, and calls RECEIVE with the text of each answer, up to one that ends the
-session. The store is broken before anything is sent, and good when all is read: whatever leaves this
-function in another way leaves it broken."
+session."
   (check-type seconds (or null (real (0))))
+  (if (in-process-p store)
+      (exchange-in-process store texts receive seconds)
+      (exchange-by-pipe store texts receive seconds)))
+
+(defun exchange-in-process (store texts receive seconds)
+  "No answer is left unread here, so only a fault breaks the store."
+  (when seconds (error "a store in this process has no time limits"))
+  (handler-bind (((or fault broken) (lambda (condition)
+                                      (declare (ignore condition))
+                                      (setf (store-state store) :broken))))
+    (mapc receive (library-answers (store-program store) texts)))
+  (incf (store-round-trips store))
+  (setf (store-state store) :good))
+
+(defun exchange-by-pipe (store texts receive seconds)
+  "The store is broken before anything is sent, and good when all is read: whatever leaves this function in
+another way leaves it broken."
   (let ((program (store-program store)))
     (setf (store-state store) :broken
           (program-overdue-p program) nil)
@@ -96,11 +118,18 @@ function in another way leaves it broken."
           (naming-bare (store-naming store)) (remove nil (rest named))
           (store-state store) :good)))
 
+(defun start (store)
+  (if (in-process-p store)
+      (destructuring-bind (path folder existing) (rest (store-words store))
+        (open-library path folder existing))
+      (launch (store-words store))))
+
 (defun open-program (store)
-  "Starts the program, and waits until the store is open."
+  "Starts the program, or calls the library, and waits until the store is open."
   (setf (store-state store) :broken
         (store-homes store) '()
-        (store-program store) (launch (store-words store)))
+        (store-program store) nil
+        (store-program store) (start store))
   (unwind-protect (ask-naming store (store-opening-limit store))
     (unless (eq (store-state store) :good) (end-session store :broken))))
 
@@ -112,8 +141,10 @@ function in another way leaves it broken."
     (:broken (error 'broken))
     (:closed (error 'closed))))
 
-(defun open-store (program folder &key (package *package*) intern time-limit opening-time-limit options)
-  "Starts PROGRAM over FOLDER, and gives the store when it is open.
+(defun open-store (program folder &key (package *package*) intern time-limit opening-time-limit options existing)
+  "Starts PROGRAM over FOLDER, and gives the store when it is open. Where PROGRAM is :LIBRARY, or a list of it and the
+path of libpazturrok.so, the store is in this process, and has no time limits and no options; EXISTING refuses a
+folder that holds none.
 
 PACKAGE stands for the store's COMMON-LISP-USER: symbols without a prefix are those that it finds. A name in
 an answer that the image has no symbol for becomes a symbol of a package of the client's own, as
@@ -123,11 +154,36 @@ OPTIONS are further words of the command line, as (\"--snapshot-every\" \"1000\"
   (flet ((word (file) (if (pathnamep file) (uiop:native-namestring file) file)))
     (let* ((own '("--rescue" "--group"))
            (further (remove-if (lambda (option) (member option own :test #'equal)) options))
-           (store (make-store (append (list (word program) "run" (word folder)) own further)
+           (words (if (library-word-p program)
+                      (let ((path (and (consp program) (second program))))
+                        (list :library (and path (word path)) (word folder) existing))
+                      (append (list (word program) "run" (word folder)) own further (and existing '("--existing")))))
+           (store (make-store words
                               (make-naming :package (find-package package) :interns-p intern)
                               time-limit opening-time-limit)))
+      (when (and (library-word-p program) (or time-limit opening-time-limit options))
+        (error "a store in this process has no time limits and no options"))
       (open-program store)
       store)))
+
+(defun snapshot (store)
+  "Takes a snapshot of a store in this process: the next opening reads the world, and not each form that made it."
+  (let ((line (call-library store #'library-snapshot)))
+    (when line
+      (multiple-value-bind (number name) (refusal-of line)
+        (error 'refused :number number :name name)))))
+
+(defun figures (store)
+  "The generation, the number of records and the version of the file in use of a store in this process."
+  (call-library store #'library-figures))
+
+(defun call-library (store function)
+  (unless (in-process-p store) (error "the store is a program, and no library in this process"))
+  (make-ready store)
+  (handler-bind (((or fault broken) (lambda (condition)
+                                      (declare (ignore condition))
+                                      (setf (store-state store) :broken))))
+    (funcall function (store-program store))))
 
 (defun close-store (store)
   "Ends the session, and gives the status of the program. What was answered is in the store. It waits ten
@@ -211,12 +267,15 @@ ones, and the condition that kept it from going on, or NIL."
   "How many characters are sent before their answers are read: as many as any pipe takes. So no pipe is ever
 full while both programs write.")
 
-(defun first-texts (texts)
-  "How many of the first texts can be sent at once: at least one, and then as many as a pipe has room for; up
-to the first one that changes how symbols are printed."
+(defconstant +library-room+ 1000000
+  "How many characters are handed to the library at once, which are logged together.")
+
+(defun first-texts (texts total)
+  "How many of the first texts can be sent at once: at least one, and then as many as TOTAL has room for; up to
+the first one that changes how symbols are printed."
   (loop for text in texts
         for count from 1
-        for room = (- +pipe-room+ 1 (length text)) then (- room 1 (length text))
+        for room = (- total 1 (length text)) then (- room 1 (length text))
         when (and (minusp room) (> count 1)) return (1- count)
         when (changes-naming-p text) return count
         finally (return (length texts))))
@@ -225,7 +284,7 @@ to the first one that changes how symbols are printed."
   "The outcomes of all texts. A condition that keeps the store from going on is signalled."
   (let ((outcomes '()))
     (loop while texts
-          do (let ((group (subseq texts 0 (first-texts texts))))
+          do (let ((group (subseq texts 0 (first-texts texts (if (in-process-p store) +library-room+ +pipe-room+)))))
                (multiple-value-bind (done hindrance) (carry-out store group seconds)
                  (setf outcomes (revappend done outcomes)
                        texts (nthcdr (length done) texts))

@@ -1,6 +1,8 @@
+pub mod AtOnce
 pub mod AtRest
 pub mod Cutting
 pub mod Growing
+pub mod InMemory
 pub mod Looked
 pub mod Looking
 pub mod Opening

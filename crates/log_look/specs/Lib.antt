@@ -2,6 +2,7 @@ pub mod Cut
 pub mod Host
 pub mod Kept
 pub mod Live
+pub mod Moments
 pub mod Rest
 pub mod Seen
 pub mod SeenState

@@ -12,6 +12,7 @@
 //!
 //! - `live`: the trait `LiveFiles`, two files that somebody else may be writing. `host`: `HostFiles`, two of the operating system,
 //!   and `look_into`, a look into the files of a folder.
+//! - `moments`: `MomentFiles`, two files in memory that change from read to read: an honest one, for tests.
 //! - `tries`: the look, in tries. `whole` reads a file to its end, and `heads` the headers.
 //! - `sight`: `Sight`, the bytes that were seen, as a disk that takes no write.
 //! - `opened`: the log of a sight. `cut`: a sight with no more than its first records.
@@ -24,6 +25,7 @@ mod heads;
 mod host;
 mod laws;
 mod live;
+mod moments;
 mod opened;
 mod sight;
 mod tries;
@@ -34,6 +36,7 @@ pub use error::{LogError, LookError};
 pub use host::{Figures, HostFiles, look_into};
 pub use laws::a_sight_means_the_same;
 pub use live::LiveFiles;
+pub use moments::{Moment, MomentFiles};
 pub use opened::{open_at, open_sight};
 pub use sight::Sight;
 pub use tries::look;

@@ -27,7 +27,8 @@ use std::random::RandomSource;
 use std::rt::Files;
 use std::time::Clock;
 use store_reports::{
-    BackupError, Layout, Selection, ShowError, backup, half_figures, info, log_lines, show,
+    BackupError, Layout, LogPart, Selection, ShowError, backup, half_figures, info, log_lines,
+    show,
 };
 use user_macros::MacroFunctions;
 
@@ -202,7 +203,12 @@ where
         Look::Show(shown) => show_on(alloc, sight, macros, seed, shown, output),
         Look::Info => info_on(rt, looked.folder, sight, macros, seed, output),
         Look::Log(from) => {
-            let lines = log_lines(alloc, sight, from)?;
+            let part = LogPart {
+                from,
+                generation: None,
+                with_generation: false,
+            };
+            let lines = log_lines(alloc, sight, &part)?;
             write_told(output, lines.as_slice())
         }
         Look::Backup(to) => back_up(rt, sight, macros, seed, to),
@@ -332,7 +338,7 @@ where
         None => Err(AllocError),
     };
     let _ = store.close();
-    write_told(output, text?.as_bytes())
+    write_told(output, text?.as_slice())
 }
 
 // Makes a new store of the world that was seen.

@@ -1,1 +1,4 @@
 pub mod Backup
+pub mod Escaped
+pub mod Figures
+pub mod Log

@@ -5,7 +5,7 @@ ghost use Rattle.gate_log.specs.Log.{FilesMean};
 ghost use Rattle.store_reports.specs.Backup.{HoldsWorld};
 
 use disk_trait::{Disk, HostDisk, HostError, IfMissing};
-use gate_log::{Halves, OpenRefusal, ReadError, StartError};
+use gate_log::{Halves, OpenRefusal, ReadError, StartError, shown_is_meant};
 use lisp_object::refusal::{DAMAGED, DEVICE, NO_MEMORY, SNAPSHOT_TOO_LARGE, VERSION};
 use plist_state::World;
 use std::alloc::{AllocError, Global};
@@ -15,6 +15,9 @@ use std::rt::Files;
 use std::{fs, io};
 use thiserror::Error;
 use world_text::write;
+
+/// How many folders of unfinished backups may be beside one that is made.
+const PARTIALS: u32 = 1000;
 
 /// Why there is no backup.
 #[derive(Debug, Drop, Error)]
@@ -97,8 +100,9 @@ pub fn backup_onto<D: Disk + Drop>(
 ) -> Result<D, BackupError>
     requires { (D.state disk).failures < 2 ^ 64 - 1 }
     ensures holds { IfOk result (λ back. IsHonest (D.state disk)
-        → FilesMean None (D.state disk).reads → HoldsWorld world.now.0 (D.state back)) }
+        → HoldsWorld world.now.0 (D.state back)) }
 {
+    shown_is_meant();
     let text = write(alloc, world)?;
     let mut log = match Halves::open(alloc, disk, limit) {
         Ok(log) => log,
@@ -114,8 +118,9 @@ pub fn backup_onto<D: Disk + Drop>(
 }
 
 /// Makes a new store in `dir`, where there may be nothing yet, with a world as its snapshot, in halves of `limit` bytes at most. It is
-/// made in a folder beside it, whose name ends in `.partial`, synced, opened again and compared, and then gets its name; so nothing half
-/// made is ever at `dir`. After an error that folder is taken away.
+/// made in a folder of its own beside it, `dir` with `.partial` behind, or with `.partial-2` and so on where that is there already; synced,
+/// opened again and compared; and then gets its name. So nothing half made is ever at `dir`. After an error neither folder is left.
+/// Slashes at the end of `dir` are left out.
 ///
 /// # Errors
 ///
@@ -127,27 +132,63 @@ pub fn backup<R: Files<File = File> + AllocGlobal>(
     dir: &str,
     limit: u64,
 ) -> Result<(), BackupError> {
+    let dir = free_place(rt, dir)?;
     let partial = begin(rt, dir)?;
-    match make_at(rt, world, partial.as_str(), limit) {
-        Ok(()) => put_in_place(rt, partial.as_str(), dir),
-        Err(error) => {
-            take_away(rt, partial.as_str());
-            Err(error)
-        }
+    let made = make_and_place(rt, world, partial.as_str(), dir, limit);
+    if made.is_err() {
+        take_away(rt, partial.as_str());
     }
+    made
 }
 
-// Makes the folder in which a backup is made, and gives its name.
-fn begin<R: Files<File = File> + AllocGlobal>(rt: &R, dir: &str) -> Result<String, BackupError> {
+// The name of a place where there is nothing, without slashes at its end.
+fn free_place<'a, R: Files<File = File> + AllocGlobal>(
+    rt: &R,
+    dir: &'a str,
+) -> Result<&'a str, BackupError> {
     if dir.is_empty() {
         return Err(BackupError::Host(HostError::NoName));
     }
-    if fs::symlink_metadata(rt, dir).is_ok() {
+    let name = dir.trim_end_matches('/');
+    if name.is_empty() || fs::symlink_metadata(rt, name).is_ok() {
         return Err(BackupError::Exists);
     }
-    let partial = format!(in rt.alloc(); "{dir}.partial")?;
-    fs::create_dir(rt, partial.as_str())?;
-    Ok(partial)
+    Ok(name)
+}
+
+// Makes the folder in which a backup is made, and gives its name. One that another backup left, or makes now, is not touched.
+fn begin<R: Files<File = File> + AllocGlobal>(rt: &R, dir: &str) -> Result<String, BackupError> {
+    'names: for number in 1..=PARTIALS {
+        let partial = partial_name(rt.alloc(), dir, number)?;
+        match fs::create_dir(rt, partial.as_str()) {
+            Ok(()) => return Ok(partial),
+            Err(error) if error.kind() == io::ErrorKind::AlreadyExists => {}
+            Err(error) => return Err(BackupError::from(error)),
+        }
+    }
+    Err(BackupError::from(io::Error::from(
+        io::ErrorKind::AlreadyExists,
+    )))
+}
+
+fn partial_name(alloc: Global, dir: &str, number: u32) -> Result<String, AllocError> {
+    if number == 1 {
+        format!(in alloc; "{dir}.partial")
+    } else {
+        format!(in alloc; "{dir}.partial-{number}")
+    }
+}
+
+// Makes a backup in one folder, and gives it the name of the other.
+fn make_and_place<R: Files<File = File> + AllocGlobal>(
+    rt: &R,
+    world: &World,
+    partial: &str,
+    dir: &str,
+    limit: u64,
+) -> Result<(), BackupError> {
+    make_at(rt, world, partial, limit)?;
+    put_in_place(rt, partial, dir)
 }
 
 // Makes a backup, and opens it again.
@@ -199,19 +240,23 @@ fn holds_text<R: Files<File = File> + AllocGlobal>(
     }
 }
 
-// Gives the folder its name. That it has it then lasts.
+// Gives the folder its name. That it has it then lasts; where that is not sure, it is taken away.
 fn put_in_place<R: Files<File = File> + AllocGlobal>(
     rt: &R,
     partial: &str,
     dir: &str,
 ) -> Result<(), BackupError> {
+    let parent = Path::new(partial).join(rt.alloc(), "..")?;
+    let parent = File::open(rt, parent.as_path())?;
     rt.rename(partial, dir)?;
-    let parent = Path::new(dir).join(rt.alloc(), "..")?;
-    File::open(rt, parent.as_path())?.sync_all()?;
+    if let Err(error) = parent.sync_all() {
+        take_away(rt, dir);
+        return Err(BackupError::from(error));
+    }
     Ok(())
 }
 
-// Takes a folder away in which no backup came about.
-fn take_away<R: Files<File = File> + AllocGlobal>(rt: &R, partial: &str) {
-    let _ = fs::remove_dir_all(rt, partial);
+// Takes a folder away that was made here.
+fn take_away<R: Files<File = File> + AllocGlobal>(rt: &R, made: &str) {
+    let _ = fs::remove_dir_all(rt, made);
 }

@@ -1,19 +1,41 @@
 //! Text for a line of a terminal.
+ghost use Rattle.std.specs.Prelude.{◌≡◌, ◌<◌, ◌++◌, OnOk};
+ghost use Rattle.store_reports.specs.Escaped.{escaped, escaped_byte, hexadecimal};
+
 use std::alloc::AllocError;
 
-/// The digits of a number in base 16.
-const DIGITS: [u8; 16] = *b"0123456789ABCDEF";
-
-/// Adds a text to a line: each control character as `\x` and its code in base 16, so that the text is one line and no terminal obeys it.
-pub(crate) fn push_escaped(line: &mut Vec<u8>, text: &[u8]) -> Result<(), AllocError> {
+/// Adds a text to a line, each byte as a line can have it: a backslash as two, and a control character and a byte over 126 as `\x` and its
+/// code in base 16. So the text is one line, no terminal obeys it, and it can be told from the line.
+pub(crate) fn push_escaped(line: &mut Vec<u8>, text: &[u8]) -> Result<(), AllocError>
+    ensures { OnOk result (line.new.items ≡ line.old.items ++ escaped text.now) }
+{
     for byte in text {
-        if byte.is_ascii_control() || *byte > 126 {
-            let high = DIGITS[(*byte / 16) as usize];
-            let low = DIGITS[(*byte % 16) as usize];
-            line.extend_from_slice(&[b'\\', b'x', high, low])?;
-        } else {
-            line.push(*byte)?;
-        }
+        push_byte(line, *byte)?;
     }
     Ok(())
+}
+
+fn push_byte(line: &mut Vec<u8>, byte: u8) -> Result<(), AllocError>
+    ensures { OnOk result (line.new.items ≡ line.old.items ++ escaped_byte byte) }
+{
+    if byte == b'\\' {
+        line.extend_from_slice(&[b'\\', b'\\'])
+    } else if byte < 32 || byte > 126 {
+        line.extend_from_slice(&[b'\\', b'x', digit(byte / 16), digit(byte % 16)])
+    } else {
+        line.push(byte)?;
+        Ok(())
+    }
+}
+
+// A digit in base 16.
+fn digit(value: u8) -> u8
+    requires { value < 16 }
+    ensures { result ≡ hexadecimal value }
+{
+    if value < 10 {
+        b'0' + value
+    } else {
+        b'A' + (value - 10)
+    }
 }

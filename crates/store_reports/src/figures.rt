@@ -1,9 +1,13 @@
 //! Figures of a store.
-ghost use Rattle.std.specs.Prelude.{◌≡◌, ◌-◌, ◌^◌, ◌<◌};
+ghost use Rattle.std.specs.Prelude.{◌≡◌, ◌+◌, ◌-◌, ◌^◌, ◌<◌, ◌++◌, length, IfErr, IfOk, OnOk};
+ghost use Rattle.log_look.specs.Cut.{IsUnopened};
+ghost use Rattle.package_table.specs.Readers.{package_names};
+ghost use Rattle.plist_state.specs.Readers.{borrowed_symbols, symbols_with_properties};
+ghost use Rattle.store_reports.specs.Figures.{AreFiguresOf, counts_in, files_text, half_line, half_text, info_text, known_figure, property_count, symbol_count, told_number, world_text};
 
+use crate::numbers::push_figure;
 use disk_trait::{Disk, Half};
-use gate_log::Halves;
-use log_look::{Figures, LogError};
+use log_look::{Figures, LogError, Sight, open_sight};
 use package_table::Packages;
 use plist_state::World;
 use std::alloc::{AllocError, Global};
@@ -19,18 +23,19 @@ pub struct HalfFigures {
     pub bytes: u64,
 }
 
-/// What is told of the half in use of the log that a disk holds, and the disk.
+/// What is told of the half in use of what was seen, and the sight as it was. Where no half is open it is half A, and its numbers are 0.
 ///
 /// # Errors
 ///
-/// `Damaged` and `UnknownVersion` where the disk holds no log that can be read.
-pub fn half_figures<D: Disk + Drop>(alloc: Global, disk: D) -> Result<(HalfFigures, D), LogError>
-    requires { (D.state disk).failures < 2 ^ 64 - 1 }
+/// `Damaged` and `UnknownVersion` where the sight holds no log that can be read. Out of memory.
+pub fn half_figures(alloc: Global, sight: Sight) -> Result<(HalfFigures, Sight), LogError>
+    requires { (⟦<Sight as Disk>⟧.state sight).failures < 2 ^ 64 - 1 }
+    ensures figures { IfOk result (λ told. AreFiguresOf (⟦<Sight as Disk>⟧.state sight).reads told.0) }
+    ensures reads { IfOk result (λ told. (⟦<Sight as Disk>⟧.state told.1).reads ≡ (⟦<Sight as Disk>⟧.state sight).reads) }
+    ensures room { IfOk result (λ told. (⟦<Sight as Disk>⟧.state told.1).failures ≡ (⟦<Sight as Disk>⟧.state sight).failures) }
+    ensures refused { IfErr result (λ e. IsUnopened e (⟦<Sight as Disk>⟧.state sight).reads) }
 {
-    let log = match Halves::open(alloc, disk, u64::MAX) {
-        Ok(log) => log,
-        Err(error) => return Err(LogError::from(error.refusal)),
-    };
+    let log = open_sight(alloc, sight)?;
     let figures = HalfFigures {
         half: log.half(),
         version: log.version(),
@@ -41,10 +46,21 @@ pub fn half_figures<D: Disk + Drop>(alloc: Global, disk: D) -> Result<(HalfFigur
     Ok((figures, log.into_disk()))
 }
 
+// How many packages there are.
+fn package_count(alloc: Global, packages: &Packages) -> Result<u64, AllocError>
+    ensures { IfOk result (λ count. count ≡ length (package_names packages.now.0)) }
+{
+    let names = packages.package_names(alloc)?;
+    Ok(names.len() as u64)
+}
+
 // How many symbols are at home in the packages.
-fn symbol_count(alloc: Global, packages: &Packages) -> Result<u64, AllocError> {
+fn symbol_count(alloc: Global, packages: &Packages) -> Result<u64, AllocError>
+    ensures { IfOk result (λ count. count ≡ told_number (symbol_count packages.now.0)) }
+{
     let mut count = 0u64;
-    for name in packages.package_names(alloc)? {
+    let names = packages.package_names(alloc)?;
+    for name in names.as_slice() {
         let Ok(names) = packages.own_names(alloc, name) else {
             return Err(AllocError);
         };
@@ -53,23 +69,17 @@ fn symbol_count(alloc: Global, packages: &Packages) -> Result<u64, AllocError> {
     Ok(count)
 }
 
-// How many symbols have properties, and how many properties there are.
-fn property_counts(alloc: Global, world: &World) -> Result<(u64, u64), AllocError> {
-    let owners = world.owners(alloc)?;
+// How many properties the symbols have that have some.
+fn property_count(world: &World, owners: &[(&[u8], &[u8])]) -> u64
+    requires { borrowed_symbols owners.now ≡ symbols_with_properties world.now.0 }
+    ensures { result ≡ told_number (property_count world.now.0) }
+{
     let mut count = 0u64;
-    for (home, name) in owners.as_slice() {
-        let properties = world.plist_of(home, name);
-        count = count.saturating_add(properties.len() as u64);
+    for owner in owners {
+        let (home, name) = *owner;
+        count = count.saturating_add(world.plist_of(home, name).len() as u64);
     }
-    Ok((owners.len() as u64, count))
-}
-
-// A line on the age of a file, where it is known.
-fn age_line(alloc: Global, name: &str, age: Option<u64>) -> Result<String, AllocError> {
-    match age {
-        Some(age) => format!(in alloc; "{name}-age {age}\n"),
-        None => Ok(String::new(alloc)),
-    }
+    count
 }
 
 /// The figures of a store, a line each: a name and a number. Ages are in seconds; the line of one that is not known is left out.
@@ -82,26 +92,90 @@ pub fn info(
     half: &HalfFigures,
     world: &World,
     files: &Figures,
-) -> Result<String, AllocError> {
-    let letter = match half.half {
-        Half::A => "A",
-        Half::B => "B",
+) -> Result<Vec<u8>, AllocError>
+    ensures { IfOk result (λ text. text.items ≡ info_text half.now world.now.0 files.now) }
+{
+    let mut text = Vec::new(alloc);
+    push_half(alloc, &mut text, half)?;
+    push_world(alloc, &mut text, world)?;
+    push_files(alloc, &mut text, files)?;
+    Ok(text)
+}
+
+fn push_letter(text: &mut Vec<u8>, half: Half) -> Result<(), AllocError>
+    ensures { OnOk result (text.new.items ≡ text.old.items ++ half_line half) }
+{
+    let line: &[u8] = match half {
+        Half::A => b"half A\n",
+        Half::B => b"half B\n",
     };
-    let log = format!(in alloc;
-        "half {letter}\nversion {}\ngeneration {}\nrecords {}\nbytes {}\n",
-        half.version, half.generation, half.records, half.bytes
-    )?;
-    let packages = world.packages().package_names(alloc)?.len();
+    text.extend_from_slice(line)
+}
+
+fn push_half(alloc: Global, text: &mut Vec<u8>, half: &HalfFigures) -> Result<(), AllocError>
+    ensures { OnOk result (text.new.items ≡ text.old.items ++ half_text half.now) }
+{
+    push_letter(text, half.half)?;
+    push_figure(alloc, text, b"version", half.version as u64)?;
+    push_figure(alloc, text, b"generation", half.generation)?;
+    push_figure(alloc, text, b"records", half.records)?;
+    push_figure(alloc, text, b"bytes", half.bytes)
+}
+
+// How much is in a world.
+#[derive(Clone, Copy)]
+struct Counts {
+    packages: u64,
+    symbols: u64,
+    owners: u64,
+    properties: u64,
+}
+
+fn counts_of(alloc: Global, world: &World) -> Result<Counts, AllocError>
+    ensures { IfOk result (λ counts. counts ≡ counts_in world.now.0) }
+{
+    let packages = package_count(alloc, world.packages())?;
     let symbols = symbol_count(alloc, world.packages())?;
-    let (owners, properties) = property_counts(alloc, world)?;
-    let counts = format!(in alloc;
-        "packages {packages}\nsymbols {symbols}\nsymbols-with-properties {owners}\nproperties {properties}\n"
-    )?;
-    let sizes = format!(in alloc;
-        "half-a-bytes {}\nhalf-b-bytes {}\n",
-        files.bytes_a, files.bytes_b
-    )?;
-    let age_a = age_line(alloc, "half-a", files.age_a)?;
-    let age_b = age_line(alloc, "half-b", files.age_b)?;
-    format!(in alloc; "{log}{counts}{sizes}{age_a}{age_b}")
+    let owners = world.owners(alloc)?;
+    let properties = property_count(world, owners.as_slice());
+    Ok(Counts {
+        packages,
+        symbols,
+        owners: owners.len() as u64,
+        properties,
+    })
+}
+
+fn push_world(alloc: Global, text: &mut Vec<u8>, world: &World) -> Result<(), AllocError>
+    ensures { OnOk result (text.new.items ≡ text.old.items ++ world_text world.now.0) }
+{
+    let counts = counts_of(alloc, world)?;
+    push_figure(alloc, text, b"packages", counts.packages)?;
+    push_figure(alloc, text, b"symbols", counts.symbols)?;
+    push_figure(alloc, text, b"symbols-with-properties", counts.owners)?;
+    push_figure(alloc, text, b"properties", counts.properties)
+}
+
+fn push_files(alloc: Global, text: &mut Vec<u8>, files: &Figures) -> Result<(), AllocError>
+    ensures { OnOk result (text.new.items ≡ text.old.items ++ files_text files.now) }
+{
+    push_figure(alloc, text, b"half-a-bytes", files.bytes_a)?;
+    push_figure(alloc, text, b"half-b-bytes", files.bytes_b)?;
+    push_known(alloc, text, b"half-a-age", files.age_a)?;
+    push_known(alloc, text, b"half-b-age", files.age_b)
+}
+
+// A line of a number, where it is known.
+fn push_known(
+    alloc: Global,
+    text: &mut Vec<u8>,
+    name: &[u8],
+    number: Option<u64>,
+) -> Result<(), AllocError>
+    ensures { OnOk result (text.new.items ≡ text.old.items ++ known_figure name.now number) }
+{
+    match number {
+        Some(number) => push_figure(alloc, text, name, number),
+        None => Ok(()),
+    }
 }

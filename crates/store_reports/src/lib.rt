@@ -12,11 +12,12 @@ mod backups;
 mod escaped;
 mod figures;
 mod log;
+mod numbers;
 mod selection;
 mod showing;
 
 pub use backups::{BackupError, backup, backup_onto};
 pub use figures::{HalfFigures, half_figures, info};
-pub use log::log_lines;
+pub use log::{LogPart, log_lines};
 pub use selection::{Layout, Selection};
 pub use showing::{ShowError, show};

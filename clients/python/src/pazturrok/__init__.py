@@ -1,14 +1,17 @@
-"""A client of Pazturrok: it starts the program over a folder, sends it forms and reads their values.
+"""A client of Pazturrok: it sends forms to a store, and reads their values.
 
     with Store("store") as store:
         store.execute("(SETF (GET 'APPLE 'PRICE) 7)")
 
-docs/run/protocol.md of the repository says how it is used, and what goes to and fro.
+A Store starts the program over a folder; an EmbeddedStore has the store in this process, by the library.
+README.md beside pyproject.toml says how they are used, docs/run/protocol.md what goes to and fro.
 """
 
+from .embedded import EmbeddedStore
 from .errors import (
     BrokenStoreError,
     ClosedStoreError,
+    FaultError,
     MalformedAnswerError,
     RefusedError,
     StoppedError,
@@ -26,6 +29,8 @@ __all__ = [
     "Character",
     "ClosedStoreError",
     "DottedList",
+    "EmbeddedStore",
+    "FaultError",
     "MalformedAnswerError",
     "RefusedError",
     "StoppedError",
@@ -40,4 +45,4 @@ __all__ = [
     "printed",
     "quote",
 ]
-__version__ = "0.2.0"
+__version__ = "0.3.0"

@@ -54,6 +54,19 @@ class UnansweredError(StoreError):
     outcomes: list[Any] = []  # noqa: RUF012
 
 
+class FaultError(UnansweredError):
+    """The library could not open the store, or its device failed: the number, its name and the cause.
+
+    Whether the form is in the store is not known, and the store is broken.
+    """
+
+    def __init__(self, number: int, name: str, cause: str) -> None:
+        super().__init__(f"{number} {name}" + (f": {cause}" if cause else ""))
+        self.number = number
+        self.name = name
+        self.cause = cause
+
+
 class StoppedError(UnansweredError):
     """The program has ended; `fault` is all that it wrote to standard error."""
 

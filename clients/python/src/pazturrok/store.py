@@ -3,12 +3,13 @@
 from __future__ import annotations
 
 import enum
+import itertools
 import os
 import re
 import threading
-from collections.abc import Iterable, Sequence
+from collections.abc import Callable, Iterable, Iterator, Sequence
 from types import TracebackType
-from typing import Union
+from typing import Protocol, Union
 
 from .answers import parse_answer, refusal_of
 from .errors import (
@@ -33,6 +34,18 @@ NAMING_QUESTION = f"(LIST *PACKAGE* {' '.join(chr(39) + name for name in sorted(
 
 CHANGES_NAMING = re.compile(r"IN-PACKAGE|USE-PACKAGE|IMPORT|EXPORT", re.IGNORECASE)
 """What stands in a form that may change how symbols are printed, where its escapes and bars are left out."""
+
+
+class Link(Protocol):
+    """What executes the texts of forms: a program that runs, or the library in this process."""
+
+    def exchange(
+        self, texts: Sequence[str], answers: list[str], is_last: Callable[[str], bool], seconds: float | None
+    ) -> None:
+        """Executes texts, and appends the answer to each, up to one that is the last of the session."""
+
+    def end(self, limit: float | None = None) -> tuple[int, str]:
+        """Ends it, and gives its status and what it told of faults."""
 
 
 class State(enum.Enum):
@@ -63,13 +76,19 @@ class Store:
         own = ["--rescue", "--group"]
         further = [word for word in options if word not in own]
         self._words = [os.fspath(program), "run", os.fspath(folder), *own, *further]
+        self._begin(time_limit, opening_time_limit)
+
+    def _begin(self, time_limit: float | None, opening_time_limit: float | None) -> None:
         self._time_limit = time_limit
         self._opening_time_limit = opening_time_limit
         self._lock = threading.RLock()
         self._state = State.CLOSED
-        self._program: Program | None = None
+        self._program: Link | None = None
         self._round_trips = 0
         self._open()
+
+    def _start(self) -> Link:
+        return Program(self._words)
 
     @property
     def state(self) -> State:
@@ -84,7 +103,7 @@ class Store:
     @property
     def pid(self) -> int | None:
         """The number of the program's process."""
-        return self._program.process.pid if self._program else None
+        return self._program.process.pid if isinstance(self._program, Program) else None
 
     def __enter__(self) -> Store:
         return self
@@ -99,7 +118,7 @@ class Store:
     def _open(self) -> None:
         self._state = State.BROKEN
         self._packages: set[str] = set()
-        self._program = Program(self._words)
+        self._program = self._start()
         try:
             self._ask_naming(self._opening_time_limit)
         finally:
@@ -159,6 +178,17 @@ class Store:
                     raise outcome
         return outcomes
 
+    def iterate(
+        self, forms: Iterable[Form], *, at_once: int = 1000, time_limit: float | None = None
+    ) -> Iterator[Outcome]:
+        """Sends forms as they come, so many of them at once, and gives the value of each, or its exception.
+
+        Forms may be without end: no more of them, and of their values, are held than are sent at once.
+        """
+        remaining = iter(forms)
+        while some := list(itertools.islice(remaining, at_once)):
+            yield from self.execute_all(some, time_limit=time_limit, raise_on_refusal=False)
+
     def _text(self, form: Form, seconds: float | None) -> str:
         """The text of a form, which some session can read."""
         if not isinstance(form, str):
@@ -180,7 +210,7 @@ class Store:
                 raise UnsendableError(form, f"the store has no package {package!r}")
             self._packages.add(package)
 
-    def _make_ready(self) -> Program:
+    def _make_ready(self) -> Link:
         """The program of a store that can be sent to."""
         if self._state is State.BROKEN:
             raise BrokenStoreError
@@ -203,7 +233,7 @@ class Store:
         *before, last = answers
         outcomes += map(self._outcome, before)
         place = self._end_session() if self._ends_session(last) else None
-        if place is None and _changes_naming(texts[-1]):
+        if place is None and changes_naming(texts[-1]):
             self._ask_naming(seconds)
         outcomes.append(self._outcome(last, place))
 
@@ -262,7 +292,7 @@ class Store:
             return error
 
 
-def _changes_naming(text: str) -> bool:
+def changes_naming(text: str) -> bool:
     """Whether the form may change how symbols are printed after it."""
     return CHANGES_NAMING.search(re.sub(r"[\\|]", "", text)) is not None
 
@@ -270,6 +300,6 @@ def _changes_naming(text: str) -> bool:
 def _first_texts(texts: list[str]) -> list[str]:
     """The first texts, up to one that may change how symbols are printed."""
     for place, text in enumerate(texts):
-        if _changes_naming(text):
+        if changes_naming(text):
             return texts[: place + 1]
     return texts

@@ -1,0 +1,379 @@
+/* Calls of the library as its header has them, and others: over a folder that is thrown away, which is the first argument. It tells what
+   was not as it is to be; the last line is `N passed, M failed`. */
+#include "pazturrok.h"
+#include <fcntl.h>
+#include <pthread.h>
+#include <signal.h>
+#include <stdbool.h>
+#include <stdio.h>
+#include <stdlib.h>
+#include <string.h>
+#include <sys/stat.h>
+#include <sys/time.h>
+#include <sys/wait.h>
+#include <unistd.h>
+
+static int passed, failed;
+static const char *room;
+/* Whether calls take long, as under valgrind: signals come less often then, and less is done. */
+static bool is_slow;
+
+#define EXPECT(holds) expect(holds, #holds, __LINE__)
+
+static void expect(bool holds, const char *what, int line) {
+    if (holds) passed++;
+    else printf("calls: line %d: %s\n", line, what), failed++;
+}
+
+/* How a child ended, by its status. */
+#define EXPECT_STATUS(status) expect_status(status, __LINE__)
+
+static void expect_status(int status, int line) {
+    if (status != 0) printf("calls: line %d: a child ended with %d\n", line, WEXITSTATUS(status));
+    expect(status == 0, "status == 0", line);
+}
+
+static const char *folder(const char *name) {
+    static char path[4096];
+    (void)snprintf(path, sizeof path, "%s/%s", room, name);
+    return path;
+}
+
+static pazturrok_store opened(const char *name) {
+    pazturrok_store store = 0;
+    pazturrok_fault fault;
+    if (pazturrok_open(folder(name), 0, &store, &fault) != 0) printf("calls: %s: %d %s\n", name, fault.number, fault.cause);
+    return store;
+}
+
+static int execute(pazturrok_store store, const char *text, const char **answer) {
+    return pazturrok_execute(store, PAZTURROK_CURRENT, text, strlen(text), answer, NULL);
+}
+
+static bool answers(pazturrok_store store, const char *text, const char *wanted) {
+    const char *answer;
+    return execute(store, text, &answer) == 0 && strcmp(answer, wanted) == 0;
+}
+
+static void forms(void) {
+    pazturrok_store store = opened("forms");
+    pazturrok_figures figures;
+    const char *answer;
+    size_t length;
+    EXPECT(answers(store, "(SETF (GET 'A 'B) 7)", "7"));
+    EXPECT(answers(store, "(INCF (GET 'A 'B))", "8"));
+    EXPECT(execute(store, "(FROB)", &answer) == 31 && answer[0] == 0);
+    EXPECT(execute(store, "(LIST 1", NULL) == 1);
+    EXPECT(execute(store, "", NULL) == 1);
+    EXPECT(execute(store, "1 2", NULL) == 26);
+    EXPECT(execute(store, "\"M\xc3\xbcller\"", NULL) == 2);
+    EXPECT(pazturrok_execute(store, PAZTURROK_CURRENT, "\"a\0b\"", 5, &answer, &length) == 0 && length == 5);
+    EXPECT(memcmp(answer, "\"a\0b\"", 6) == 0);
+    EXPECT(pazturrok_figures_of(store, &figures) == 0 && figures.generation == 1 && figures.records == 2 && figures.version == 2);
+    EXPECT(pazturrok_snapshot(store) == 0);
+    EXPECT(pazturrok_figures_of(store, &figures) == 0 && figures.generation == 2 && figures.records == 0);
+    EXPECT(answers(store, "(GET 'A 'B)", "8"));
+    EXPECT(pazturrok_close(store) == 0);
+    store = opened("forms");
+    EXPECT(answers(store, "(GET 'A 'B)", "8"));
+    EXPECT(pazturrok_close(store) == 0);
+}
+
+static void modes(void) {
+    pazturrok_store store = opened("modes");
+    const char *answer;
+    EXPECT(answers(store, "(SET-SYNTAX-FROM-CHAR #\\( #\\;)", "T"));
+    EXPECT(execute(store, "(GET 'A 'B)", NULL) == 1);
+    EXPECT(pazturrok_execute(store, PAZTURROK_RESCUE, "(LIST 10)", 9, &answer, NULL) == 0 && strcmp(answer, "(10)") == 0);
+    EXPECT(pazturrok_execute(store, 2, "1", 1, NULL, NULL) == PAZTURROK_MISUSE);
+    EXPECT(pazturrok_execute(store, -1, "1", 1, NULL, NULL) == PAZTURROK_MISUSE);
+    EXPECT(pazturrok_close(store) == 0);
+}
+
+static void bad_arguments(void) {
+    pazturrok_store store = opened("bad"), other = 1;
+    pazturrok_fault fault;
+    const char *answer = NULL, *texts[2] = {"1", NULL};
+    size_t length = 1, lengths[2] = {1, 1};
+    pazturrok_outcome outcomes[2];
+    EXPECT(pazturrok_open(NULL, 0, &other, &fault) == PAZTURROK_MISUSE && other == 0 && fault.number == PAZTURROK_MISUSE);
+    EXPECT(pazturrok_open(room, 0, NULL, NULL) == PAZTURROK_MISUSE);
+    EXPECT(pazturrok_open(room, 64, &other, NULL) == PAZTURROK_MISUSE);
+    EXPECT(pazturrok_open("", 0, &other, &fault) == 60 && strcmp(fault.cause, "the folder has no name") == 0);
+    EXPECT(pazturrok_execute(0, 0, "1", 1, &answer, &length) == 61 && answer[0] == 0 && length == 0);
+    EXPECT(pazturrok_execute(UINT64_MAX, 0, "1", 1, NULL, NULL) == 61);
+    EXPECT(pazturrok_execute(store, 0, NULL, 1, NULL, NULL) == PAZTURROK_MISUSE);
+    EXPECT(pazturrok_execute(store, 0, NULL, 0, NULL, NULL) == 1);
+    EXPECT(pazturrok_execute(store, 0, "1", SIZE_MAX, NULL, NULL) == 23);
+    EXPECT(pazturrok_execute_all(store, 0, NULL, NULL, 0, NULL) == 0);
+    EXPECT(pazturrok_execute_all(store, 0, texts, lengths, 2, outcomes) == PAZTURROK_MISUSE && outcomes[1].answer[0] == 0);
+    EXPECT(pazturrok_execute_all(store, 0, NULL, lengths, 2, outcomes) == PAZTURROK_MISUSE);
+    lengths[0] = SIZE_MAX;
+    EXPECT(pazturrok_execute_all(store, 0, texts, lengths, 1, outcomes) == 23);
+    EXPECT(pazturrok_figures_of(store, NULL) == PAZTURROK_MISUSE);
+    pazturrok_fault_of(store, &fault);
+    EXPECT(fault.number == PAZTURROK_MISUSE && fault.cause[0] != 0);
+    pazturrok_fault_of(store, NULL);
+    EXPECT(answers(store, "1", "1"));
+    EXPECT(pazturrok_close(store) == 0);
+    EXPECT(pazturrok_close(store) == 61 && pazturrok_close(0) == 61 && pazturrok_snapshot(store) == 61);
+    EXPECT(pazturrok_execute(store, 0, "1", 1, NULL, NULL) == 61);
+    pazturrok_fault_of(store, &fault);
+    EXPECT(fault.number == 61 && strcmp(fault.cause, "no store of this number is open") == 0);
+    EXPECT(strcmp(pazturrok_name(31), "UNKNOWN-OPERATOR") == 0 && strcmp(pazturrok_name(90), "NO-MEMORY") == 0);
+    EXPECT(pazturrok_name(0)[0] == 0 && pazturrok_name(-5)[0] == 0 && pazturrok_name(27)[0] == 0 && pazturrok_name(1 << 30)[0] == 0);
+}
+
+static void stale_numbers(void) {
+    pazturrok_store first = opened("stale"), second;
+    EXPECT(pazturrok_close(first) == 0);
+    second = opened("stale");
+    EXPECT(first != second && pazturrok_execute(first, 0, "1", 1, NULL, NULL) == 61 && answers(second, "1", "1"));
+    EXPECT(pazturrok_close(second) == 0);
+}
+
+/* One text at each limit and past it. */
+static void long_texts(void) {
+    pazturrok_store store = opened("long");
+    const size_t limit = 1048576;
+    char *text = malloc(limit + 2);
+    const char *answer;
+    size_t length;
+    if (!text) return;
+    memset(text, 'x', limit + 2);
+    text[0] = '"';
+    text[limit - 1] = '"';
+    EXPECT(pazturrok_execute(store, 0, text, limit, &answer, &length) == 0 && length == limit && answer[limit] == 0);
+    EXPECT(memcmp(answer, text, limit) == 0);
+    text[limit - 1] = 'x';
+    text[limit] = '"';
+    EXPECT(pazturrok_execute(store, 0, text, limit + 1, &answer, &length) == 23 && length == 0);
+    EXPECT(answers(store, "'SHORT", "SHORT"));
+    free(text);
+    EXPECT(pazturrok_close(store) == 0);
+}
+
+static void many_forms(void) {
+    pazturrok_store store = opened("many");
+    const char *texts[5] = {"(SETF (GET 'N 'N) 1)", "(FROB)", "(INCF (GET 'N 'N) 4)", "(LIST 1", "(LIST \"a\" 'b)"};
+    size_t lengths[5];
+    pazturrok_outcome outcomes[5];
+    pazturrok_figures figures;
+    for (int place = 0; place < 5; place++) lengths[place] = strlen(texts[place]);
+    EXPECT(pazturrok_execute_all(store, PAZTURROK_RESCUE, texts, lengths, 5, outcomes) == 0);
+    EXPECT(outcomes[0].number == 0 && strcmp(outcomes[0].answer, "1") == 0);
+    EXPECT(outcomes[1].number == 31 && outcomes[1].answer[0] == 0 && outcomes[1].length == 0);
+    EXPECT(outcomes[2].number == 0 && strcmp(outcomes[2].answer, "5") == 0);
+    EXPECT(outcomes[3].number == 1);
+    EXPECT(outcomes[4].number == 0 && strcmp(outcomes[4].answer, "(\"a\" B)") == 0 && outcomes[4].length == 7);
+    EXPECT(pazturrok_figures_of(store, &figures) == 0 && figures.records == 3);
+    EXPECT(pazturrok_close(store) == 0);
+}
+
+static void folders(void) {
+    pazturrok_store store, other;
+    pazturrok_fault fault;
+    struct stat found;
+    EXPECT(pazturrok_open(folder("none"), PAZTURROK_EXISTING, &store, &fault) == 60);
+    EXPECT(strcmp(fault.cause, "there is no store in this folder") == 0 && stat(folder("none"), &found) != 0);
+    store = opened("deep/er/folder/");
+    EXPECT(answers(store, "1", "1") && stat(folder("deep/er/folder/half-a"), &found) == 0 && (found.st_mode & 0777) == 0600);
+    EXPECT(pazturrok_open(folder("deep/er/folder"), 0, &other, &fault) == 60 && strcmp(fault.cause, "locked by another process") == 0);
+    EXPECT(pazturrok_close(store) == 0);
+    EXPECT(pazturrok_open(folder("deep/er/folder"), PAZTURROK_EXISTING, &store, NULL) == 0 && pazturrok_close(store) == 0);
+    EXPECT(pazturrok_open("/dev/null", 0, &store, &fault) == 60 && fault.system_error != 0 && fault.cause[0] != 0);
+    EXPECT(pazturrok_open("/proc/1/none", 0, &store, &fault) == 60);
+    char *name = malloc(6000);
+    if (!name) return;
+    memset(name, 'a', 5999);
+    name[5999] = 0;
+    EXPECT(pazturrok_open(name, 0, &store, &fault) == 60);
+    for (int place = 0; place < 600; place++) name[place] = place % 2 ? '/' : 'b';
+    name[600] = 0;
+    EXPECT(chdir(room) == 0 && pazturrok_open(name, 0, &store, &fault) == 0 && pazturrok_close(store) == 0);
+    EXPECT(mkdir(folder("linked"), 0700) == 0 && symlink("/etc/passwd", folder("linked/half-a")) == 0);
+    EXPECT(pazturrok_open(folder("linked"), 0, &store, &fault) == 60 && strstr(fault.cause, "is a link") != NULL);
+    EXPECT(mkdir(folder("piped"), 0700) == 0 && mkfifo(folder("piped/half-b"), 0600) == 0);
+    EXPECT(pazturrok_open(folder("piped"), 0, &store, &fault) == 60 && strstr(fault.cause, "no regular file") != NULL);
+    free(name);
+}
+
+static void many_stores(void) {
+    static pazturrok_store stores[257];
+    pazturrok_fault fault;
+    char name[32];
+    int count = 0;
+    while (count < 257) {
+        (void)snprintf(name, sizeof name, "many stores/%d", count);
+        if (pazturrok_open(folder(name), 0, &stores[count], &fault) != 0) break;
+        count++;
+    }
+    EXPECT(count == 256 && fault.number == PAZTURROK_NO_MEMORY && strcmp(fault.cause, "256 stores are open") == 0);
+    EXPECT(answers(stores[255], "1", "1"));
+    while (count > 0) EXPECT(pazturrok_close(stores[--count]) == 0);
+}
+
+/* Threads */
+
+enum { THREADS = 4, TIMES = 500 };
+
+static void *increment(void *argument) {
+    const pazturrok_store *store = argument;
+    intptr_t refused = 0;
+    for (int time = 0; time < TIMES; time++) refused += execute(*store, "(INCF (GET 'N 'N))", NULL) != 0;
+    return (void *)refused;
+}
+
+static void threads(void) {
+    pazturrok_store store = opened("threads");
+    pthread_t others[THREADS];
+    void *refused;
+    EXPECT(answers(store, "(SETF (GET 'N 'N) 0)", "0"));
+    for (int place = 0; place < THREADS; place++) EXPECT(pthread_create(&others[place], NULL, increment, &store) == 0);
+    for (int place = 0; place < THREADS; place++) EXPECT(pthread_join(others[place], &refused) == 0 && refused == NULL);
+    EXPECT(answers(store, "(GET 'N 'N)", "2000"));
+    EXPECT(pazturrok_close(store) == 0);
+}
+
+static void *close_soon(void *argument) {
+    const pazturrok_store *store = argument;
+    (void)usleep(2000);
+    return (void *)(intptr_t)pazturrok_close(*store);
+}
+
+/* A store is closed by one thread while others use it: each of their calls is done or is 61. */
+static void closed_by_another(void) {
+    for (int time = 0; time < 5; time++) {
+        pazturrok_store store = opened("closed");
+        pthread_t other;
+        void *number;
+        int last = 0;
+        EXPECT(pthread_create(&other, NULL, close_soon, &store) == 0);
+        for (int turn = 0; turn < 1000000 && last == 0; turn++) last = execute(store, "(SETF (GET 'A 'B) 7)", NULL);
+        EXPECT(last == 61);
+        EXPECT(pthread_join(other, &number) == 0 && number == NULL);
+    }
+}
+
+/* Cancelling a thread waits for the end of its call. */
+static void *execute_for_ever(void *argument) {
+    const pazturrok_store *store = argument;
+    while (execute(*store, "(INCF (GET 'N 'N))", NULL) == 0) pthread_testcancel();
+    return NULL;
+}
+
+static void cancelled(void) {
+    pazturrok_store store = opened("cancelled");
+    pthread_t other;
+    EXPECT(answers(store, "(SETF (GET 'N 'N) 0)", "0"));
+    EXPECT(pthread_create(&other, NULL, execute_for_ever, &store) == 0);
+    (void)usleep(5000);
+    EXPECT(pthread_cancel(other) == 0 && pthread_join(other, NULL) == 0);
+    EXPECT(execute(store, "(INCF (GET 'N 'N))", NULL) == 0);
+    EXPECT(pazturrok_close(store) == 0);
+}
+
+/* Signals and forks */
+
+static pazturrok_store interrupted;
+static volatile sig_atomic_t signals, refusals, others;
+
+static void within(int signal) {
+    int number = pazturrok_execute(interrupted, 0, "1", 1, NULL, NULL);
+    (void)signal;
+    signals++;
+    if (number == 61) refusals++;
+    else if (number != 0) others++;
+}
+
+/* A signal that comes within a call goes on with it; a call of its handler on the same store is refused or is one between two calls. */
+static void signalled(void) {
+    struct sigaction action = {.sa_handler = within};
+    const int pause = is_slow ? 20000 : 300, times = is_slow ? 1000 : 20000;
+    struct itimerval often = {{0, pause}, {0, pause}}, never = {{0, 0}, {0, 0}};
+    char wanted[16];
+    int refused = 0;
+    interrupted = opened("signals");
+    EXPECT(answers(interrupted, "(SETF (GET 'N 'N) 0)", "0"));
+    EXPECT(sigaction(SIGALRM, &action, NULL) == 0 && setitimer(ITIMER_REAL, &often, NULL) == 0);
+    for (int time = 0; time < times; time++) refused += execute(interrupted, "(INCF (GET 'N 'N))", NULL) != 0;
+    EXPECT(setitimer(ITIMER_REAL, &never, NULL) == 0);
+    EXPECT(refused == 0 && signals > 0 && (refusals > 0 || is_slow) && others == 0);
+    (void)snprintf(wanted, sizeof wanted, "%d", times);
+    EXPECT(answers(interrupted, "(GET 'N 'N)", wanted));
+    EXPECT(pazturrok_close(interrupted) == 0);
+}
+
+static int in_child(pazturrok_store store) {
+    pazturrok_store again;
+    pazturrok_fault fault;
+    if (pazturrok_execute(store, 0, "(SETF (GET 'A 'B) 8)", 20, NULL, NULL) != 61) return 1;
+    if (pazturrok_close(store) != 61) return 2;
+    /* the parent has the files: the child neither has the lock nor lets it go */
+    if (pazturrok_open(folder("fork"), 0, &again, &fault) != 60) return 3;
+    if (strcmp(fault.cause, "locked by another process") != 0) return 4;
+    again = opened("the child's");
+    if (!answers(again, "(SETF (GET 'A 'B) 9)", "9")) return 5;
+    return pazturrok_close(again) == 0 ? 0 : 6;
+}
+
+static void forked(void) {
+    pazturrok_store store = opened("fork");
+    int status = -1;
+    EXPECT(answers(store, "(SETF (GET 'A 'B) 7)", "7"));
+    (void)fflush(stdout);
+    pid_t child = fork();
+    if (child == 0) _exit(in_child(store));
+    EXPECT(waitpid(child, &status, 0) == child);
+    EXPECT_STATUS(status);
+    EXPECT(answers(store, "(GET 'A 'B)", "7"));
+    /* a child that lives on does not keep the lock */
+    child = fork();
+    if (child == 0) {
+        (void)pause();
+        _exit(0);
+    }
+    EXPECT(pazturrok_close(store) == 0);
+    store = opened("fork");
+    EXPECT(answers(store, "(GET 'A 'B)", "7") && pazturrok_close(store) == 0);
+    EXPECT(kill(child, SIGKILL) == 0 && waitpid(child, NULL, 0) == child);
+}
+
+/* The standard streams are closed: neither file gets one of their numbers. */
+static void streams_closed(void) {
+    int status = -1;
+    (void)fflush(stdout);
+    pid_t child = fork();
+    if (child == 0) {
+        pazturrok_store store = 0;
+        for (int file = 0; file < 3; file++) (void)close(file);
+        if (pazturrok_open(folder("streams"), 0, &store, NULL) != 0) _exit(1);
+        for (int file = 0; file < 3; file++)
+            if (fcntl(file, F_GETFD) != -1) _exit(2);
+        _exit(answers(store, "1", "1") && pazturrok_close(store) == 0 ? 0 : 3);
+    }
+    EXPECT(waitpid(child, &status, 0) == child);
+    EXPECT_STATUS(status);
+}
+
+int main(int count, char **words) {
+    if (count < 2) return 2;
+    room = words[1];
+    is_slow = count > 2;
+    forms();
+    modes();
+    bad_arguments();
+    stale_numbers();
+    long_texts();
+    many_forms();
+    folders();
+    many_stores();
+    threads();
+    closed_by_another();
+    cancelled();
+    signalled();
+    forked();
+    streams_closed();
+    printf("%d passed, %d failed\n", passed, failed);
+    return failed ? 1 : 0;
+}

@@ -1,0 +1,133 @@
+;;;; The client for Common Lisp with the store in its own process. PAZTURROK_LIBRARY names the library, PAZTURROK_FOLDER a folder for the
+;;;; stores. The last line is `N passed, M failed'. On another Lisp than SBCL it is refused with a sentence.
+
+(require :asdf)
+(let ((*standard-output* (make-broadcast-stream)) (*error-output* (make-broadcast-stream)))
+  (asdf:load-asd (merge-pathnames "../../clients/lisp/pazturrok-client.asd" *load-truename*))
+  (asdf:load-system "pazturrok-client"))
+
+(defpackage "EMBEDDED-CHECK" (:use "COMMON-LISP" "PAZTURROK-CLIENT"))
+(in-package "EMBEDDED-CHECK")
+
+(defvar *passed* 0)
+(defvar *failed* 0)
+
+(defun folder (name)
+  (concatenate 'string (string-right-trim "/" (uiop:getenv "PAZTURROK_FOLDER")) "/" name "/"))
+
+(defun expect (what wanted got)
+  (if (equalp wanted got)
+      (incf *passed*)
+      (progn (incf *failed*) (format t "lisp: ~A: wanted ~S, got ~S~%" what wanted got))))
+
+(defmacro signalled (&body body)
+  "The name of the condition that BODY signals, and the condition; or :NOTHING."
+  `(handler-case (progn ,@body :nothing) (store-error (condition) (values (type-of condition) condition))))
+
+(defun elsewhere ()
+  (multiple-value-bind (name condition) (signalled (open-store :library (folder "store")))
+    (expect "a store in this process is refused" 'no-library name)
+    (expect "with a sentence" t (and (search "asks for SBCL" (princ-to-string condition)) t))))
+
+(defun values-come-back ()
+  (with-store (store :library (folder "values"))
+    (dolist (value (list 0 -7 22/7 (expt 2 126) #\a #\Newline "" "plain" (format nil "a~%\"b\" \\ ~C" (code-char 0)) '(1 . 2)
+                         '(a (b . c) "d") #() #(1 #(2) "x") nil t :key '|a b| 'some-symbol))
+      (expect "a value" value (send store `(setf (get 'place 'value) ',value)))
+      (expect "its property" value (send store '(get 'place 'value))))))
+
+(defun ten-thousand-forms ()
+  (with-store (store :library (folder "forms"))
+    (expect "5,000 forms one by one, and what they set" t
+            (loop for i from 1 to 5000
+                  always (and (= i (send store `(setf (get 'counter 'count) ,i))) (= i (send store '(get 'counter 'count))))))
+    (expect "5,000 forms at once" (loop for i from 1 to 5000 collect i)
+            (send-all store (loop for i from 1 to 5000 collect `(setf (get 'counter 'count) ,i))))
+    (expect "a refusal in between" '(1 31 3)
+            (mapcar (lambda (outcome) (if (typep outcome 'refused) (refused-number outcome) outcome))
+                    (send-all store '(1 (frob) 3) :on-refusal :return)))
+    (snapshot store)
+    (expect "the figures" '(2 0 2) (multiple-value-list (figures store)))
+    (reopen-store store)
+    (expect "it is there" 5000 (send store '(get 'counter 'count)))))
+
+(defun conditions-and-restarts ()
+  (with-store (store :library (folder "conditions"))
+    (expect "a refusal" 31 (handler-case (send store '(frob)) (refused (condition) (refused-number condition))))
+    (expect "it is skipped" nil
+            (handler-bind ((refused (lambda (condition) (declare (ignore condition)) (invoke-restart 'skip-form))))
+              (send store '(frob))))
+    (let ((times 0))
+      (expect "it is tried again" '(nil 3)
+              (handler-bind ((refused (lambda (condition)
+                                        (declare (ignore condition))
+                                        (invoke-restart (if (< (incf times) 3) 'retry-form 'skip-form)))))
+                (list (send store '(frob)) times))))
+    (expect "a float" 'unsendable (signalled (send store 1.5)))
+    (expect "no whole form" 'unsendable (signalled (send-text store "(list 1")))
+    (multiple-value-bind (name condition) (signalled (open-store :library (folder "conditions")))
+      (expect "the lock" '(fault 60 "DEVICE" "locked by another process")
+              (list name (fault-number condition) (fault-name condition) (fault-cause condition))))
+    (expect "no time limits" t (handler-case (send store 1 :time-limit 1) (store-error () nil) (error () t)))
+    (expect "the store goes on" 1 (send store 1))
+    (close-store store)
+    (expect "a closed store" 'closed (signalled (send store 1)))
+    (reopen-store store)
+    (expect "is opened again" 1 (send store 1)))
+  (expect "no such store" 'fault (signalled (open-store :library (folder "none") :existing t)))
+  (expect "no such library" 'no-library (signalled (open-store '(:library "/nowhere.so") (folder "values")))))
+
+(defun packages ()
+  (with-store (store :library (folder "packages"))
+    (send store '(make-package "P"))
+    (expect "names before and after a change of the package" '(some-name "P" some-name)
+            (send-all store '('some-name (in-package "P") 'some-name)))))
+
+;;; Timers unwind in the middle of everything; no answer is taken for that of another form.
+#+sb-thread
+(defun unwindings ()
+  (with-store (store :library (folder "unwindings"))
+    (let ((unwound 0) (wrong 0))
+      (dotimes (time 300)
+        (handler-case (sb-ext:with-timeout (/ (1+ (random 20)) 100000)
+                        (loop (unless (eql time (send store time)) (incf wrong))))
+          (sb-ext:timeout () (incf unwound))
+          (broken () (reopen-store store))))
+      (expect "each of them came" 300 unwound)
+      (expect "no other answer" 0 wrong)
+      (when (eq (store-state store) :broken) (reopen-store store))
+      (expect "the store goes on" 1 (send store 1)))))
+
+#+sb-thread
+(defun other-threads ()
+  (with-store (store :library (folder "threads"))
+    (expect "deep lists in a thread of the usual stack" 97
+            (sb-thread:join-thread
+             (sb-thread:make-thread
+              (lambda ()
+                (let ((form 1)) (dotimes (time 97) (setf form (list form)))
+                  (loop for inner = (send store `(quote ,form)) then (first inner) while (consp inner) count t))))))))
+
+#+sbcl
+(defun let-go ()
+  (open-store :library (folder "let go"))
+  nil)
+
+#+sbcl
+(defun a-store-that-is-let-go-is-closed ()
+  (let-go)
+  (loop repeat 20
+        do (sb-ext:gc :full t) (sleep 1/20)
+        until (handler-case (progn (close-store (open-store :library (folder "let go"))) t) (fault () nil))
+        finally (expect "a store that nobody has any more is closed" t
+                        (handler-case (progn (close-store (open-store :library (folder "let go"))) t) (fault () nil)))))
+
+(handler-case
+    #-sbcl (elsewhere)
+    #+sbcl (progn (values-come-back) (ten-thousand-forms) (conditions-and-restarts) (packages)
+                  #+sb-thread (unwindings) #+sb-thread (other-threads)
+                  (a-store-that-is-let-go-is-closed))
+  (error (condition) (incf *failed*) (format t "lisp: ~A~%" condition)))
+(format t "~D passed, ~D failed~%" *passed* *failed*)
+(finish-output)
+(uiop:quit (if (zerop *failed*) 0 1))

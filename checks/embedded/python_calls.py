@@ -1,0 +1,198 @@
+"""The client for Python with the store in its own process. PAZTURROK_LIBRARY names the library, PAZTURROK_FOLDER a folder for the stores. The
+last line is `N passed, M failed`."""
+
+from __future__ import annotations
+
+import itertools
+import multiprocessing
+import os
+import subprocess
+import sys
+import tempfile
+import threading
+import unittest
+from fractions import Fraction
+from typing import Any
+
+from pazturrok import (
+    BrokenStoreError,
+    Character,
+    ClosedStoreError,
+    DottedList,
+    EmbeddedStore,
+    FaultError,
+    RefusedError,
+    Symbol,
+    UnsendableError,
+    keyword,
+    printed,
+    quote,
+)
+
+VALUES: list[Any] = [
+    0, -7, Fraction(22, 7), 2**126, Character("a"), Character("\n"), "", "two\nlines \"quoted\" \\ |bars|", [], [1, [2, "x"]],
+    DottedList((1,), 2), (), (1, (2,), "x"), Symbol("APPLE"), Symbol("a b"), keyword("KEY"), Symbol("FREE", None), "a\0b",
+]  # fmt: skip
+
+
+class Embedded(unittest.TestCase):
+    def setUp(self) -> None:
+        room = tempfile.TemporaryDirectory(dir=os.environ.get("PAZTURROK_FOLDER"))
+        self.addCleanup(room.cleanup)
+        self.folder = room.name
+
+    def store(self, name: str = "store", **options: Any) -> EmbeddedStore:
+        store = EmbeddedStore(os.path.join(self.folder, name), **options)
+        self.addCleanup(store.close)
+        return store
+
+    def test_values_come_back(self) -> None:
+        store = self.store()
+        for value in VALUES:
+            place = [Symbol("GET"), quote(Symbol("A")), quote(Symbol("B"))]
+            self.assertEqual(store.execute([Symbol("SETF"), place, quote(value)]), value)
+            self.assertEqual(store.execute(place), value)
+            self.assertEqual(store.answer("(GET 'A 'B)"), printed(value))
+
+    def test_ten_thousand_forms(self) -> None:
+        store = self.store()
+        for number in range(1, 5001):
+            self.assertEqual(store.execute(f"(SETF (GET 'N 'N) {number})"), number)
+            self.assertEqual(store.answer("(GET 'N 'N)"), str(number))
+        self.assertEqual(store.figures().records, 5000)
+        store.reopen()
+        self.assertEqual(store.execute("(GET 'N 'N)"), 5000)
+
+    def test_many_at_once_and_an_iterator(self) -> None:
+        store = self.store()
+        forms = [f"(SETF (GET 'N 'N) {number})" for number in range(5000)]
+        self.assertEqual(store.execute_all(forms), list(range(5000)))
+        store.execute("(SETF (GET 'N 'N) 0)")
+        without_end = ("(INCF (GET 'N 'N))" for _ in itertools.count())
+        self.assertEqual(list(itertools.islice(store.iterate(without_end, at_once=10), 25)), list(range(1, 26)))
+        outcomes = store.execute_all(["1", "(FROB)", "3"], raise_on_refusal=False)
+        self.assertEqual([outcomes[0], outcomes[2]], [1, 3])
+        self.assertIsInstance(outcomes[1], RefusedError)
+        long = printed("x" * 100000)
+        self.assertEqual([len(str(value)) for value in store.execute_all([long] * 20)], [100000] * 20)
+        self.assertEqual(store.execute_all([]), [])
+
+    def test_refusals(self) -> None:
+        store = self.store()
+        with self.assertRaises(RefusedError) as refused:
+            store.execute("(FROB)")
+        self.assertEqual((refused.exception.number, refused.exception.name), (31, "UNKNOWN-OPERATOR"))
+        for text in ("(LIST 1", "1 2", "", '"M\u00fcller"'):
+            with self.assertRaises(UnsendableError):
+                store.execute(text)
+        for text, number in (("(LIST 1", 1), ("1 2", 26), (")", 4), ("1.5", 7)):
+            with self.assertRaises(RefusedError) as refused:
+                store.answer(text)
+            self.assertEqual(refused.exception.number, number)
+        with self.assertRaises(UnsendableError):
+            store.answer("\u00fc")
+        with self.assertRaises(RefusedError):
+            store.execute("1.5")
+        self.assertEqual(store.execute("1"), 1)
+
+    def test_packages(self) -> None:
+        store = self.store()
+        store.execute_all(['(MAKE-PACKAGE "P")', "(SETF (GET 'P::A 'B) 7)", '(IN-PACKAGE "P")'])
+        self.assertEqual(store.execute("'P::A"), Symbol("A", "P"))
+        self.assertEqual(store.execute("'A"), Symbol("A"))
+        store.answer('(IN-PACKAGE "COMMON-LISP-USER")')
+        self.assertEqual(store.execute("'A"), Symbol("A"))
+
+    def test_snapshots(self) -> None:
+        store = self.store()
+        store.execute("(SETF (GET 'A 'B) 7)")
+        store.snapshot()
+        figures = store.figures()
+        self.assertEqual((figures.generation, figures.records, figures.version), (2, 0, 2))
+        store.reopen()
+        self.assertEqual(store.execute("(GET 'A 'B)"), 7)
+
+    def test_what_cannot_be_opened(self) -> None:
+        with self.assertRaises(FaultError) as fault:
+            self.store("none", existing=True)
+        self.assertEqual((fault.exception.number, fault.exception.name), (60, "DEVICE"))
+        self.assertEqual(fault.exception.cause, "there is no store in this folder")
+        store = self.store()
+        with self.assertRaises(FaultError) as fault:
+            self.store()
+        self.assertEqual(fault.exception.cause, "locked by another process")
+        store.close()
+        with self.assertRaises(ClosedStoreError):
+            store.execute("1")
+        with self.assertRaises(ClosedStoreError):
+            store.answer("1")
+        store.reopen()
+        self.assertEqual(store.execute("1"), 1)
+        with self.assertRaises(OSError):
+            self.store("other", library="/nowhere.so")
+        with self.assertRaises(ValueError):
+            store.execute("1", time_limit=1)
+
+    def test_a_store_that_is_let_go_is_closed(self) -> None:
+        EmbeddedStore(os.path.join(self.folder, "store")).execute("(SETF (GET 'A 'B) 7)")
+        self.assertEqual(self.store().execute("(GET 'A 'B)"), 7)
+
+    def test_threads(self) -> None:
+        store = self.store()
+        store.execute("(SETF (GET 'N 'N) 0)")
+        wrong: list[object] = []
+
+        def work(own: str) -> None:
+            for _ in range(300):
+                store.execute("(INCF (GET 'N 'N))")
+                if store.execute(printed(own)) != own:
+                    wrong.append(own)
+
+        threads = [threading.Thread(target=work, args=(letter * 100,)) for letter in "abcd"]
+        for thread in threads:
+            thread.start()
+        for thread in threads:
+            thread.join()
+        self.assertEqual((wrong, store.execute("(GET 'N 'N)")), ([], 1200))
+
+    def test_a_forked_child_has_no_store(self) -> None:
+        store = self.store()
+        store.execute("(SETF (GET 'A 'B) 7)")
+        child = multiprocessing.get_context("fork").Process(target=use_in_child, args=(store,))
+        child.start()
+        child.join()
+        self.assertEqual(child.exitcode, 0)
+        self.assertEqual(store.execute("(GET 'A 'B)"), 7)
+
+    def test_pip_installs_it(self) -> None:
+        source = os.path.join(os.path.dirname(os.path.abspath(__file__)), "..", "..", "clients", "python")
+        target = os.path.join(self.folder, "installed")
+        copy = os.path.join(self.folder, "copy")
+        subprocess.run(["cp", "-r", source, copy], check=True)
+        ran = subprocess.run(
+            [sys.executable, "-m", "pip", "install", "--quiet", "--no-index", "--no-build-isolation", "--target", target, copy],
+            capture_output=True, text=True,
+        )  # fmt: skip
+        if ran.returncode:
+            self.skipTest("pip cannot build here: " + ran.stderr.strip()[-200:])
+        code = "import pazturrok; print(pazturrok.EmbeddedStore('store').execute('(LIST 1)'))"
+        got = subprocess.run(
+            [sys.executable, "-c", code], cwd=self.folder, env={**os.environ, "PYTHONPATH": target}, capture_output=True, text=True
+        )
+        self.assertEqual(got.stdout, "[1]\n", got.stderr)
+
+
+def use_in_child(store: EmbeddedStore) -> None:
+    try:
+        store.execute("(SETF (GET 'A 'B) 8)")
+    except BrokenStoreError:
+        os._exit(0)
+    os._exit(1)
+
+
+if __name__ == "__main__":
+    suite = unittest.defaultTestLoader.loadTestsFromModule(sys.modules[__name__])
+    result = unittest.TextTestRunner(verbosity=0).run(suite)
+    bad = len(result.failures) + len(result.errors)
+    print(f"{result.testsRun - bad} passed, {bad} failed")
+    sys.exit(1 if bad else 0)

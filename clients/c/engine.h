@@ -1,0 +1,66 @@
+/* What crates/pazturrok_c exports: a store that makes no call of the system. It executes forms, and gives orders for two files,
+   which pazturrok.c carries out. A slice is a pointer and a length; all numbers in bytes have the lowest byte first. */
+#ifndef PAZTURROK_ENGINE_H
+#define PAZTURROK_ENGINE_H
+#include <stdbool.h>
+#include <stddef.h>
+#include <stdint.h>
+
+/* Holds an engine, or none where all its bytes are 0. It is handed to one call at a time. */
+typedef struct {
+    void *at;
+    bool is_open;
+} pzt_slot;
+
+/* How a call ended: the number of the refusal, or 0; how many bytes the answer has; how many bytes of orders are to be carried
+   out before anything else is asked. */
+typedef struct {
+    uint16_t number;
+    size_t answer;
+    size_t orders;
+} pzt_done;
+
+typedef struct {
+    uint64_t generation;
+    uint64_t records;
+    uint16_t version;
+} pzt_told;
+
+/* How many bytes a half may take, and the words by which names are hashed. */
+typedef struct {
+    uint64_t limit;
+    uint64_t seed_first;
+    uint64_t seed_second;
+} pzt_setting;
+
+/* An order: a kind, a half (0 or 1), a place and a length of eight bytes each, and the bytes of a write. */
+enum { ORDER_HEAD = 18, ORDER_WRITES = 1, ORDER_CUTS = 2, ORDER_SYNCS = 3 };
+
+/* Opens the store of two files that hold these bytes, and of which a crash leaves just these. */
+void pzt_open(pzt_slot *slot, const uint8_t *a, size_t a_length, const uint8_t *b, size_t b_length, const pzt_setting *setting,
+              pzt_done *done);
+
+/* Executes a form. As much of its answer is copied as there is room for. */
+void pzt_execute(pzt_slot *slot, bool rescue, const uint8_t *text, size_t length, uint8_t *answer, size_t capacity,
+                 pzt_done *done);
+
+/* Executes the forms of which these are the texts, one after the other; `ends` says where each ends. The answer has for each
+   the number of its refusal or 0 in two bytes, a length in eight, and so many bytes. */
+void pzt_execute_all(pzt_slot *slot, bool rescue, const uint8_t *texts, size_t length, const uint64_t *ends, size_t count,
+                     pzt_done *done);
+
+void pzt_snapshot(pzt_slot *slot, pzt_done *done);
+
+/* Copies of the last answer, or of the orders, from a place on what there is room for. They give how many bytes. */
+size_t pzt_answer(pzt_slot *slot, size_t at, uint8_t *out, size_t capacity);
+size_t pzt_orders(pzt_slot *slot, size_t at, uint8_t *out, size_t capacity);
+
+/* Says that all orders have been carried out. */
+void pzt_performed(pzt_slot *slot);
+
+void pzt_tell(pzt_slot *slot, pzt_told *told);
+
+/* Lets the engine go. Orders that were not carried out are lost, as in a crash. */
+void pzt_close(pzt_slot *slot);
+
+#endif

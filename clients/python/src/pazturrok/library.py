@@ -1,0 +1,171 @@
+"""libpazturrok by ctypes: what executes the texts of forms in this process."""
+
+from __future__ import annotations
+
+import ctypes
+import ctypes.util
+import os
+import weakref
+from collections.abc import Callable, Sequence
+from dataclasses import dataclass
+
+from .errors import BrokenStoreError, FaultError, MalformedAnswerError
+
+RESCUE = 1
+"""Forms are read under the standard readtable, in COMMON-LISP-USER, in base 10."""
+EXISTING = 1
+"""What is missing is not made."""
+
+DEVICE = 60
+REOPEN = 61
+
+
+class _Fault(ctypes.Structure):
+    _fields_ = (("number", ctypes.c_int), ("system_error", ctypes.c_int), ("cause", ctypes.c_char * 120))
+
+
+class _Outcome(ctypes.Structure):
+    _fields_ = (("number", ctypes.c_int), ("answer", ctypes.c_void_p), ("length", ctypes.c_size_t))
+
+
+class _Figures(ctypes.Structure):
+    _fields_ = (("generation", ctypes.c_uint64), ("records", ctypes.c_uint64), ("version", ctypes.c_int))
+
+
+@dataclass(frozen=True)
+class Figures:
+    """What the file in use holds."""
+
+    generation: int
+    records: int
+    version: int
+
+
+def find_library(path: str | os.PathLike[str] | None) -> str:
+    """The path of the library: the one that is given, or that PAZTURROK_LIBRARY names, or the system's."""
+    if path is not None:
+        return os.fspath(path)
+    return os.environ.get("PAZTURROK_LIBRARY") or ctypes.util.find_library("pazturrok") or "libpazturrok.so"
+
+
+class Calls:
+    """The calls of the library that is in a file."""
+
+    def __init__(self, path: str) -> None:
+        library = ctypes.CDLL(path)
+        store, text, size = ctypes.c_uint64, ctypes.c_char_p, ctypes.c_size_t
+        answer, length = ctypes.POINTER(ctypes.c_void_p), ctypes.POINTER(ctypes.c_size_t)
+        self.open = library.pazturrok_open
+        self.open.argtypes = [text, ctypes.c_int, ctypes.POINTER(store), ctypes.POINTER(_Fault)]
+        self.execute = library.pazturrok_execute
+        self.execute.argtypes = [store, ctypes.c_int, text, size, answer, length]
+        self.execute_all = library.pazturrok_execute_all
+        self.execute_all.argtypes = [
+            store, ctypes.c_int, ctypes.POINTER(text), length, size, ctypes.POINTER(_Outcome)
+        ]  # fmt: skip
+        self.snapshot = library.pazturrok_snapshot
+        self.snapshot.argtypes = [store]
+        self.figures_of = library.pazturrok_figures_of
+        self.figures_of.argtypes = [store, ctypes.POINTER(_Figures)]
+        self.fault_of = library.pazturrok_fault_of
+        self.fault_of.argtypes = [store, ctypes.POINTER(_Fault)]
+        self.fault_of.restype = None
+        self.close = library.pazturrok_close
+        self.close.argtypes = [store]
+        self._name = library.pazturrok_name
+        self._name.argtypes = [ctypes.c_int]
+        self._name.restype = text
+
+    def name(self, number: int) -> str:
+        """The name of a refusal."""
+        return bytes(self._name(number)).decode("ascii")
+
+    def fault(self, fault: _Fault) -> FaultError:
+        return FaultError(fault.number, self.name(fault.number), fault.cause.decode("utf-8", "replace"))
+
+
+_loaded: dict[str, Calls] = {}
+
+
+def calls_of(path: str) -> Calls:
+    """The calls of a library, which is loaded once."""
+    return _loaded.setdefault(path, Calls(path)) if path not in _loaded else _loaded[path]
+
+
+class Library:
+    """An open store of the library. It belongs to one thread at a time."""
+
+    def __init__(self, folder: str, calls: Calls, flags: int) -> None:
+        self._calls = calls
+        self._store = ctypes.c_uint64()
+        self._answer = ctypes.c_void_p()
+        self._length = ctypes.c_size_t()
+        self._arguments = (ctypes.byref(self._answer), ctypes.byref(self._length))
+        fault = _Fault()
+        if calls.open(os.fsencode(folder), flags, ctypes.byref(self._store), ctypes.byref(fault)):
+            raise calls.fault(fault)
+        self._close = weakref.finalize(self, calls.close, self._store.value)
+
+    def exchange(
+        self, texts: Sequence[str], answers: list[str], is_last: Callable[[str], bool], seconds: float | None
+    ) -> None:
+        """Executes texts, and appends the answer to each. A refusal is the line that the program writes."""
+        if len(texts) == 1:
+            answers.append(self.execute(texts[0].encode("ascii")))
+        elif texts:
+            answers += self._execute_all([text.encode("ascii") for text in texts])
+
+    def execute(self, text: bytes) -> str:
+        """The answer to one form."""
+        number = self._calls.execute(self._store, RESCUE, text, len(text), *self._arguments)
+        if number:
+            return self._refusal(number)
+        return self._text(self._answer.value, self._length.value)
+
+    def _execute_all(self, texts: list[bytes]) -> list[str]:
+        count = len(texts)
+        lengths = (ctypes.c_size_t * count)(*map(len, texts))
+        outcomes = (_Outcome * count)()
+        number = self._calls.execute_all(
+            self._store, RESCUE, (ctypes.c_char_p * count)(*texts), lengths, count, outcomes
+        )
+        if number:
+            return [self._refusal(number)] * count
+        return [
+            self._refusal(each.number) if each.number else self._text(each.answer, each.length)
+            for each in outcomes
+        ]
+
+    def _text(self, answer: int | None, length: int) -> str:
+        try:
+            return ctypes.string_at(answer or 0, length).decode("ascii") if length else ""
+        except UnicodeDecodeError:
+            raise MalformedAnswerError("", "a character is over 127") from None
+
+    def _refusal(self, number: int) -> str:
+        """The line of a refusal, if the store goes on after it."""
+        if number == REOPEN:
+            raise BrokenStoreError
+        if number == DEVICE or number < 0:
+            fault = _Fault()
+            self._calls.fault_of(self._store, ctypes.byref(fault))
+            raise self._calls.fault(fault)
+        return f"! {number} {self._calls.name(number)}"
+
+    def snapshot(self) -> str | None:
+        """Takes a snapshot. Gives the line of a refusal, or None."""
+        number = self._calls.snapshot(self._store)
+        return self._refusal(number) if number else None
+
+    def figures(self) -> Figures:
+        """What the file in use holds."""
+        figures = _Figures()
+        number = self._calls.figures_of(self._store, ctypes.byref(figures))
+        if number:
+            self._refusal(number)
+        return Figures(figures.generation, figures.records, figures.version)
+
+    def end(self, limit: float | None = None) -> tuple[int, str]:
+        """Closes the store."""
+        self._close()
+        return 0, ""

@@ -1,0 +1,42 @@
+-- The records of the half in use, a line each.
+use Rattle.std.specs.Prelude.{◌≡◌, ℕ, ◌+◌, Bool, if◌then◌else◌, List, [], ◌∷◌, ◌++◌, codes, decimal, nat_eq, nat_le, Option, Some}
+use Rattle.disk_trait.specs.Disk.{Image}
+use Rattle.gate_log.specs.Layout.{Contents, LogRecord}
+use Rattle.gate_log.specs.Log.{FilesMean}
+use Rattle.log_look.specs.Cut.{IsPlace}
+use Rattle.store_reports.specs.Escaped.{escaped}
+use Rattle.store_reports.specs.declared.log.LogPart.{LogPart}
+
+-- how many records there have to be, where the lines begin with the record of this number: the first of none may be asked for
+abbrev pub least : ℕ → ℕ
+least from = if nat_le from 1 then 0 else from
+
+-- the number of a record, behind the generation and a dot where that is asked for
+abbrev pub place_text : Bool → ℕ → ℕ → List ℕ
+place_text with_generation generation number = (if with_generation then decimal generation ++ 46 ∷ [] else []) ++ decimal number
+
+-- the readtable that a record is read under
+abbrev pub mode_text : ℕ → List ℕ
+mode_text kind = if nat_eq kind 0 then codes " current " else codes " rescue "
+
+-- a record: its place, its mode and its text, and the end of the line
+abbrev pub record_line : Bool → ℕ → ℕ → LogRecord → List ℕ
+record_line with_generation generation number entry =
+    place_text with_generation generation number ++ mode_text entry.kind ++ escaped entry.text ++ 10 ∷ []
+
+-- the lines of these records, of which the first has this number, from that of number `from` on
+abbrev pub record_lines : Bool → ℕ → ℕ → ℕ → List LogRecord → List ℕ
+record_lines with_generation generation from number [] = []
+record_lines with_generation generation from number (entry ∷ entries) =
+    (if nat_le from number then record_line with_generation generation number entry else [])
+    ++ record_lines with_generation generation from (number + 1) entries
+
+abbrev pub log_text : LogPart → Contents → List ℕ
+log_text part k = record_lines part.with_generation k.generation part.from 1 k.entries
+
+-- these bytes mean contents that have such a part, and this is its text
+pub record IsLogText (part : LogPart) (image : Image) (text : List ℕ) : Type 0 where
+  pub contents : Contents
+  pub means : FilesMean (Some contents) image
+  pub place : IsPlace (least part.from) part.generation contents
+  pub is : text ≡ log_text part contents

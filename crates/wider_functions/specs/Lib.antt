@@ -1,0 +1,2 @@
+-- when a program has the macro functions of another one
+pub mod Among
