@@ -1,5 +1,6 @@
 //! Closures that are registered, and functions with no closure, answer alike.
-ghost use Rattle.std.specs.Prelude.{◌≡◌, Ok, IfOk};
+ghost use Rattle.std.specs.Prelude.{◌≡◌, Ok, IfOk, IsTrue};
+ghost use Rattle.readtable_core.specs.Names.{is_among};
 ghost use Rattle.user_macros.specs.Calls.{answer_of, call_of};
 ghost use Rattle.user_macros.specs.Sound.{IsSoundCall};
 ghost use Rattle.macro_tests.specs.Trial.{counted, trial_answer, trial_functions, trial_names};
@@ -108,6 +109,7 @@ fn call_of_text(alloc: Global) -> Result<Call, AllocError>
 
 // Whether a closure that is registered under the name, and the function with no closure, gather and answer alike.
 fn are_alike(rt: &HostRuntime, name: FnName, function: MacroFn) -> Result<bool, Fail>
+    requires known { IsTrue (is_among trial_names name) }
     requires callable { (call : _) → IsSoundCall call → MacroFn.pre function call }
     requires as_meant { (call : _) (a : _) → IsSoundCall call → MacroFn.post function call (Ok a)
         → answer_of a ≡ trial_answer name (call_of call) }
