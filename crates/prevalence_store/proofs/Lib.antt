@@ -1,4 +1,5 @@
 pub mod meaning
+mod Reported
 pub mod Surviving
 pub mod Joining
 pub mod calls

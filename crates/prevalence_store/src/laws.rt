@@ -1,17 +1,12 @@
 //! The theorem over any calls in a row and over any openings after them, that what is answered is stored, that files mean one
-//! world, that files of version 1 mean what they meant, and that groups change nothing.
-ghost use Rattle.std.specs.Prelude.{◌≡◌, ◌↔◌, ℕ, ◌+◌, Bool, true, List, [], ◌++◌, take, Option, Some, Ok, Err, false};
+//! world, and that files of version 1 mean what they meant.
+ghost use Rattle.std.specs.Prelude.{◌≡◌, ◌↔◌, ℕ, ◌+◌, Bool, true, List, [], ◌++◌, take, Some, Ok, Err};
 ghost use Rattle.disk_trait.specs.Disk.{Image, IsFresh, IsHonest, Throughout};
 ghost use Rattle.gate_log.specs.Layout.{LogRecord};
 ghost use Rattle.prevalence_store.specs.meaning.Acceptance.{Acceptance, accepts, after, IsFormNumber};
 ghost use Rattle.prevalence_store.specs.meaning.Files.{MeansWorld};
 ghost use Rattle.prevalence_store.specs.meaning.Version1.{accepts1, MeansWorld1};
 ghost use Rattle.prevalence_store.specs.declared.mode.Mode.{Mode};
-ghost use Rattle.prevalence_store.specs.declared.outcome.Ended.TheVariants.{End, Unreadable, Unaccepted};
-ghost use Rattle.prevalence_store.specs.declared.outcome.Place.{Place};
-ghost use Rattle.prevalence_store.specs.declared.outcome.Wanted.{Wanted};
-ghost use Rattle.prevalence_store.specs.calls.Serve.{ServesWanted};
-ghost use Rattle.prevalence_store.specs.calls.Store.{StoreView};
 ghost use Rattle.prevalence_store.specs.calls.Open.{IsNoWord, IsUnopened, limit_of};
 ghost use Rattle.prevalence_store.specs.Theorem.{Call, Headline, IsAfterSome, IsStoppedBetween};
 ghost use Rattle.prevalence_store.specs.Theorem.{Keeps, KeepsSome, MeansSome, Reopens, Run};
@@ -81,25 +76,6 @@ pub fn what_is_answered_is_stored<D: Disk>()
         → (D.state disk).may_leave image → (D.state crashed).reads ≡ image
         → Reopens functions (D.state crashed) (D.state opened) now
         → after functions stored.first stored.far.taken ≡ Some now }
-{}
-
-/// A session with groups that ends with its input, at a refusal of the reader, or at the first refused form if it is strict, is a session
-/// without groups: what was read, what was written, the world, the generation and the records of the half in use are the same.
-pub fn groups_change_nothing<D: Disk, R>()
-    ensures end { (functions : Functions) (wanted : Wanted) (old new : StoreView D R) (world : WorldState)
-        → (had has held written : Option (List ℕ))
-        → ServesWanted functions D.state wanted old new world had has held written End
-        → ServesWanted functions D.state (record wanted { group = false }) old new world had has held written End }
-    ensures unreadable { (functions : Functions) (wanted : Wanted) (old new : StoreView D R) (world : WorldState)
-        → (had has held written : Option (List ℕ)) (number : ℕ) (place : Place)
-        → ServesWanted functions D.state wanted old new world had has held written (Unreadable number place)
-        → ServesWanted functions D.state (record wanted { group = false }) old new world had has held written
-        (Unreadable number place) }
-    ensures unaccepted { (functions : Functions) (wanted : Wanted) (old new : StoreView D R) (world : WorldState)
-        → (had has held written : Option (List ℕ)) (number : ℕ) (place : Place)
-        → ServesWanted functions D.state wanted old new world had has held written (Unaccepted number place)
-        → ServesWanted functions D.state (record wanted { group = false }) old new world had has held written
-        (Unaccepted number place) }
 {}
 
 /// Openings in a row, after any calls: also where the last call met a device fault, or the process was stopped in it and

@@ -40,13 +40,14 @@
 //!
 //! # Modules
 //!
-//! - `store` with `open`, `execute`, `execute_all`, `snapshot` and `run`: the store, on the log of `gate_log`. `commit` evaluates a
-//!   form and logs it, `group` those of many texts;
+//! - `store` with `open`, `execute`, `execute_all`, `snapshot` and `run`: the store. `batch`: forms that are evaluated one after the other
+//!   and logged together, one or many, all or none; `log`: the halves of `gate_log`, and whether the device has failed. `group`
+//!   evaluates texts;
 //!   `replay` makes the world again from the records of a log; `setting` says under what a text is read, by the mode, and what it is
 //!   as one form (`form_reader`).
 //! - `session`: `serve`, and its parts: `input` and `output`, the streams; `answer`, what becomes of a form that was read;
-//!   `gather`, forms that are evaluated one after the other and logged together, and `together`, the answers to them; `schedule`,
-//!   when it takes snapshots; `course`, how far it has come.
+//!   `gather`, forms that stand whole after one another, with their lines, and `together`, the answers to them; `schedule`,
+//!   when it takes snapshots; `course`, how far it has come. A line is made before its record is logged, and written after.
 //! - `mode`, `step`, `outcome`, `open_fault`: the words of the calls. `failure`: why a form is not accepted.
 //! - `laws`: the headline, openings in a row, that an image means one world, that files of version 1 mean what they meant, and
 //!   which numbers refuse a form.

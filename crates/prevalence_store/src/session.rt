@@ -1,6 +1,6 @@
 // A session over an input and an output.
 
-mod answer;
+pub(crate) mod answer;
 pub(crate) mod course;
 pub(crate) mod gather;
 pub(crate) mod input;

@@ -296,7 +296,7 @@ module _ (functions : Functions) where
     }))))))
     ends_both forms far lines answered part group (Store number) answered_is (inr (inr (inr (inr (inr (inr out)))))) = inr (inr (inr (inr (inr (inr (record {
       memory = out.memory;
-      one_open = let one = out.one_open in omega arith;
+      all = let all = out.all in omega arith;
       no_part = out.no_part;
       after = after_both functions state sound old mid new w p first.after honest far out.after;
     }))))))

@@ -1,26 +1,21 @@
 -- A session in which no form was taken, and what is written of a line.
-use Rattle.std.proofs.Common.{◌≡◌, ◌≢◌, ℕ, Bool, false, List, [], ◌++◌, Option, None, Some, Result, Ok, Err, IfOk, refl, sym, ap, subst, ◌∙◌, inl, inr, append-nil, arith}
+use Rattle.std.proofs.Common.{◌≡◌, ◌≢◌, ℕ, Bool, false, List, [], ◌++◌, Option, None, Some, refl, sym, ap, subst, ◌∙◌, inl, inr, append-nil, arith}
 use Rattle.std.specs.Option.{option_map}
 use Rattle.disk_trait.specs.Disk.{State, IsHonest, IsSound}
 use Rattle.disk_trait.specs.Half.{opposite_of}
 use Rattle.lisp_object.specs.declared.refusal.TheConstants.{INPUT, NO_MEMORY}
-use Rattle.lisp_operators.specs.declared.evaluated.Evaluated.{Evaluated}
 use Rattle.form_reader.specs.Reader.{MayGoOn}
 use Rattle.lisp_reading.specs.Reading.{empty, refused}
 use Rattle.plist_state.specs.State.{WorldState}
-use Rattle.prevalence_store.specs.declared.failure.Failure.{Failure}
 use Rattle.prevalence_store.specs.declared.mode.Mode.{Mode}
 use Rattle.prevalence_store.specs.declared.outcome.Ending.{Ending}
 use Rattle.prevalence_store.specs.declared.outcome.Ending.TheVariants.{End, Reader, Store}
 use Rattle.prevalence_store.specs.meaning.Acceptance.{read_in}
 use Rattle.prevalence_store.specs.meaning.Answers.{Progress, after_forms, begun, last_line, one_form, onward, refusal_line}
 use Rattle.prevalence_store.specs.calls.Serve.{Ends, IsAfter, Serves}
-use Rattle.gate_log.specs.HalfInUse.{HalvesValue}
-use Rattle.prevalence_store.specs.calls.Store.{StoreView, Describes, store_view_of}
-use Rattle.prevalence_store.proofs.calls.Executing.{world_inside}
+use Rattle.prevalence_store.specs.calls.Store.{StoreView, Describes}
 use Rattle.prevalence_store.specs.calls.Streams.{Writes, WritesPart}
 use Rattle.prevalence_store.specs.steps.Answer.{AnswersFault}
-use Rattle.prevalence_store.specs.steps.Output.{IsLine, IsLineOf}
 use Rattle.prevalence_store.proofs.calls.LeftAlone.{alone_still}
 use Rattle.prevalence_store.proofs.Surviving.{unchanged_survives}
 use Rattle.user_macros.specs.Functions.{Functions}
@@ -34,15 +29,6 @@ part_of None written text some part = ([], text, refl, some, λ bytes is. absurd
 part_of (Some bytes) written text some part =
     let p = part bytes refl in
     (p.front, p.rest, p.parts, p.more, λ others is. let same : bytes ≡ others = cc in subst (λ b. written ≡ Some (b ++ p.front)) same p.written)
-
--- the line of an answer, in the world in memory
-pub line_inside : {D R : Type 0} (failed : Bool) (log : HalvesValue D) (w : WorldState) (macros : R) (now : StoreView D R) → store_view_of failed log w macros ≡ now
-    → (answer : Result Evaluated Failure) (line : List ℕ) → IsLineOf w answer line → IsLine now answer line
-line_inside failed log w macros now view answer line is = record { world = w; one = λ v known. sym (world_inside failed log w v macros now view known); line_of = is }
-
-pub ok_map : {V E : Type 0} (P Q : V → Type 0) (r : Result V E) → ((v : V) → P v → Q v) → IfOk r P → IfOk r Q
-ok_map P Q (Ok v) f is = f v is
-ok_map P Q (Err e) f is = tt
 
 module _ (functions : Functions) where
   -- ---- with groups or without
@@ -134,7 +120,7 @@ module _ (functions : Functions) where
 
     unfoldable pub no_memory : (group : Bool) → new ≡ old → written ≡ held → Serves functions state old new w mode text held written group (Store NO_MEMORY)
     no_memory group same quiet = nothing group (Store NO_MEMORY) [] same (writes_nothing held written quiet)
-        (inr (inr (inr (inr (inr (inr (record { memory = refl; one_open = omega arith; no_part = refl; after = after_none text [] [] same })))))))
+        (inr (inr (inr (inr (inr (inr (record { memory = refl; all = omega arith; no_part = refl; after = after_none text [] [] same })))))))
 
     unfoldable pub done : (group : Bool) → new ≡ old → written ≡ held → empty ≡ read_in functions w mode text → Serves functions state old new w mode text held written group End
     done group same quiet is = nothing group End [] same (writes_nothing held written quiet)
@@ -157,4 +143,4 @@ module _ (functions : Functions) where
         (inr (inr (inr (inr (inr (inl (record { output = full.0; unwritten = part.1; some_left = part.3; front = ap last_line is ∙ part.2; in_form = λ some. absurd (omega arith); after = after_none text [] [] same })))))))
     fault_answered group number at is same (Store code) (inr memory) =
         nothing group (Store code) [] same (writes_nothing held written memory.1)
-        (inr (inr (inr (inr (inr (inr (record { memory = memory.0; one_open = omega arith; no_part = refl; after = after_none text [] [] same })))))))
+        (inr (inr (inr (inr (inr (inr (record { memory = memory.0; all = omega arith; no_part = refl; after = after_none text [] [] same })))))))

@@ -1,13 +1,13 @@
 -- What the answer to a form is to a session.
-use Rattle.std.proofs.Common.{◌≡◌, ◌≢◌, ◌∷◌, ℕ, Bool, true, false, List, [], ◌++◌, length, drop, Option, Some, IsSome, is_some, Result, Ok, Err, IfOk, IfErr, refl, sym, ap, subst, ◌∙◌, inl, inr, append_assoc, arith}
+use Rattle.std.proofs.Common.{◌≡◌, ◌≢◌, ◌∷◌, ℕ, Bool, true, false, List, [], ◌++◌, length, drop, Option, Some, IsSome, is_some, Result, Ok, Err, refl, sym, ap, subst, ◌∙◌, inl, inr, append_assoc, arith}
 use Rattle.disk_trait.specs.Disk.{State, IsHonest, IsSound}
 use Rattle.gate_log.specs.Layout.{LogRecord}
 use Rattle.lisp_object.specs.Object.{Object}
-use Rattle.lisp_object.specs.Datum.{object_of, is_proper}
+use Rattle.lisp_object.specs.Datum.{object_of}
 use Rattle.lisp_object.specs.declared.refusal.TheConstants.{LOG_FULL, OUTPUT, NO_MEMORY}
 use Rattle.form_eval.specs.Acceptance.{accept}
 use Rattle.lisp_operators.specs.Evaluation.{Done, Evaluation}
-use Rattle.lisp_operators.specs.Evaluated.{IsArgument, done as done_of}
+use Rattle.lisp_operators.specs.Evaluated.{done as done_of}
 use Rattle.lisp_operators.specs.declared.evaluated.Evaluated.{Evaluated}
 use Rattle.canon_printer.specs.Printed.{printed}
 use Rattle.lisp_reading.specs.Reading.{form}
@@ -18,7 +18,7 @@ use Rattle.prevalence_store.specs.declared.session.answer.Answered.{Answered}
 use Rattle.prevalence_store.specs.declared.mode.Mode.{Mode}
 use Rattle.prevalence_store.specs.declared.outcome.Ending.TheVariants.{Store}
 use Rattle.prevalence_store.specs.meaning.Acceptance.{after, between, logged, read_in, records_of}
-use Rattle.prevalence_store.specs.steps.Failure.{is_device}
+use Rattle.prevalence_store.specs.steps.Failure.{failure_number, is_device, is_refusal}
 use Rattle.prevalence_store.specs.steps.Batch.{TakesForm}
 use Rattle.prevalence_store.specs.calls.Execute.{Stores, SurvivesAs}
 use Rattle.prevalence_store.specs.meaning.Answers.{Progress, after_forms, begun, evaluated, last_line, one_form, refusal_line, value_line}
@@ -29,8 +29,8 @@ use Rattle.prevalence_store.proofs.steps.Committing.{accepts-logged}
 use Rattle.prevalence_store.proofs.calls.Executing.{own_whole}
 use Rattle.prevalence_store.proofs.meaning.Replaying.{stepped}
 use Rattle.prevalence_store.specs.calls.Streams.{Writes, WritesPart}
-use Rattle.prevalence_store.specs.steps.Answer.{EndsTry, LeavesRecord, LogsAtOnce, StopsInForm, TriesForm, answered_of}
-use Rattle.prevalence_store.specs.steps.Output.{IsLine, IsStop}
+use Rattle.prevalence_store.specs.steps.Answer.{EndsTry, IsLeft, LeavesRecord, LogsAtOnce, StopsInForm, TriesForm, answered_of}
+use Rattle.prevalence_store.specs.steps.Output.{IsLine}
 use Rattle.prevalence_store.proofs.Surviving.{all_or_none_of_one, fewer_survive, unchanged_survives}
 use Rattle.user_macros.specs.Functions.{Functions}
 use Rattle.prevalence_store.proofs.steps.Endings.{writes_nothing, part_of, after_one_form, after_none, nothing}
@@ -224,7 +224,7 @@ module _ (functions : Functions) where
     out_of_memory number memory same quiet = (
       record {
         serves = nothing functions state sound old new w mode text held written known false (Store number) [] same (writes_nothing held written quiet)
-            (inr (inr (inr (inr (inr (inr (record { memory = memory; one_open = omega arith; no_part = refl; after = after_none functions state sound old new w mode text held written known text [] [] same })))))));
+            (inr (inr (inr (inr (inr (inr (record { memory = memory; all = omega arith; no_part = refl; after = after_none functions state sound old new w mode text held written known text [] [] same })))))));
         in_form = λ output. absurd (omega arith);
         accepted = refl;
       },
@@ -234,20 +234,13 @@ module _ (functions : Functions) where
     records_written : (wrote : Bool) → wrote ≡ true → records_of wrote mode own ≡ logged mode own ∷ []
     records_written wrote wrote_is = ap (λ b. records_of b mode own) wrote_is
 
-    stops_in : (answer : Result Evaluated Failure) (number : ℕ) → TakesForm functions state old new mode own x answer → IsStop answer number → number ≢ LOG_FULL → written ≡ held
+    stops_in : (failure : Failure) (number : ℕ) → is_refusal failure ≡ false → TakesForm functions state old new mode own x (Err failure) → number ≡ failure_number failure → number ≢ LOG_FULL → written ≡ held
         → Stops number
     unfolding taken_only
-    stops_in (Ok e) number of stop other quiet =
-        let given = of.accepted w known in (
-          taken_only (evaluated w mode own (drop next text) (Ok (done_of e given.0))) [] number (length (records_of e.wrote mode own)) (one_is (Ok (done_of e given.0)) given.1)
-              (writes_nothing held written quiet) (of.survives w)
-              (inr (inr (inr (inr (inr (inr (record { memory = stop; one_open = omega arith; no_part = refl; after = after_stores e given.0 given.1 given.2 }))))))),
-          inr (inl (refl, inr stop, (e.wrote, leaves e.wrote given.0 given.2))),
-        )
-    stops_in (Err (Refused code)) number of stop other quiet = out_of_memory number stop (of.unchanged refl) quiet
-    stops_in (Err OutOfMemory) number of stop other quiet = out_of_memory number stop (of.unchanged refl) quiet
-    stops_in (Err Full) number of stop other quiet = absurd (other stop)
-    stops_in (Err DeviceFault) number of stop other quiet =
+    stops_in (Refused code) number calm of stop other quiet = absurd (cc)
+    stops_in OutOfMemory number calm of stop other quiet = out_of_memory number stop (of.unchanged refl) quiet
+    stops_in Full number calm of stop other quiet = absurd (other stop)
+    stops_in DeviceFault number calm of stop other quiet =
         let why = of.cause w known in
         let failed = of.fault refl in
         let taken = records_written why.0.0.wrote why.0.2 in (
@@ -272,12 +265,11 @@ module _ (functions : Functions) where
           inr (inr (stop, refl, refl, λ i. record { generation = failed.generation i; record_count = failed.record_count i; size = failed.size i })),
         )
 
-    over_in : (answer : Result Evaluated Failure) (number : ℕ) → TakesForm functions state old new mode own x answer → IsStop answer number → number ≡ LOG_FULL → IsOver functions old w mode text
-    over_in (Ok e) number of stop full = absurd (omega arith)
-    over_in (Err (Refused code)) number of stop full = absurd (omega arith)
-    over_in (Err OutOfMemory) number of stop full = absurd (omega arith)
-    over_in (Err DeviceFault) number of stop full = absurd (omega arith)
-    over_in (Err Full) number of stop full =
+    over_in : (failure : Failure) (number : ℕ) → is_refusal failure ≡ false → TakesForm functions state old new mode own x (Err failure) → number ≡ failure_number failure → number ≡ LOG_FULL → IsOver functions old w mode text
+    over_in (Refused code) number calm of stop full = absurd (cc)
+    over_in OutOfMemory number calm of stop full = absurd (omega arith)
+    over_in DeviceFault number calm of stop full = absurd (omega arith)
+    over_in Full number calm of stop full =
         let why = of.cause w known in
         record {
           next = evaluated w mode own (drop next text) (Ok why.0.0);
@@ -288,9 +280,10 @@ module _ (functions : Functions) where
         }
 
     -- there is no line: the form has no room, or it has ended the session
-    pub form_stops : (answer : Result Evaluated Failure) (number : ℕ) → TakesForm functions state old new mode own x answer → IsStop answer number → written ≡ held
+    pub form_stops : (failure : Failure) (number : ℕ) → IsLeft functions state old new mode own x failure → number ≡ failure_number failure → written ≡ held
         → TriesForm functions state old new w mode text held written (Err number)
-    form_stops answer number of stop quiet = (over_in answer number of stop, λ other. stops_in answer number of stop other quiet)
+    form_stops failure number left stop quiet =
+        (over_in failure number left.no_refusal left.takes stop, λ other. stops_in failure number left.no_refusal left.takes stop other quiet)
 
     -- the writer failed
     pub form_unwritten : (answer : Result Evaluated Failure) (line : List ℕ) → TakesForm functions state old new mode own x answer → IsLine new answer line
@@ -298,21 +291,12 @@ module _ (functions : Functions) where
     form_unwritten answer line of is_line writes = (λ full. absurd (omega arith), λ other. line_unwritten answer line of is_line writes)
 
   -- with the number 64 nothing was done
-  pub full_unchanged : {D R : Type 0} (old new : StoreView D R) (answer : Result Evaluated Failure) (number : ℕ) → IfErr answer (λ e. is_device e ≡ false → new ≡ old) → IsStop answer number
+  pub full_unchanged : {D R : Type 0} (old new : StoreView D R) (failure : Failure) (number : ℕ) → (is_device failure ≡ false → new ≡ old) → number ≡ failure_number failure
       → number ≡ LOG_FULL → new ≡ old
-  full_unchanged old new (Ok e) number same stop full = absurd (omega arith)
-  full_unchanged old new (Err (Refused code)) number same stop full = same refl
-  full_unchanged old new (Err OutOfMemory) number same stop full = same refl
-  full_unchanged old new (Err DeviceFault) number same stop full = absurd (omega arith)
-  full_unchanged old new (Err Full) number same stop full = same refl
-
-  -- what is answered is proper
-  pub answer_proper : {D R : Type 0} (state : D → State) (old new : StoreView D R) (w : WorldState) (mode : Mode) (own : List ℕ) (x : Object) (answer : Result Evaluated Failure)
-      → TakesForm functions state old new mode own x answer → old.world ≡ Some w → ((v : WorldState) → new.world ≡ Some v → IfOk answer (λ e. IsArgument v.packages e.value))
-      → IfOk answer (λ e. is_proper e.value ≡ true)
-  answer_proper state old new w mode own x (Ok e) of known argument =
-      let given = of.accepted w known in (argument given.0 (stores_left state old new e.wrote mode own given.0 given.2)).proper
-  answer_proper state old new w mode own x (Err failure) of known argument = tt
+  full_unchanged old new (Refused code) number same stop full = same refl
+  full_unchanged old new OutOfMemory number same stop full = same refl
+  full_unchanged old new DeviceFault number same stop full = absurd (omega arith)
+  full_unchanged old new Full number same stop full = same refl
 
   -- a store whose form has a line has a world
   pub line_known : {D R : Type 0} (state : D → State) (old new : StoreView D R) (w : WorldState) (mode : Mode) (own : List ℕ) (x : Object) (answer : Result Evaluated Failure) (line : List ℕ)

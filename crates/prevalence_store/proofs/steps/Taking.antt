@@ -17,11 +17,13 @@ use Rattle.prevalence_store.specs.declared.failure.Failure.TheVariants.{Refused,
 use Rattle.prevalence_store.specs.declared.mode.Mode.{Mode}
 use Rattle.prevalence_store.specs.declared.outcome.Outcome.{Outcome}
 use Rattle.prevalence_store.specs.declared.outcome.Wanted.{Wanted}
+use Rattle.prevalence_store.specs.declared.session.answer.Reply.{Reply}
 use Rattle.prevalence_store.specs.declared.session.gather.Gathered.{Gathered}
 use Rattle.prevalence_store.specs.meaning.Acceptance.{after, logged, read_in, records_of}
 use Rattle.prevalence_store.specs.calls.Execute.{Stores, SurvivesAs, taken_in}
 use Rattle.prevalence_store.specs.calls.ExecuteAll.{LogsAll, Turns, in_turn, told_by}
 use Rattle.prevalence_store.specs.calls.Store.{StoreView}
+use Rattle.prevalence_store.specs.steps.Answer.{IsLeft, IsReplyTo, TakesReply}
 use Rattle.prevalence_store.specs.steps.Batch.{IsNotAdded, StoresBatch, TakesBatch, TakesForm, entries_in, entries_of_texts}
 use Rattle.prevalence_store.specs.steps.Failure.{IsCause, is_device}
 use Rattle.prevalence_store.specs.steps.Gather.{IsCounted, IsGathered, TakesGroup}
@@ -65,6 +67,24 @@ module _ (functions : Functions) where
   pub one_record : (mode : Mode) (w v : WorldState) (text : List ℕ) (x : Object) (e : Evaluated) → read_in functions w mode text ≡ form x 0 (length text) (length text)
       → accept functions.names w x ≡ Ok (done e v) → (after functions w (records_of e.wrote mode text) ≡ Some v) × AllByRecursion IsLogRecord (records_of e.wrote mode text)
   one_record mode w v text x e whole valued = let is = of_value functions mode w text x (Ok (done e v)) valued whole in (is.again, is.fit)
+
+  -- what the log gets of a form, by what became of it
+  abbrev pub entries_to : Mode → List ℕ → Result Evaluated Failure → List LogRecord
+  entries_to mode own (Ok e) = records_of e.wrote mode own
+  entries_to mode own (Err failure) = []
+
+  -- it is in the batch, makes the world that the form left, and fits the log
+  pub reply_made : (mode : Mode) (w v : WorldState) (own : List ℕ) (x : Object) (begun new : Batch) (reply : Reply) (answer : Result Evaluated Failure) → IsReplyTo functions.names x own w v begun new reply answer
+      → begun.texts.items ≡ [] → read_in functions w mode own ≡ form x 0 (length own) (length own)
+      → (entries_in mode new ≡ entries_to mode own answer) × (after functions w (entries_to mode own answer) ≡ Some v) × AllByRecursion IsLogRecord (entries_to mode own answer)
+  reply_made mode w v own x begun new reply (Ok e) is none whole =
+      let made = one_record mode w v own x e whole is.0 in
+      (alone mode begun new (records_of e.wrote mode own) none (is.2 mode), made.0, made.1)
+  reply_made mode w v own x begun new reply (Err (Refused number)) is none whole =
+      (ap (λ (b : Batch). entries_in mode b) is.2 ∙ ap (λ (ts : List (Vec ℕ)). entries_of_texts mode ts) none, ap (λ s. Some s) (sym is.1), tt)
+  reply_made mode w v own x begun new reply (Err Full) is none whole = absurd is
+  reply_made mode w v own x begun new reply (Err DeviceFault) is none whole = absurd is
+  reply_made mode w v own x begun new reply (Err OutOfMemory) is none whole = absurd is
 
   module _ {D R : Type 0} (state : D → State) (sound : (d : D) → IsHonest (state d) → IsSound (state d)) (old new : StoreView D R) where
     -- ---- one form
@@ -142,6 +162,42 @@ module _ (functions : Functions) where
                 fault = λ device. (took.stopped device).failed;
                 survives = λ u is. subst (λ a. SurvivesAs functions state old new a (taken_in mode text (Err failure)) 0) (here u is) told.1 is;
               }
+
+        -- with the reply to it
+        module _ (w v : WorldState) (known : old.world ≡ Some w) (begun batch : Batch) (reply : Reply) where
+          pub reply_taken : (answer : Result Evaluated Failure) → IsReplyTo functions.names x text w v begun batch reply answer → StoresBatch functions state old new w v (entries_to mode text answer)
+              → TakesReply functions state old new mode text x reply
+          reply_taken (Ok e) is stores = record {
+            answer = Ok e;
+            takes = takes_value w v known e is.0 stores;
+            line = record { world = v; one = λ u left. let both : Some v ≡ Some u = sym stores.logs.left ∙ left in cc; line_of = is.3 };
+            told = is.4;
+          }
+          reply_taken (Err (Refused number)) is stores =
+              let same = stores.logs.nothing refl in
+              record {
+                answer = Err (Refused number);
+                takes = takes_nothing (Refused number) refl same (λ u left. let both : Some w ≡ Some u = sym known ∙ left in let one : w ≡ u = cc in subst (λ a. accept functions.names a x ≡ Err number) one is.0);
+                line = record { world = w; one = λ u left. let both : Some w ≡ Some u = sym known ∙ sym (ap (λ (s : StoreView D R). s.world) same) ∙ left in cc; line_of = is.3 };
+                told = is.4;
+              }
+          reply_taken (Err Full) is stores = absurd is
+          reply_taken (Err DeviceFault) is stores = absurd is
+          reply_taken (Err OutOfMemory) is stores = absurd is
+
+          none_left : (failure : Failure) {T : Type 0} → TakesBatch functions state old new w v [] {T = T} (Err failure) → TakesForm functions state old new mode text x (Err failure)
+          none_left OutOfMemory took = takes_nothing OutOfMemory refl (took.unchanged refl) (λ u is. tt)
+          none_left Full took = let over = took.full refl in absurd (omega (arith, over.0))
+          none_left DeviceFault took = let stopped = took.stopped refl in absurd (omega (arith, stopped.some))
+          none_left (Refused number) took = absurd (cc)
+
+          pub reply_left : (answer : Result Evaluated Failure) → IsReplyTo functions.names x text w v begun batch reply answer → (failure : Failure) {T : Type 0}
+              → TakesBatch functions state old new w v (entries_to mode text answer) {T = T} (Err failure) → IsLeft functions state old new mode text x failure
+          reply_left (Ok e) is failure took = record { takes = takes_failure w v known e is.0 failure took; no_refusal = took.no_refusal }
+          reply_left (Err (Refused number)) is failure took = record { takes = none_left failure took; no_refusal = took.no_refusal }
+          reply_left (Err Full) is failure took = absurd is
+          reply_left (Err DeviceFault) is failure took = absurd is
+          reply_left (Err OutOfMemory) is failure took = absurd is
 
     -- ---- texts
 

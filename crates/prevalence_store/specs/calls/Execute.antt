@@ -1,10 +1,9 @@
 -- What `execute` answers, each answer with its cause and with what is left after it.
 use Rattle.std.specs.Prelude.{Bool, true, false, ◌≡◌, ◌⊎◌, ℕ, ◌+◌, ◌<◌, ◌≤◌, List, [], ◌∷◌, length, None, Some, Result, Ok, Err}
-use Rattle.disk_trait.specs.Disk.{Image, State, IsHonest}
+use Rattle.disk_trait.specs.Disk.{State, IsHonest}
 use Rattle.disk_trait.specs.Half.{opposite_of}
 use Rattle.disk_trait.specs.declared.half.Half.{Half}
 use Rattle.gate_log.specs.Layout.{Contents, LogRecord, with_record}
-use Rattle.gate_log.specs.Log as gated
 use Rattle.lisp_object.specs.Object.{Object}
 use Rattle.lisp_object.specs.Datum.{object_of, is_proper}
 use Rattle.lisp_operators.specs.Evaluated.{IsArgument}
@@ -20,10 +19,6 @@ use Rattle.prevalence_store.specs.calls.Store.{LeavesAlone, StoreView, Describes
 use Rattle.prevalence_store.specs.Theorem.{Keeps, Survives}
 use Rattle.plist_state.specs.State.{WorldState}
 use Rattle.user_macros.specs.Functions.{Functions}
-
--- the log holds what it held, or this record more
-abbrev pub IsBeforeOrAfter : Contents → LogRecord → Image → Type 0
-IsBeforeOrAfter k entry = gated.FilesMeanEither (Some k) (Some (with_record k entry))
 
 -- A store without a world answers nothing, until it is opened again.
 abbrev pub AsksToReopen : {D R : Type 0} → (old new : StoreView D R) → Outcome → Type 0

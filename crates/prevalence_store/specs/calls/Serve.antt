@@ -192,10 +192,10 @@ module _ (functions : Functions) {D R : Type 0} (state : D → State) (old new :
             × ((rest : List ℕ) × (rest ≢ []) × (next.lines ≡ answered.lines ++ part ++ rest))
         pub after : IsAfter functions state old new world far
 
-      -- a growth was refused: one form may be in that was not answered, and of a group none
+      -- a growth was refused: no form is in that was not answered
       pub record IsOutOfMemory (number : ℕ) : Type 0 where
         pub memory : number ≡ NO_MEMORY
-        pub one_open : forms ≤ lines + 1
+        pub all : lines ≡ forms
         pub no_part : part ≡ []
         pub after : IsAfter functions state old new world far
 

@@ -1,17 +1,21 @@
 -- What the answer to a form, and to a refusal of the reader, is to a session.
-use Rattle.std.specs.Prelude.{◌≡◌, ◌≢◌, ◌⊎◌, ℕ, ◌+◌, ◌≤◌, Bool, true, false, List, [], ◌∷◌, length, Option, Some, IsSome, Ok, Err, Result}
+use Rattle.std.specs.Prelude.{◌≡◌, ◌≢◌, ◌⊎◌, ℕ, ◌+◌, ◌≤◌, Bool, true, false, List, [], ◌∷◌, ◌++◌, length, Option, Some, IsSome, Ok, Err, Result}
 use Rattle.disk_trait.specs.Disk.{State}
 use Rattle.gate_log.specs.Layout.{LogRecord}
 use Rattle.lisp_object.specs.Object.{Object, IsSound}
 use Rattle.lisp_object.specs.Datum.{object_of, is_proper}
 use Rattle.form_eval.specs.declared.read_form.ReadForm.{ReadForm}
 use Rattle.package_table.specs.Symbols.{are_there}
+use Rattle.lisp_operators.specs.Evaluated.{IsArgument, done}
 use Rattle.lisp_operators.specs.declared.evaluated.Evaluated.{Evaluated}
+use Rattle.form_eval.specs.Acceptance.{accept}
 use Rattle.lisp_object.specs.declared.refusal.TheConstants.{DEVICE, LOG_FULL, OUTPUT, NO_MEMORY}
 use Rattle.lisp_reading.specs.Reading.{form}
+use Rattle.prevalence_store.specs.declared.batch.Batch.{Batch}
 use Rattle.prevalence_store.specs.declared.failure.Failure.{Failure}
 use Rattle.prevalence_store.specs.declared.failure.Failure.TheVariants as failure
 use Rattle.prevalence_store.specs.declared.session.answer.Answered.{Answered}
+use Rattle.prevalence_store.specs.declared.session.answer.Reply.{Reply}
 use Rattle.prevalence_store.specs.declared.session.answer.Answered.TheVariants.{Accepted, Refused}
 use Rattle.prevalence_store.specs.declared.mode.Mode.{Mode}
 use Rattle.prevalence_store.specs.declared.outcome.Ended.{Ended}
@@ -19,13 +23,16 @@ use Rattle.prevalence_store.specs.declared.outcome.Ended.TheVariants as ways
 use Rattle.prevalence_store.specs.declared.outcome.Wanted.{Wanted}
 use Rattle.prevalence_store.specs.declared.outcome.Ending.{Ending}
 use Rattle.prevalence_store.specs.declared.outcome.Ending.TheVariants.{End, Reader, Store}
-use Rattle.prevalence_store.specs.meaning.Acceptance.{between, read_in}
-use Rattle.prevalence_store.specs.meaning.Answers.{Progress, begun, refusal_line}
+use Rattle.prevalence_store.specs.meaning.Acceptance.{between, read_in, records_of}
+use Rattle.prevalence_store.specs.meaning.Answers.{Progress, begun, refusal_line, value_line}
 use Rattle.prevalence_store.specs.calls.Pace.{Fill, LogsWithRoom, Pace, Paces, fill_of, longer_by}
 use Rattle.prevalence_store.specs.calls.Serve.{Advances, IsOver, IsUnaccepted, Serves, ServesInPace}
 use Rattle.prevalence_store.specs.calls.Store.{StoreView}
 use Rattle.prevalence_store.specs.calls.Streams.{Writes, WritesPart}
+use Rattle.prevalence_store.specs.steps.Batch.{TakesForm, entries_in}
 use Rattle.prevalence_store.specs.steps.Course.{Course}
+use Rattle.prevalence_store.specs.steps.Failure.{is_refusal}
+use Rattle.prevalence_store.specs.steps.Output.{IsLine}
 use Rattle.plist_state.specs.State.{WorldState}
 use Rattle.user_macros.specs.Functions.{Functions}
 
@@ -65,6 +72,32 @@ answered_of (Err failure.OutOfMemory) = Accepted false
 abbrev pub was_logged : Answered → Bool
 was_logged (Accepted logged) = logged
 was_logged (Refused number) = false
+
+-- what a reply is to a form that was added to a batch in one world, and left the other, by what became of it
+abbrev pub IsReplyTo : (names : List (List ℕ)) → Object → List ℕ → (before after : WorldState) → (old new : Batch) → Reply → Result Evaluated Failure → Type 0
+IsReplyTo names object own before after old new reply (Ok e) =
+    (accept names before object ≡ Ok (done e after)) × IsArgument after.packages e.value
+    × ((mode : Mode) → entries_in mode new ≡ entries_in mode old ++ records_of e.wrote mode own)
+    × (reply.line.items ≡ value_line after (object_of e.value)) × (reply.answered ≡ Accepted e.wrote)
+IsReplyTo names object own before after old new reply (Err (failure.Refused number)) =
+    (accept names before object ≡ Err number) × (after ≡ before) × (new ≡ old)
+    × (reply.line.items ≡ refusal_line number) × (reply.answered ≡ Refused number)
+IsReplyTo names object own before after old new reply (Err failure.Full) = ⊥
+IsReplyTo names object own before after old new reply (Err failure.DeviceFault) = ⊥
+IsReplyTo names object own before after old new reply (Err failure.OutOfMemory) = ⊥
+
+module _ (functions : Functions) {D R : Type 0} (state : D → State) (old new : StoreView D R) (mode : Mode) (own : List ℕ) (object : Object) where
+  -- a form was taken, and this is the reply to it
+  pub record TakesReply (reply : Reply) : Type 0 where
+    pub answer : Result Evaluated Failure
+    pub takes : TakesForm functions state old new mode own object answer
+    pub line : IsLine new answer reply.line.items
+    pub told : reply.answered ≡ answered_of answer
+
+  -- a form was not taken, and there is no reply
+  pub record IsLeft (failure : Failure) : Type 0 where
+    pub takes : TakesForm functions state old new mode own object (Err failure)
+    pub no_refusal : is_refusal failure ≡ false
 
 -- it was refused, or not
 abbrev pub TellsForm : Functions → WorldState → Mode → List ℕ → Progress → Answered → Type 0

@@ -2,7 +2,6 @@
 use Rattle.std.specs.Prelude.{◌≡◌, ℕ, List, Some, Ok, Err, Result}
 use Rattle.lisp_object.specs.Datum.{object_of}
 use Rattle.lisp_operators.specs.declared.evaluated.Evaluated.{Evaluated}
-use Rattle.lisp_object.specs.declared.refusal.TheConstants.{DEVICE, LOG_FULL, NO_MEMORY}
 use Rattle.prevalence_store.specs.declared.failure.Failure.{Failure}
 use Rattle.prevalence_store.specs.declared.failure.Failure.TheVariants.{Refused, Full, DeviceFault, OutOfMemory}
 use Rattle.prevalence_store.specs.meaning.Answers.{refusal_line, value_line}
@@ -22,11 +21,3 @@ pub record IsLine {D R : Type 0} (new : StoreView D R) (answer : Result Evaluate
   pub world : WorldState
   pub one : (v : WorldState) → new.world ≡ Some v → v ≡ world
   pub line_of : IsLineOf world answer line
-
--- why there is no such line
-abbrev pub IsStop : Result Evaluated Failure → ℕ → Type 0
-IsStop (Ok evaluated) number = number ≡ NO_MEMORY
-IsStop (Err (Refused refusal)) number = number ≡ NO_MEMORY
-IsStop (Err Full) number = number ≡ LOG_FULL
-IsStop (Err DeviceFault) number = number ≡ DEVICE
-IsStop (Err OutOfMemory) number = number ≡ NO_MEMORY

@@ -1,24 +1,30 @@
 // The answer to a form, and to a refusal of the reader.
-ghost use Rattle.std.specs.Prelude.{◌≡◌, ◌≤◌, ◌<◌, ◌+◌, ◌^◌, ℕ, List, Some, IsSome, IfOk, IfErr, OnOk, true};
-ghost use Rattle.lisp_object.specs.Datum.{object_of, is_proper};
+ghost use Rattle.std.specs.Prelude.{◌≡◌, Result, ◌≤◌, ◌<◌, ◌+◌, ◌^◌, ℕ, List, Some, IsSome, IfOk, IfErr, OnOk, true};
+ghost use Rattle.form_eval.specs.Laws.{MayEvaluate};
+ghost use Rattle.lisp_object.specs.Datum.{object_of};
 ghost use Rattle.lisp_object.specs.declared.refusal.TheConstants.{LOG_FULL};
+ghost use Rattle.lisp_operators.specs.declared.evaluated.Evaluated.{Evaluated};
 ghost use Rattle.plist_state.specs.State.{WorldState};
-ghost use Rattle.prevalence_store.specs.steps.Answer.{AnswersFault, AnswersForm, AnswersRead, BeginsWith, FitsForm, IsFormOf, TriesForm, answered_of, was_logged};
-ghost use Rattle.prevalence_store.specs.steps.Output.{IsLine, IsStop};
+ghost use Rattle.prevalence_store.specs.declared.failure.Failure.{Failure};
+ghost use Rattle.prevalence_store.specs.steps.Answer.{AnswersFault, AnswersForm, AnswersRead, BeginsWith, FitsForm, IsFormOf, IsReplyTo, TriesForm, was_logged};
+ghost use Rattle.prevalence_store.specs.steps.Batch.{IsMarkedFirst};
 ghost use Rattle.prevalence_store.specs.steps.Course.{course_of};
 ghost use Rattle.prevalence_store.specs.steps.Schedule.{pace_of};
 
+use crate::batch::Batch;
 use crate::failure::Failure;
 use crate::mode::Mode;
 use crate::outcome::{Ended, Ending, Wanted};
 use crate::session::course::Course;
 use crate::session::input::PlacedForm;
-use crate::session::output::{line_of_answer, line_of_refusal};
+use crate::session::output::{line_of_refusal, line_of_value};
 use crate::session::schedule::Schedule;
 use crate::store::Store;
 use disk_trait::Disk;
-use form_eval::{Evaluated, ReadForm};
+use form_eval::ReadForm;
 use lisp_object::refusal::{LOG_FULL, NO_MEMORY, OUTPUT};
+use plist_state::World;
+use std::alloc::{AllocError, Global};
 use std::io::Write;
 use user_macros::MacroFunctions;
 
@@ -29,6 +35,13 @@ pub(crate) enum Answered {
     Accepted { logged: bool },
     /// Its evaluation was refused, with this number.
     Refused(u16),
+}
+
+/// What answers a form: its line, and what became of it.
+#[derive(Drop)]
+pub(crate) struct Reply {
+    pub(crate) line: Vec<u8>,
+    pub(crate) answered: Answered,
 }
 
 impl Answered {
@@ -181,40 +194,45 @@ impl<D: Disk, R: MacroFunctions> Store<D, R> {
     {
         self.world.soundness();
         self.keeps_its_world();
-        let answer = self.take_form(mode, form, own);
-        let line = match self.line(&answer) {
-            Ok(line) => line,
-            Err(number) => return Err(number),
+        let reply = match self.take_reply(mode, form, own) {
+            Ok(reply) => reply,
+            Err(failure) => return Err(failure.number()),
         };
         // what is answered is stored: a line comes after its record
-        match self.write_lines(writer, line.as_slice()) {
-            Ok(()) => Ok(answer_given(&answer)),
+        match self.write_lines(writer, reply.line.as_slice()) {
+            Ok(()) => Ok(reply.answered),
             Err(_) => Err(OUTPUT),
         }
     }
 }
 
-impl<D: Disk, R: MacroFunctions> Store<D, R> {
-    // The line that answers a form, or the number of the fault that ends the session.
-    fn line(&self, answer: &Result<Evaluated, Failure>) -> Result<Vec<u8>, u16>
-        requires proper { IfOk answer.now (λ e. is_proper e.value ≡ true) }
-        ensures line { IfOk result (λ line. IsLine self.now answer.now line.items) }
-        ensures stop { IfErr result (IsStop answer.now) }
-    {
-        line_of_answer(self.alloc, &self.world, answer)
-    }
-}
-
-// What became of a form that has a line.
-fn answer_given(answer: &Result<Evaluated, Failure>) -> Answered
-    ensures { result ≡ answered_of answer.now }
+/// Adds a form to a batch, and makes the line that answers it.
+pub(crate) fn reply_to<R: MacroFunctions>(
+    alloc: Global,
+    world: &mut World,
+    macros: &R,
+    batch: &mut Batch,
+    form: &ReadForm,
+    own: &[u8],
+) -> Result<Reply, AllocError>
+    requires form { MayEvaluate world.old.0.packages form.now }
+    ensures replies { IfOk result (λ reply. (answer : Result Evaluated Failure) × IsReplyTo R.Meaning.functions.names (object_of form.now.datum)
+        own.now world.old.0 world.new.0 batch.old batch.new reply answer) }
+    ensures marks { (first : WorldState) → IsMarkedFirst first world.old.1
+        → IsMarkedFirst first world.new.1 }
 {
-    match answer {
-        Ok(evaluated) => Answered::Accepted {
-            logged: evaluated.wrote,
-        },
-        Err(Failure::Refused(number)) => Answered::Refused(*number),
-        // these end the session, and have no line
-        Err(_) => Answered::Accepted { logged: false },
+    match batch.add(alloc, world, macros, form, own) {
+        Ok(evaluated) => {
+            let line = line_of_value(alloc, world, &evaluated)?;
+            let logged = evaluated.wrote;
+            let answered = Answered::Accepted { logged };
+            Ok(Reply { line, answered })
+        }
+        Err(Failure::Refused(number)) => {
+            let line = line_of_refusal(alloc, number)?;
+            let answered = Answered::Refused(number);
+            Ok(Reply { line, answered })
+        }
+        Err(_) => Err(AllocError),
     }
 }

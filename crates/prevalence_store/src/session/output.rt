@@ -1,17 +1,15 @@
 // What a session writes.
-ghost use Rattle.std.specs.Prelude.{◌≡◌, OnOk, OnErr, IfOk, IfErr, true};
+ghost use Rattle.std.specs.Prelude.{◌≡◌, OnOk, OnErr, IfOk, true};
 ghost use Rattle.lisp_object.specs.Datum.{object_of, is_proper};
 ghost use Rattle.prevalence_store.specs.meaning.Answers.{refusal_line, value_line};
-ghost use Rattle.prevalence_store.specs.steps.Output.{IsLineOf, IsStop};
 ghost use Rattle.prevalence_store.specs.calls.Streams.{Writes, WritesPart};
 ghost use Rattle.prevalence_store.specs.steps.Writing.{MayBeWritten};
 
-use crate::failure::Failure;
 use crate::store::Store;
 use canon_printer::print;
 use disk_trait::Disk;
 use form_eval::Evaluated;
-use lisp_object::refusal::{NO_MEMORY, name_of};
+use lisp_object::refusal::name_of;
 use plist_state::World;
 use std::alloc::{AllocError, Global};
 use std::io::Write;
@@ -89,31 +87,4 @@ pub(crate) fn line_of_refusal(alloc: Global, number: u16) -> Result<Vec<u8>, All
     line.extend_from_slice(name_of(number).as_bytes())?;
     line.push(b'\n')?;
     Ok(line)
-}
-
-/// The line that answers a form: its value, or the number and the name of the refusal of its evaluation.
-///
-/// # Errors
-///
-/// The number of the fault where the form ends the session, or of memory that was refused.
-pub(crate) fn line_of_answer(
-    alloc: Global,
-    world: &World,
-    answer: &Result<Evaluated, Failure>,
-) -> Result<Vec<u8>, u16>
-    requires { IfOk answer.now (λ e. is_proper e.value ≡ true) }
-    ensures line { IfOk result (λ line. IsLineOf world.now.0 answer.now line.items) }
-    ensures stop { IfErr result (IsStop answer.now) }
-{
-    match answer {
-        Ok(evaluated) => match line_of_value(alloc, world, evaluated) {
-            Ok(line) => Ok(line),
-            Err(_) => Err(NO_MEMORY),
-        },
-        Err(Failure::Refused(number)) => match line_of_refusal(alloc, *number) {
-            Ok(line) => Ok(line),
-            Err(_) => Err(NO_MEMORY),
-        },
-        Err(failure) => Err(failure.number()),
-    }
 }

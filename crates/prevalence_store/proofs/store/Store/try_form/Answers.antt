@@ -5,13 +5,13 @@ use Rattle.plist_state.specs.State.{WorldState}
 use Rattle.prevalence_store.specs.calls.Streams.{Writes, WritesPart}
 use Rattle.prevalence_store.proofs.calls.Executing.{known_world, world_inside}
 use Rattle.prevalence_store.proofs.steps.Pendings.{begins_whole, may_evaluate}
-use Rattle.prevalence_store.proofs.steps.FormAnswers.{answer_proper, form_answered, form_stops, form_unwritten, full_unchanged, line_known}
+use Rattle.prevalence_store.proofs.steps.FormAnswers.{form_answered, form_stops, form_unwritten, full_unchanged, line_known}
 use Rattle.prevalence_store.proofs.steps.Storing.{line_stored, written_alone}
 use Rattle.prevalence_store.specs.steps.Writing.{AreStored}
 use Rattle.prevalence_store.proofs.store.Store.try_form.Goals as goal
 
-pub take_form-answer-requires : goal.take_form-answer-requires
-take_form-answer-requires g c =
+pub take_reply-requires : goal.take_reply-requires
+take_reply-requires g c =
     let functions = g.R.Meaning.Meaning.functions in
     let inside = c.self.inside in record {
       form = record {
@@ -26,67 +26,57 @@ take_form-answer-requires g c =
       };
     }
 
-pub line-requires : goal.line-requires
-line-requires g c = record {
-  proper =
-      let functions = g.R.Meaning.Meaning.functions in
-      let here = known_world c.args.self.now.world c.requires.form.is_open in
-      let e = c.take_form-answer.ensures in
-      answer_proper functions g.D.Disk.state c.args.self.now c.take_form-answer.new.self here.0 c.args.mode c.args.own.now (object_of c.args.form.now.datum) c.take_form-answer.result
-      e.takes here.1 e.argument;
-}
-
 pub write_lines-requires : goal.write_lines-requires
 write_lines-requires g c = record {
   stored =
       let functions = g.R.Meaning.Meaning.functions in
       let here = known_world c.args.self.now.world c.requires.form.is_open in
       let b = c.requires.form.begins here.0 here.1 in
-      let e = c.take_form-answer.ensures in
-      let line = c.in-Ok.line.items in
-      inr (subst (AreStored functions (g.D.Disk.state c.take_form-answer.new.self.disk)) (sym c.as_slice.ensures.value)
-      (line_stored functions g.D.Disk.state c.args.self.now c.take_form-answer.new.self here.0 here.1 e.honest (c.keeps_its_world.ensures here.0 here.1) c.args.mode b.0 line _
-      (form_answered functions g.D.Disk.state g.met.D.Disk.sound c.args.self.now c.take_form-answer.new.self here.0 c.args.mode b.0 (Some []) (Some line)
-      here.1 b.1.1.start b.1.1.stop b.1.0 (object_of c.args.form.now.datum) b.1.1.reads c.args.own.now b.1.1.is_own c.take_form-answer.result line
-      e.takes c.in-Ok.ensures.line (written_alone line) _ refl)));
+      let e = c.take_reply.ensures in
+      let r = c.in-Ok.ensures.takes in
+      let line = c.in-Ok.reply.line.items in
+      inr (subst (AreStored functions (g.D.Disk.state c.take_reply.new.self.disk)) (sym c.as_slice.ensures.value)
+      (line_stored functions g.D.Disk.state c.args.self.now c.take_reply.new.self here.0 here.1 e.honest (c.keeps_its_world.ensures here.0 here.1) c.args.mode b.0 line _
+      (form_answered functions g.D.Disk.state g.met.D.Disk.sound c.args.self.now c.take_reply.new.self here.0 c.args.mode b.0 (Some []) (Some line)
+      here.1 b.1.1.start b.1.1.stop b.1.0 (object_of c.args.form.now.datum) b.1.1.reads c.args.own.now b.1.1.is_own r.answer line
+      r.takes r.line (written_alone line) _ refl)));
 }
 
 pub returns-in-Err-clause-tries : goal.returns-in-Err-clause-tries
 returns-in-Err-clause-tries g c = λ w known text next begins.
     let functions = g.R.Meaning.Meaning.functions in
-    let e = c.take_form-answer.ensures in
-    form_stops functions g.D.Disk.state g.met.D.Disk.sound c.args.self.now c.take_form-answer.new.self w c.args.mode text (g.W.Write.contents c.args.writer.now) (g.W.Write.contents c.args.writer.now)
-    known begins.start begins.stop next (object_of c.args.form.now.datum) begins.reads c.args.own.now begins.is_own c.take_form-answer.result c.in-Err.number
-    e.takes c.in-Err.ensures.stop refl
+    form_stops functions g.D.Disk.state g.met.D.Disk.sound c.args.self.now c.take_reply.new.self w c.args.mode text (g.W.Write.contents c.args.writer.now) (g.W.Write.contents c.args.writer.now)
+    known begins.start begins.stop next (object_of c.args.form.now.datum) begins.reads c.args.own.now begins.is_own c.in-Err.failure _
+    c.in-Err.ensures.left c.number.ensures refl
 
 pub returns-in-Ok-write_lines-clause-tries : goal.returns-in-Ok-write_lines-clause-tries
 returns-in-Ok-write_lines-clause-tries g c = λ w known text next begins.
     let functions = g.R.Meaning.Meaning.functions in
-    let e = c.take_form-answer.ensures in
-    form_answered functions g.D.Disk.state g.met.D.Disk.sound c.args.self.now c.take_form-answer.new.self w c.args.mode text (g.W.Write.contents c.args.writer.now) (g.W.Write.contents c.write_lines.new.writer)
-    known begins.start begins.stop next (object_of c.args.form.now.datum) begins.reads c.args.own.now begins.is_own c.take_form-answer.result c.in-Ok.line.items
-    e.takes c.in-Ok.ensures.line
+    let r = c.in-Ok.ensures.takes in
+    form_answered functions g.D.Disk.state g.met.D.Disk.sound c.args.self.now c.take_reply.new.self w c.args.mode text (g.W.Write.contents c.args.writer.now) (g.W.Write.contents c.write_lines.new.writer)
+    known begins.start begins.stop next (object_of c.args.form.now.datum) begins.reads c.args.own.now begins.is_own r.answer c.in-Ok.reply.line.items
+    r.takes r.line
     (subst (Writes (g.W.Write.contents c.args.writer.now) (g.W.Write.contents c.write_lines.new.writer)) c.as_slice.ensures.value c.in-Ok-write_lines.ensures.whole)
-    c.answer_given.result c.answer_given.ensures
+    c.in-Ok.reply.answered r.told
 
 pub returns-in-Ok-write_lines-clause-is_open : goal.returns-in-Ok-write_lines-clause-is_open
 returns-in-Ok-write_lines-clause-is_open g c =
     let functions = g.R.Meaning.Meaning.functions in
     let here = known_world c.args.self.now.world c.requires.form.is_open in
-    let e = c.take_form-answer.ensures in
-    line_known functions g.D.Disk.state c.args.self.now c.take_form-answer.new.self here.0 c.args.mode c.args.own.now (object_of c.args.form.now.datum) c.take_form-answer.result c.in-Ok.line.items
-    e.takes c.in-Ok.ensures.line here.1
+    let r = c.in-Ok.ensures.takes in
+    line_known functions g.D.Disk.state c.args.self.now c.take_reply.new.self here.0 c.args.mode c.args.own.now (object_of c.args.form.now.datum) r.answer c.in-Ok.reply.line.items
+    r.takes r.line here.1
 
 pub returns-clause-tries : goal.returns-clause-tries
 returns-clause-tries g c = λ w known text next begins.
     let functions = g.R.Meaning.Meaning.functions in
-    let e = c.take_form-answer.ensures in
-    form_unwritten functions g.D.Disk.state g.met.D.Disk.sound c.args.self.now c.take_form-answer.new.self w c.args.mode text (g.W.Write.contents c.args.writer.now) (g.W.Write.contents c.write_lines.new.writer)
-    known begins.start begins.stop next (object_of c.args.form.now.datum) begins.reads c.args.own.now begins.is_own c.take_form-answer.result c.in-Ok.line.items
-    e.takes c.in-Ok.ensures.line
+    let r = c.in-Ok.ensures.takes in
+    form_unwritten functions g.D.Disk.state g.met.D.Disk.sound c.args.self.now c.take_reply.new.self w c.args.mode text (g.W.Write.contents c.args.writer.now) (g.W.Write.contents c.write_lines.new.writer)
+    known begins.start begins.stop next (object_of c.args.form.now.datum) begins.reads c.args.own.now begins.is_own r.answer c.in-Ok.reply.line.items
+    r.takes r.line
     (subst (WritesPart (g.W.Write.contents c.args.writer.now) (g.W.Write.contents c.write_lines.new.writer)) c.as_slice.ensures.value c.in-Err-write_lines.ensures.part)
 
 pub returns-in-Err-clause-unchanged : goal.returns-in-Err-clause-unchanged
 returns-in-Err-clause-unchanged g c =
     let functions = g.R.Meaning.Meaning.functions in
-    full_unchanged functions c.args.self.now c.take_form-answer.new.self c.take_form-answer.result c.in-Err.number c.take_form-answer.ensures.takes.unchanged c.in-Err.ensures.stop
+    full_unchanged functions c.args.self.now c.take_reply.new.self c.in-Err.failure _ c.in-Err.ensures.left.takes.unchanged c.number.ensures

@@ -1,0 +1,2 @@
+-- the forms of a world as objects
+pub mod Objects

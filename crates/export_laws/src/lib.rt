@@ -1,0 +1,54 @@
+//! Laws of exports: what the forms of a world make. Each is the contract of a function that does nothing: who calls it has the law in
+//! his own proof.
+//!
+//! - `properties_are_made`: the forms of the properties, as objects, make the property lists in their order (`specs/Objects.antt`)
+//! - `properties_of_a_world`: so do those of each world that a program has, from the first world with its packages on
+//!
+//! That these objects are what is read of the text of an export, and that the forms of the packages and of the readtables make these,
+//! is not proved: tests say it.
+#![tactic(auto)]
+
+ghost use Rattle.std.specs.Prelude.{◌≡◌, List, Some, true};
+ghost use Rattle.std.specs.FinMap as finite;
+ghost use Rattle.lisp_object.specs.Object.{Object};
+ghost use Rattle.lisp_operators.specs.Evaluation.{writes};
+ghost use Rattle.package_table.specs.Symbols.{are_there};
+ghost use Rattle.package_table.specs.Table as packages;
+ghost use Rattle.package_table.specs.Table.{Name};
+ghost use Rattle.plist_state.specs.Changes.{with_property};
+ghost use Rattle.plist_state.specs.Properties.{Symbol};
+ghost use Rattle.plist_state.specs.Sound.{IsSound, IsSymbol};
+ghost use Rattle.plist_state.specs.State.{WorldState};
+ghost use Rattle.form_eval.specs.Acceptance.{accept};
+ghost use Rattle.snapshot_text.specs.Built.{with_packages_of, with_properties_of};
+ghost use Rattle.export_laws.specs.Objects.{after_each, property_object, property_objects};
+
+use plist_state::World;
+
+/// The forms of the properties of a sound state, one after the other in a state that has its packages and no properties, are all
+/// accepted, whatever macro functions there are. They leave that state with the property lists of the sound one, each in its order,
+/// and nothing else has changed.
+///
+/// - `one`: a form sets its property, and changes nothing else.
+/// - `all`: all of them.
+pub fn properties_are_made()
+    ensures one { (names : List Name) (s : WorldState) (x : Symbol) (p : Symbol × Object)
+        → packages.IsSound s.packages → IsSymbol s.packages x → IsSymbol s.packages p.0
+        → are_there s.packages p.1 ≡ true
+        → accept names s (property_object x p) ≡ writes p.1 (with_property s x p.0 p.1) }
+    ensures all { (names : List Name) (s now : WorldState)
+        → IsSound s → now.packages ≡ s.packages → now.properties ≡ finite.empty
+        → after_each names now (property_objects s)
+        ≡ Some (record now { properties = s.properties }) }
+{}
+
+/// The forms of the properties of a world that a program has, one after the other in the first world with its packages, leave that
+/// with its properties.
+pub fn properties_of_a_world(world: &World)
+    ensures { (names : List Name)
+        → after_each names (with_packages_of world.now.0) (property_objects world.now.0)
+        ≡ Some (with_properties_of world.now.0) }
+{
+    world.soundness();
+    properties_are_made();
+}

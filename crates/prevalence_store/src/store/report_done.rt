@@ -1,0 +1,35 @@
+// The disk of a store whose calls are done later.
+ghost use Rattle.std.specs.Prelude.{◌≡◌, [], false, Some};
+ghost use Rattle.disk_trait.specs.Disk.{IsHonest, Told};
+ghost use Rattle.plist_state.specs.State.{WorldState};
+ghost use Rattle.prevalence_store.specs.Theorem.{Keeps, Survives};
+
+use crate::store::Store;
+use disk_trait::Disk;
+use gate_log::DefersCalls;
+use user_macros::MacroFunctions;
+
+impl<D: Disk, R: MacroFunctions> Store<D, R> {
+    /// The disk, to look at.
+    pub fn disk(&self) -> &D
+        ensures { result.now ≡ self.now.disk }
+    {
+        self.log.halves.disk()
+    }
+}
+
+impl<D: DefersCalls, R: MacroFunctions> Store<D, R> {
+    /// Tells the disk that all calls were done which it deferred. The store is as it was, and so is what the disk holds. To the theorem
+    /// it is a call that takes no form.
+    pub fn report_done(&mut self)
+        ensures disk { D.reports self.old.disk self.new.disk }
+        ensures store { self.new ≡ record self.old { disk = self.new.disk } }
+        ensures tells { Told false (D.state self.old.disk) (D.state self.new.disk) }
+        ensures survives { (world : WorldState) → self.old.world ≡ Some world
+            → IsHonest (D.state self.old.disk)
+            → Keeps R.Meaning.functions (D.state self.old.disk) world
+            → Survives R.Meaning.functions (D.state self.old.disk) (D.state self.new.disk) world [] 0 self.new.world }
+    {
+        self.log.halves.report_done();
+    }
+}

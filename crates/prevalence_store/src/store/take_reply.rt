@@ -1,0 +1,49 @@
+// A form of a session, and the line that answers it.
+ghost use Rattle.std.specs.Prelude.{◌≡◌, length, IfErr, IfOk};
+ghost use Rattle.lisp_object.specs.Datum.{object_of};
+ghost use Rattle.prevalence_store.specs.steps.Answer.{IsLeft, TakesReply};
+ghost use Rattle.prevalence_store.specs.steps.Batch.{IsFormIn};
+
+use crate::batch::Batch;
+use crate::failure::Failure;
+use crate::mode::Mode;
+use crate::session::answer::{Reply, reply_to};
+use crate::store::Store;
+use disk_trait::Disk;
+use form_eval::ReadForm;
+use user_macros::MacroFunctions;
+
+impl<D: Disk, R: MacroFunctions> Store<D, R> {
+    /// Evaluates a form that was read, makes the line that answers it, and then logs its text if it wrote. So there is room for
+    /// the line before there is a record.
+    pub(crate) fn take_reply(
+        &mut self,
+        mode: Mode,
+        form: &ReadForm,
+        text: &[u8],
+    ) -> Result<Reply, Failure>
+        requires form { IsFormIn R.Meaning.functions self.old.world
+            mode form.now 0 (length text.now) text.now }
+        ensures takes { IfOk result (TakesReply R.Meaning.functions D.state self.old self.new
+            mode text.now (object_of form.now.datum)) }
+        ensures left { IfErr result (IsLeft R.Meaning.functions D.state self.old self.new
+            mode text.now (object_of form.now.datum)) }
+        ensures honest { (D.state self.new.disk).honest ≡ (D.state self.old.disk).honest }
+        ensures macros { self.new.macros ≡ self.old.macros }
+    {
+        let Ok(mut batch) = Batch::begin(self.alloc, &mut self.world) else {
+            return Err(Failure::OutOfMemory);
+        };
+        let world = &mut self.world;
+        match reply_to(self.alloc, world, &self.macros, &mut batch, form, text) {
+            Ok(reply) => match batch.log(self.alloc, mode, &mut self.log, &mut self.world) {
+                Ok(()) => Ok(reply),
+                Err(failure) => Err(failure),
+            },
+            Err(_) => {
+                self.world.back_to(0);
+                Err(Failure::OutOfMemory)
+            }
+        }
+    }
+}
