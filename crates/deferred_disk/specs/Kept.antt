@@ -7,3 +7,7 @@ pub record IsKeptOf (kept : Kept) (file : List ℕ) : Type 0 where
   pub len : kept.len ≡ length file
   pub first : take 1 file ≡ take (length file) (kept.first ∷ [])
   pub bytes : kept.bytes.items ≡ take (length kept.bytes.items) file
+
+-- all bytes of the file are kept
+abbrev pub IsWhole : Kept → Type 0
+IsWhole kept = length kept.bytes.items ≡ kept.len

@@ -1,10 +1,10 @@
 // The disk.
-ghost use Rattle.std.specs.Prelude.{◌≡◌, ◌↔◌, ◌+◌, ◌-◌, ◌<◌, ◌≤◌, ◌^◌, [], IsTrue, OnErr, OnOk, length};
+ghost use Rattle.std.specs.Prelude.{◌≡◌, ◌↔◌, ◌+◌, ◌-◌, ◌<◌, ◌≤◌, ◌^◌, [], IsOk, IsTrue, OnErr, OnOk, length};
 ghost use Rattle.std.proofs.Props.{props};
 ghost use Rattle.disk_trait.specs.Disk.{HoldsBytes};
 ghost use Rattle.deferred_disk.specs.Bytes.{orders_bytes};
 ghost use Rattle.deferred_disk.specs.Calls.{all_of};
-ghost use Rattle.deferred_disk.specs.Kept.{IsKeptOf};
+ghost use Rattle.deferred_disk.specs.Kept.{IsKeptOf, IsWhole};
 ghost use Rattle.deferred_disk.specs.State.{AllWriteBytes, all_write-prop, holds-prop, ordered, reads_by};
 ghost use Rattle.deferred_disk.specs.Sound.{sound_ordered};
 
@@ -40,12 +40,13 @@ pub struct DeferredDisk {
 impl DeferredDisk {
     ghost use Rattle.disk_trait.specs.Disk.{file_of};
     ghost use Rattle.deferred_disk.specs.Calls.{asked, begun, reported};
-    ghost use Rattle.deferred_disk.specs.Disk.{Asks, calls_of, pending_of, state_of};
+    ghost use Rattle.deferred_disk.specs.Disk.{Asks, KeepsAll, calls_of, pending_of, state_of};
     ghost use Rattle.deferred_disk.specs.Orders.{writes, cuts, syncs};
 
     /// Two files that hold these bytes now, of which a crash leaves just that: they were synced before they were read.
     pub fn new(alloc: Global, a: Vec<u8>, b: Vec<u8>) -> DeferredDisk
         ensures calls { calls_of result ≡ begun a.items b.items }
+        ensures all { KeepsAll result }
         ensures failures { (state_of result).failures ≡ 0 }
     {
         let past = Past::of(&a, &b);
@@ -74,7 +75,8 @@ impl DeferredDisk {
     }
 
     fn kept(&self, half: Half) -> &Kept
-        ensures { IsKeptOf result.now (file_of half (state_of self.now).reads) }
+        ensures kept { IsKeptOf result.now (file_of half (state_of self.now).reads) }
+        ensures whole { KeepsAll self.now → IsWhole result.now }
     {
         match half {
             Half::A => &self.a,
@@ -117,6 +119,7 @@ impl DeferredDisk {
 
     fn try_sync(&mut self, half: Half) -> Result<(), AllocError>
         ensures asks { Asks (syncs half) self.old self.new result }
+        ensures all { KeepsAll self.old → KeepsAll self.new }
         ensures failures { self.new.failures ≡ self.old.failures }
     {
         let order = Order::Sync { half };
@@ -136,7 +139,7 @@ fn counted(failures: &mut u64) -> DeviceFault
 
 impl Disk for DeferredDisk {
     ghost use Rattle.disk_trait.specs.Calls.{CutsFile, GivesBytes, GivesLength, IsWithin, SyncsFile, WritesBytes};
-    ghost use Rattle.deferred_disk.specs.Disk.{Asks, calls_of, state_of};
+    ghost use Rattle.deferred_disk.specs.Disk.{Asks, KeepsAll, calls_of, state_of};
     ghost use Rattle.deferred_disk.specs.Orders.{writes, cuts, syncs};
 
     ghost state = { λ d. ordered d.past.calls.start (all_of d.past.calls) d.failures };
@@ -151,6 +154,8 @@ impl Disk for DeferredDisk {
         requires { (state_of self.old).failures < 2 ^ 64 - 1 }
         ensures disk { GivesLength half (state_of self.old) (state_of self.new) result }
         ensures calls { calls_of self.new ≡ calls_of self.old }
+        ensures all { KeepsAll self.old → KeepsAll self.new }
+        ensures given { IsOk result }
     {
         Ok(self.kept(half).len())
     }
@@ -160,6 +165,9 @@ impl Disk for DeferredDisk {
         ensures disk { GivesBytes half at buffer.old buffer.new
             (state_of self.old) (state_of self.new) result }
         ensures calls { calls_of self.new ≡ calls_of self.old }
+        ensures all { KeepsAll self.old → KeepsAll self.new }
+        ensures given { KeepsAll self.old → IsOk result }
+        ensures first { at ≡ 0 → length buffer.old ≡ 1 → IsOk result }
     {
         match self.kept(half).read(at, buffer) {
             Some(count) => Ok(count),
@@ -196,6 +204,7 @@ impl Disk for DeferredDisk {
         requires { (state_of self.old).failures < 2 ^ 64 - 1 }
         ensures disk { SyncsFile half (state_of self.old) (state_of self.new) result }
         ensures asks { Asks (syncs half) self.old self.new result }
+        ensures all { KeepsAll self.old → KeepsAll self.new }
     {
         match self.try_sync(half) {
             Ok(()) => Ok(()),

@@ -1,7 +1,7 @@
 // What is kept in memory of a file.
-ghost use Rattle.std.specs.Prelude.{◌≡◌, ◌+◌, ◌≤◌, List, ℕ, IfSome, length, take, drop};
+ghost use Rattle.std.specs.Prelude.{◌≡◌, ◌+◌, ◌≤◌, List, ℕ, IfSome, IsSome, length, take, drop};
 ghost use Rattle.disk_trait.specs.Disk.{written};
-ghost use Rattle.deferred_disk.specs.Kept.{IsKeptOf};
+ghost use Rattle.deferred_disk.specs.Kept.{IsKeptOf, IsWhole};
 
 use std::alloc::Global;
 
@@ -15,7 +15,8 @@ pub(crate) struct Kept {
 
 impl Kept {
     pub(crate) fn new(bytes: Vec<u8>) -> Kept
-        ensures { IsKeptOf result bytes.items }
+        ensures kept { IsKeptOf result bytes.items }
+        ensures whole { IsWhole result }
     {
         let first = match bytes.first() {
             Some(byte) => *byte,
@@ -33,9 +34,11 @@ impl Kept {
 
     // Copies what the file has from there on, up to the buffer's length, and tells how much. None where it is not kept.
     pub(crate) fn read(&self, at: u64, buffer: &mut [u8]) -> Option<usize>
-        ensures { (file : List ℕ) → IsKeptOf self.now file
+        ensures bytes { (file : List ℕ) → IsKeptOf self.now file
             → IfSome result (λ count. (count ≤ length buffer.old)
             × (take count buffer.new ≡ take (length buffer.old) (drop at file))) }
+        ensures whole { IsWhole self.now → IsSome result }
+        ensures first { at ≡ 0 → length buffer.old ≡ 1 → IsSome result }
     {
         if at >= self.len || buffer.is_empty() {
             return Some(0);
