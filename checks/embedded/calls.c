@@ -198,6 +198,19 @@ static void folders(void) {
     free(name);
 }
 
+/* A file is far longer than a half may be: what comes after the half is not looked at. */
+static void long_files(void) {
+    pazturrok_store store = opened("long file");
+    EXPECT(answers(store, "(SETF (GET 'A 'B) 7)", "7"));
+    EXPECT(pazturrok_snapshot(store) == 0 && pazturrok_close(store) == 0);
+    EXPECT(truncate(folder("long file/half-a"), (off_t)1 << 33) == 0);
+    store = opened("long file");
+    EXPECT(answers(store, "(INCF (GET 'A 'B))", "8"));
+    EXPECT(pazturrok_snapshot(store) == 0 && pazturrok_close(store) == 0);
+    store = opened("long file");
+    EXPECT(answers(store, "(GET 'A 'B)", "8") && pazturrok_close(store) == 0);
+}
+
 static void many_stores(void) {
     static pazturrok_store stores[257];
     pazturrok_fault fault;
@@ -367,6 +380,8 @@ int main(int count, char **words) {
     long_texts();
     many_forms();
     folders();
+    /* it takes 2 GB for a moment */
+    if (getenv("CALLS_LONG_FILES")) long_files();
     many_stores();
     threads();
     closed_by_another();

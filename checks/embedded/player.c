@@ -177,10 +177,7 @@ static void serve(struct session *session) {
         execute_lines(session);
         return;
     }
-    for (size_t at = 0; at < have;) {
-        while (at < have && is_blank(input[at])) at++;
-        if (at < have) at = execute_one(session, at);
-    }
+    for (size_t at = 0; at < have;) at = execute_one(session, at);
 }
 
 static int run_program(char **words) {

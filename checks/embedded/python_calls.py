@@ -21,6 +21,7 @@ from pazturrok import (
     DottedList,
     EmbeddedStore,
     FaultError,
+    NoLibraryError,
     RefusedError,
     Symbol,
     UnsendableError,
@@ -128,8 +129,9 @@ class Embedded(unittest.TestCase):
             store.answer("1")
         store.reopen()
         self.assertEqual(store.execute("1"), 1)
-        with self.assertRaises(OSError):
-            self.store("other", library="/nowhere.so")
+        for library in ("/nowhere.so", "libc.so.6"):
+            with self.assertRaises(NoLibraryError):
+                self.store("other", library=library)
         with self.assertRaises(ValueError):
             store.execute("1", time_limit=1)
 

@@ -200,7 +200,8 @@ bool device_open(struct device *device, const char *folder, bool make, pazturrok
 static bool read_file(int file, contents *read, pazturrok_fault *fault) {
     struct stat found;
     if (fstat(file, &found) < 0) return failed(fault);
-    size_t size = (size_t)found.st_size, have = 0;
+    /* what comes after it is no part of a half */
+    size_t size = found.st_size < HALF_LIMIT ? (size_t)found.st_size : HALF_LIMIT, have = 0;
     read->bytes = malloc(size + 1);
     if (!read->bytes) {
         set_system_fault(fault, ENOMEM);

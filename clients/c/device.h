@@ -5,6 +5,9 @@
 #include "pazturrok.h"
 #include <stdbool.h>
 
+/* How many bytes a half may take, as in the program. */
+#define HALF_LIMIT 1073741824
+
 /* The descriptors of half-a and half-b, or -1. */
 struct device {
     int files[2];

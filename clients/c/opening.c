@@ -6,8 +6,6 @@
 #include <stdlib.h>
 #include <sys/random.h>
 
-#define HALF_LIMIT 1073741824u
-
 /* Draws the words by which names are hashed: who does not know them cannot choose names that fall together. */
 static bool draw(pzt_setting *setting, pazturrok_fault *fault) {
     uint64_t seed[2] = {0, 0};
@@ -99,7 +97,9 @@ int pazturrok_close(pazturrok_store id) {
     struct call call = enter(id);
     if (!call.store) return PAZTURROK_REOPEN;
     atomic_store(&call.store->id, 0);
-    int number = leave(call, 0);
+    /* a call that has waited for this one finds no store of its number any more */
+    (void)pthread_mutex_unlock(&call.store->lock);
     let_store_go(call.store);
-    return number;
+    end_alone(call.cancel_state);
+    return 0;
 }

@@ -67,6 +67,13 @@ class FaultError(UnansweredError):
         self.cause = cause
 
 
+class NoLibraryError(StoreError):
+    """The library cannot be loaded, or is another one."""
+
+    def __init__(self, reason: str) -> None:
+        super().__init__(f"there is no store in this process: {reason}; PAZTURROK_LIBRARY names its file")
+
+
 class StoppedError(UnansweredError):
     """The program has ended; `fault` is all that it wrote to standard error."""
 

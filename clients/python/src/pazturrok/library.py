@@ -9,7 +9,7 @@ import weakref
 from collections.abc import Callable, Sequence
 from dataclasses import dataclass
 
-from .errors import BrokenStoreError, FaultError, MalformedAnswerError
+from .errors import BrokenStoreError, FaultError, MalformedAnswerError, NoLibraryError
 
 RESCUE = 1
 """Forms are read under the standard readtable, in COMMON-LISP-USER, in base 10."""
@@ -89,7 +89,12 @@ _loaded: dict[str, Calls] = {}
 
 def calls_of(path: str) -> Calls:
     """The calls of a library, which is loaded once."""
-    return _loaded.setdefault(path, Calls(path)) if path not in _loaded else _loaded[path]
+    if path not in _loaded:
+        try:
+            _loaded[path] = Calls(path)
+        except (OSError, AttributeError) as error:
+            raise NoLibraryError(str(error)) from None
+    return _loaded[path]
 
 
 class Library:
