@@ -26,8 +26,7 @@ use store_commands::{
     status_of_output,
 };
 use store_reports::{
-    BackupError, Layout, LogPart, Selection, ShowError, backup, half_figures, info, log_lines,
-    show,
+    BackupError, Layout, LogPart, Selection, ShowError, backup, half_figures, info, log_lines, show,
 };
 use user_macros::MacroFunctions;
 

@@ -68,8 +68,9 @@ fn serve_words<M: MacroFunctions + Drop, F: Write>(
             check(rt, macros, words, &mut input, &mut output, faults)
         }
         Way::See => serve_pipe(rt, &Looking::new(rt), macros, words, output),
+        Way::Serve if rt.stdin().is_terminal() => serve_at_terminal(rt, macros, words, faults),
         Way::Serve if asks_for_quiet(words) => serve_quietly(rt, macros, words, faults),
-        Way::Serve => serve_streams(rt, macros, words, output, faults),
+        Way::Serve => serve_pipe(rt, rt, macros, words, output),
     }
 }
 
@@ -84,7 +85,7 @@ fn serve_quietly<M: MacroFunctions + Drop, F: Write>(
 {
     let counts = Cell::new(Counts::new());
     let output = Refusals::new(rt.alloc(), Uninterrupted::new(rt.stdout()), &counts);
-    let status = serve_streams(rt, macros, words, output, faults);
+    let status = serve_pipe(rt, rt, macros, words, output);
     match status {
         Status::Helped | Status::WordsRefused => {}
         _ => {
@@ -94,22 +95,6 @@ fn serve_quietly<M: MacroFunctions + Drop, F: Write>(
         }
     }
     status
-}
-
-// The same with this output.
-fn serve_streams<M: MacroFunctions + Drop, O: Write + Drop, F: Write>(
-    rt: &HostRuntime,
-    macros: M,
-    words: &[String],
-    output: O,
-    faults: &mut F,
-) -> Status
-    requires answers { M.answers macros }
-{
-    if rt.stdin().is_terminal() {
-        return serve_at_terminal(rt, macros, words, output, faults);
-    }
-    serve_pipe(rt, rt, macros, words, output)
 }
 
 // The same where standard input is no terminal, and folders are opened by another system. At a terminal standard error has a line on how far
@@ -156,11 +141,10 @@ fn size_of_input(rt: &HostRuntime) -> Option<u64> {
 }
 
 // The same at a terminal, whose prompts go to standard error.
-fn serve_at_terminal<M: MacroFunctions + Drop, O: Write + Drop, F: Write>(
+fn serve_at_terminal<M: MacroFunctions + Drop, F: Write>(
     rt: &HostRuntime,
     macros: M,
     words: &[String],
-    output: O,
     faults: &mut F,
 ) -> Status
     requires answers { M.answers macros }
@@ -168,7 +152,7 @@ fn serve_at_terminal<M: MacroFunctions + Drop, O: Write + Drop, F: Write>(
     let heard = Cell::new(Heard::Nothing);
     let lines = Lines::new(rt.alloc(), Uninterrupted::new(rt.stdin()));
     let mut input = Terminal::new(lines, rt.stderr(), &heard);
-    let mut output = Answers::new(output, &heard);
+    let mut output = Answers::new(Uninterrupted::new(rt.stdout()), &heard);
     program_at_terminal(rt, macros, words, &mut input, &mut output, faults)
 }
 

@@ -26,26 +26,30 @@ forms-preserved g c =
     let now = c.match-branch-2.rest.now in
     let in_rest : List ℕ → Checking = λ t. checked_in setting (left (length text) (c.forms.turn + 1)) (c.forms.turn + 1) (length text) t in
     elim c.match-branch-2.branch [
-      in-Form w ↦
-        let n = w.in-Form.next in
-        let begun : IsBeginning setting rest (begins.Form n) = subst (IsBeginning setting rest) w.in-Form.is c.in_ok-beginning_of.ensures in
-        let is : now ≡ drop n rest = ap (λ (r : Bor (List ℕ)). r.now) w.rest-is ∙ behind rest n in
-        (within_rest rest now text n is c.forms.invariant.0, refl,
-        subst (λ (f : Checked). after_found f.unreadable.items (in_rest now) ≡ checked setting text) (sym w.found-is)
-        (subst (λ (t : List ℕ). after_found before (in_rest t) ≡ checked setting text) (sym is)
-        (found_form setting c.forms.turn (length text) rest before (checked setting text) c.forms-test.true c.forms.invariant.2 begun.0 begun.1 begun.2 n begun.3)))
+      | in-Form w ↦
+          let n = w.in-Form.next in
+          let begun : IsBeginning setting rest (begins.Form n) = subst (IsBeginning setting rest) w.in-Form.is c.in_ok-beginning_of.ensures in
+          let is : now ≡ drop n rest = ap (λ (r : Bor (List ℕ)). r.now) w.rest-is ∙ behind rest n in (
+            within_rest rest now text n is c.forms.invariant.0,
+            refl,
+            subst (λ (f : Checked). after_found f.unreadable.items (in_rest now) ≡ checked setting text) (sym w.found-is)
+                (subst (λ (t : List ℕ). after_found before (in_rest t) ≡ checked setting text) (sym is)
+                (found_form setting c.forms.turn (length text) rest before (checked setting text) c.forms-test.true c.forms.invariant.2 begun.0 begun.1 begun.2 n begun.3)),
+          )
       | in-Refused+in_ok-push-in-Refused w ↦
-        let n = w.in-Refused.at in
-        let begun : IsBeginning setting rest (begins.Refused w.in-Refused.number w.in-Refused.start n) = subst (IsBeginning setting rest) w.in-Refused.is c.in_ok-beginning_of.ensures in
-        let one : Unreadable = record { number = w.in-Refused.number; forms = c.forms.turn; start = (length text - length rest) + w.in-Refused.start; at = (length text - length rest) + n } in
-        let given : now ≡ w.after_line-rest.result.now = ap (λ (r : Bor (List ℕ)). r.now) w.rest-is in
-        let is : now ≡ after_line (drop n rest) = given ∙ w.after_line-rest.ensures.text ∙ ap after_line (behind rest n) in
-        (within_line rest now w.after_line-rest.result.now text n given w.after_line-rest.ensures.within c.forms.invariant.0, refl,
-        subst (λ (f : Checked). after_found f.unreadable.items (in_rest now) ≡ checked setting text) (sym w.found-is)
-        (subst (λ (us : List Unreadable). after_found us (in_rest now) ≡ checked setting text) (sym w.in_ok-push-in-Refused.ensures.items)
-        (subst (λ (t : List ℕ). after_found (before ++ one ∷ []) (in_rest t) ≡ checked setting text) (sym is)
-        (found_refusal setting c.forms.turn (length text) rest before (checked setting text) c.forms-test.true c.forms.invariant.2 w.in-Refused.number w.in-Refused.start n one
-        begun.0 begun.1 refl))))
+          let n = w.in-Refused.at in
+          let begun : IsBeginning setting rest (begins.Refused w.in-Refused.number w.in-Refused.start n) = subst (IsBeginning setting rest) w.in-Refused.is c.in_ok-beginning_of.ensures in
+          let one : Unreadable = record { number = w.in-Refused.number; forms = c.forms.turn; start = (length text - length rest) + w.in-Refused.start; at = (length text - length rest) + n } in
+          let given : now ≡ w.after_line-rest.result.now = ap (λ (r : Bor (List ℕ)). r.now) w.rest-is in
+          let is : now ≡ after_line (drop n rest) = given ∙ w.after_line-rest.ensures.text ∙ ap after_line (behind rest n) in (
+            within_line rest now w.after_line-rest.result.now text n given w.after_line-rest.ensures.within c.forms.invariant.0,
+            refl,
+            subst (λ (f : Checked). after_found f.unreadable.items (in_rest now) ≡ checked setting text) (sym w.found-is)
+                (subst (λ (us : List Unreadable). after_found us (in_rest now) ≡ checked setting text) (sym w.in_ok-push-in-Refused.ensures.items)
+                (subst (λ (t : List ℕ). after_found (before ++ one ∷ []) (in_rest t) ≡ checked setting text) (sym is)
+                (found_refusal setting c.forms.turn (length text) rest before (checked setting text) c.forms-test.true c.forms.invariant.2 w.in-Refused.number w.in-Refused.start n one
+                begun.0 begun.1 refl))),
+          )
     ]
 
 pub returns : goal.returns
