@@ -49,7 +49,10 @@ fn way_of_help(name: &str) -> Way {
 /// Whether a session is to write refusals alone.
 pub fn asks_for_quiet<S: AsStr>(words: &[S]) -> bool {
     match words.get(1) {
-        Some(command) => command.as_str() == RUN && has_option(&words[2..], "--quiet"),
+        Some(command) => {
+            let options = &words[2..];
+            command.as_str() == RUN && has_option(options, "--quiet") && !asks_for_help(options)
+        }
         None => false,
     }
 }
