@@ -40,13 +40,8 @@ def deviation(name, *parts):
 
 
 def taken_in(folder, forms):
-    """The run of these forms over a new store, and the text of the world that they make there."""
-    return run(["run", folder], forms), run(["dump", folder, "--existing"]).stdout
-
-
-def is_refused(answers):
-    """Whether a form of these was refused: no name has a newline before an exclamation mark."""
-    return any(line.startswith(b"! ") for line in answers.split(b"\n"))
+    """The run of these forms over a new store, of which none may be refused, and the text of the world that they make there."""
+    return run(["run", folder, "--strict"], forms), run(["dump", folder, "--existing"]).stdout
 
 
 def compared(name, folder, room):
@@ -60,12 +55,12 @@ def compared(name, folder, room):
     if exported.returncode != 0 or exported.stderr:
         return deviation(name, exported.returncode, exported.stderr)
     taken, again = taken_in(os.path.join(room, "copy"), exported.stdout)
-    if taken.returncode != 0 or is_refused(taken.stdout) or again != dumped.stdout:
+    if taken.returncode != 0 or again != dumped.stdout:
         return deviation(name, taken.returncode, taken.stderr, exported.stdout, dumped.stdout, again)
     # the first lines of a world's text are its packages and its properties
     data = run(["export", folder, "--data"])
     taken, again = taken_in(os.path.join(room, "data"), data.stdout)
-    if data.returncode != 0 or taken.returncode != 0 or is_refused(taken.stdout) or again.split(b"\n")[:2] != dumped.stdout.split(b"\n")[:2]:
+    if data.returncode != 0 or taken.returncode != 0 or again.split(b"\n")[:2] != dumped.stdout.split(b"\n")[:2]:
         return deviation(f"{name}: --data", data.returncode, taken.stderr, data.stdout, dumped.stdout, again)
     return "the same"
 
