@@ -166,9 +166,7 @@ fn begin<R: Files<File = File> + AllocGlobal>(rt: &R, dir: &str) -> Result<Strin
             Err(error) => return Err(BackupError::from(error)),
         }
     }
-    Err(BackupError::from(io::Error::from(
-        io::ErrorKind::AlreadyExists,
-    )))
+    Err(BackupError::from(io::Error::from(io::ErrorKind::AlreadyExists)))
 }
 
 fn partial_name(alloc: Global, dir: &str, number: u32) -> Result<String, AllocError> {
