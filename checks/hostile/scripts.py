@@ -4,6 +4,7 @@ import glob
 import importlib.machinery
 import importlib.util
 import os
+import re
 import shutil
 
 from store import Answer, NO_MEMORY, library, logged, want, without_cause
@@ -37,6 +38,11 @@ def run(room, most):
     return sum(kinds.values()), dict(kinds)
 
 
+def without_count(words, err):
+    """Standard error without the count of the answers that a quiet session ends with."""
+    return re.sub(rb"answers \d+ refusals \d+\n\Z", b"", err) if "--quiet" in words else err
+
+
 def outcomes(room, folder, name, step, loaded, most, before_it):
     """What came of a run where one growth of it is refused, after so many of other runs: the first one of it goes by these, so that
     runs which begin alike are not all refused the same growths. The folder is left as it was."""
@@ -56,7 +62,7 @@ def outcomes(room, folder, name, step, loaded, most, before_it):
     for number in range(1 + before_it % every, total + 1, every):
         got, words = tried(number)
         want(words is not None and words[1] == "1", name, step.words, "growth", number, "was not refused, or the program did not end")
-        is_short = got.status == 3 and got.err == NO_MEMORY and ample.out.startswith(got.out)
+        is_short = got.status == 3 and without_count(step.words, got.err) == NO_MEMORY and ample.out.startswith(got.out)
         want(got == ample or is_short, name, step.words, "growth", number, got, "in place of", ample)
         yield "absorbed" if got == ample else REFUSED
     shutil.rmtree(before)
