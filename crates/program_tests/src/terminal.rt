@@ -151,7 +151,7 @@ const ROWS: [Row; 12] = [
     (
         "--version",
         b"7\n",
-        b"0\nstore_program 0.1.0, files of version 2\n--\n",
+        b"0\npazturrok 0.1.0, files of version 2\n--\n",
     ),
     (
         "run /dev/null",
