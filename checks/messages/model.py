@@ -53,8 +53,8 @@ class Model:
         if text.endswith(b"  "):
             return "! 26 TEXT-LEFT-OVER", False
         if text == HOME:
-            was, self.lost = self.lost, False
-            return '"COMMON-LISP-USER"', was
+            self.lost = False
+            return '"COMMON-LISP-USER"', True
         if self.lost:
             return UNKNOWN, False
         if text == AWAY:
@@ -71,8 +71,8 @@ class Model:
         if text.startswith(b"(SETF (GET '|position|"):
             return "5", True
         if found := re.fullmatch(rb"\(SETF \*READ-BASE\* ([0-9]+)\.\)", text):
-            was, self.base = self.base, int(found[1])
-            return str(self.base), self.base != was
+            self.base = int(found[1])
+            return str(self.base), True
         if found := re.fullmatch(rb"\(GET '(\S+) 'KY\)", text):
             return printed(self.properties.get(found[1])), False
         operator, item, symbol, value = PLACE.fullmatch(text).groups()
