@@ -3,6 +3,7 @@ ghost use Rattle.std.specs.Prelude.{◌≡◌, IfOk};
 ghost use Rattle.package_sets.specs.Kept.{cut, nothing, sizes_of};
 ghost use Rattle.package_sets.specs.Good.{IsGood};
 
+use crate::chains::Chains;
 use crate::{Names, Pairs, Seed, Sizes};
 use std::alloc::{AllocError, Global};
 use std::marker::Model;
@@ -17,6 +18,8 @@ pub struct PackageSets {
     // For each import the number of the symbol.
     pub(crate) imported: Vec<u32>,
     pub(crate) externals: Pairs,
+    // Where what is external is, by its name.
+    pub(crate) chains: Chains,
     pub(crate) uses: Pairs,
 }
 
@@ -31,6 +34,7 @@ impl Drop for PackageSets {
             imports: _,
             imported: _,
             externals: _,
+            chains: _,
             uses: _,
         } = self;
     }
@@ -63,6 +67,7 @@ impl PackageSets {
             imports: Pairs::new(alloc, seed),
             imported: Vec::new(alloc),
             externals: Pairs::new(alloc, seed),
+            chains: Chains::new(alloc),
             uses: Pairs::new(alloc, seed),
         }
     }
@@ -77,6 +82,7 @@ impl PackageSets {
         let imports = self.imports.copy()?;
         let imported = Vec::from_slice(alloc, self.imported.as_slice())?;
         let externals = self.externals.copy()?;
+        let chains = self.chains.copy(alloc)?;
         let uses = self.uses.copy()?;
         Ok(PackageSets {
             alloc,
@@ -86,6 +92,7 @@ impl PackageSets {
             imports,
             imported,
             externals,
+            chains,
             uses,
         })
     }
@@ -116,6 +123,8 @@ impl PackageSets {
         requires { IsGood (cut sizes self.old) }
         ensures { self.new ≡ cut sizes self.old }
     {
+        self.chains
+            .truncate(&self.symbols, &self.externals, sizes.externals);
         self.names.truncate(sizes.names);
         self.packages.truncate(sizes.packages);
         self.symbols.truncate(sizes.symbols);

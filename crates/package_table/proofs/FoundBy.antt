@@ -226,7 +226,7 @@ module _ (k : Kept) (good : IsGood k) where
     uses_read : AllByRecursion (λ x. (x < length k.uses) × ((pair_at k.uses x).0 ≡ p)) (positions_of p k.uses)
     uses_read = positions_read p k.uses [] k.uses 0 refl refl
 
-    finds_inherited : (i : ℕ) → first_shown k j (positions_of p k.uses) ≡ Some i → Finds (numbered_of k).0 P N (home_in k i)
+    pub finds_inherited : (i : ℕ) → first_shown k j (positions_of p k.uses) ≡ Some i → Finds (numbered_of k).0 P N (home_in k i)
     finds_inherited i is =
         let first = first_is k j (positions_of p k.uses) i is in
         let x : ℕ = first.0 in

@@ -18,4 +18,7 @@ invariant_of-self-2 c =
     c.push_reserved.ensures.items ∙ ap (λ (l : List ℕ). l ++ c.args.symbol ∷ []) c.in_ok-reserve.ensures.items in
     let is : ◌≡◌ {A = Kept} (record k { imports = k.imports ++ (c.args.owner, (pair_at k.symbols c.args.symbol).1) ∷ []; imported = k.imported ++ c.args.symbol ∷ [] }) (record k { imports = c.push.new.self; imported = c.push_reserved.new.self.items }) =
     λ i. record k { imports = sym imports i; imported = sym imported i } in
-    subst IsGood is (good_import k c.self.invariant c.args.owner c.args.symbol owner symbol none)
+    record {
+      good = subst IsGood is (good_import k c.self.invariant.good c.args.owner c.args.symbol owner symbol none);
+      chained = c.self.invariant.chained;
+    }
