@@ -4,7 +4,7 @@
 --     chained_push, chained_pop, name_there      the last place
 --     last_is      what a place says of those below it
 --     chained_symbol, chained_external, chained_cut      where a symbol or an external one is added, and where what was added goes
-use Rattle.std.proofs.Common.{◌≡◌, ◌+◌, ◌<◌, ◌≤◌, ◌⊎◌, inl, inr, ℕ, zero, suc, Bool, true, false, cond, nat_eq, List, [], ◌∷◌, ◌++◌, length, get_or, refl, sym, ap, subst, ◌∙◌, take, arith}
+use Rattle.std.proofs.Common.{◌≡◌, ◌<◌, ◌≤◌, ◌⊎◌, inl, inr, ℕ, zero, suc, Bool, true, false, cond, nat_eq, List, [], ◌∷◌, ◌++◌, length, get_or, refl, sym, ap, subst, ◌∙◌, take, arith}
 use Rattle.std.proofs.lemmas.Bool.{false≢true}
 use Rattle.std.proofs.lemmas.Bool.Decides.{Decides-eqb}
 use Rattle.std.proofs.lemmas.List.{length_push, get_or_append_left, get_or_push, get_or_past, get_or-take}
@@ -136,7 +136,7 @@ chained_external symbols externals e name number c d is last lasts befores all =
     let size : length (externals ++ e ∷ []) ≡ suc (length externals) = (let more = length_push externals e in omega (arith, more)) in
     let f : ℕ → ℕ = external_name symbols (externals ++ e ∷ []) in
     let before = chained_same (external_name symbols externals) (external_name symbols (externals ++ e ∷ [])) (length externals) c
-        (λ x less. sym (ap (λ (q : ℕ × ℕ). (pair_at symbols q.1).1) (get_or_append_left externals (e ∷ []) (0, 0) x less))) all in
+    (λ x less. sym (ap (λ (q : ℕ × ℕ). (pair_at symbols q.1).1) (get_or_append_left externals (e ∷ []) (0, 0) x less))) all in
     subst (λ (n : ℕ). AreChained (external_name symbols (externals ++ e ∷ [])) n d) (sym size)
     (chained_push (external_name symbols (externals ++ e ∷ [])) (length externals) name c d
     (ap (λ (q : ℕ × ℕ). (pair_at symbols q.1).1) (get_or_push externals e (0, 0) (length externals) refl) ∙ sym is)

@@ -48,14 +48,14 @@ module _ (k : Kept) (p j : ℕ) where
           all = λ x inherited. elim (below_or x next) as (λ _. x < next) [
             | inl less ↦ less
             | inr more ↦ absurd (
-              let below = sought.all x inherited in
-              elim (below_or x place) as (λ _. ⊥) [
-                | inl less ↦ here.past x more less (inherited.named ∙ sym (sought.named place is))
-                | inr after ↦
-                    let at : x ≡ place = omega (arith, after, below, is) in
-                    false≢true (sym unused ∙ ap (λ y. is_some (position (pair_eq (p, (pair_at k.externals y).0)) k.uses)) (sym at) ∙ inherited.used)
-              ]
-            )
+                let below = sought.all x inherited in
+                elim (below_or x place) as (λ _. ⊥) [
+                  | inl less ↦ here.past x more less (inherited.named ∙ sym (sought.named place is))
+                  | inr after ↦
+                      let at : x ≡ place = omega (arith, after, below, is) in
+                      false≢true (sym unused ∙ ap (λ y. is_some (position (pair_eq (p, (pair_at k.externals y).0)) k.uses)) (sym at) ∙ inherited.used)
+                ]
+                )
           ];
           fits = (let below = here.below in let fits = sought.fits in omega (arith, below, fits, is));
           named = λ x same. here.there x same ∙ sought.named place is;

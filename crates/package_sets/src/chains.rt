@@ -9,12 +9,21 @@ use crate::Pairs;
 use std::alloc::{AllocError, Global};
 
 /// Places of external symbols, each kept as one more than it, and 0 for none.
-#[derive(Drop)]
 pub(crate) struct Chains {
     // For each name the last place that has it.
     lasts: Vec<u32>,
     // For each place the one before it with the same name.
     befores: Vec<u32>,
+}
+
+// Dropping is a call, so that a function that owns chains does not see both lists at each exit.
+impl Drop for Chains {
+    fn drop(self) {
+        let Chains {
+            lasts: _,
+            befores: _,
+        } = self;
+    }
 }
 
 impl Chains {

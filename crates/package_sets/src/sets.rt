@@ -1,7 +1,8 @@
 //! What is kept of the packages.
-ghost use Rattle.std.specs.Prelude.{◌≡◌, IfOk};
+ghost use Rattle.std.specs.Prelude.{◌≡◌, length, IfOk};
 ghost use Rattle.package_sets.specs.Kept.{cut, nothing, sizes_of};
 ghost use Rattle.package_sets.specs.Good.{IsGood};
+ghost use Rattle.package_sets.specs.Chained.{external_name, AreChained};
 
 use crate::chains::Chains;
 use crate::{Names, Pairs, Seed, Sizes};
@@ -76,13 +77,27 @@ impl PackageSets {
     pub fn copy(&self, alloc: Global) -> Result<PackageSets, AllocError>
         ensures { IfOk result (λ sets. sets ≡ self.now) }
     {
+        let imported = Vec::from_slice(alloc, self.imported.as_slice())?;
+        let chains = self.chains.copy(alloc)?;
+        self.copy_with(alloc, imported, chains)
+    }
+
+    // The same, where these two are copied.
+    fn copy_with(
+        &self,
+        alloc: Global,
+        imported: Vec<u32>,
+        chains: Chains,
+    ) -> Result<PackageSets, AllocError>
+        requires imported { imported.items ≡ self.now.imported }
+        requires chained { AreChained (external_name self.now.symbols self.now.externals) (length self.now.externals) chains }
+        ensures { IfOk result (λ sets. sets ≡ self.now) }
+    {
         let names = self.names.copy()?;
         let packages = self.packages.copy()?;
         let symbols = self.symbols.copy()?;
         let imports = self.imports.copy()?;
-        let imported = Vec::from_slice(alloc, self.imported.as_slice())?;
         let externals = self.externals.copy()?;
-        let chains = self.chains.copy(alloc)?;
         let uses = self.uses.copy()?;
         Ok(PackageSets {
             alloc,

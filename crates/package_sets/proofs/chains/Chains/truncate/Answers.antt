@@ -1,4 +1,4 @@
-use Rattle.std.proofs.Common.{◌≡◌, ◌<◌, ◌≤◌, ◌-◌, ℕ, suc, cond, nat_eq, List, length, get_or, take, sym, ap, subst, ◌∙◌, arith}
+use Rattle.std.proofs.Common.{◌≡◌, ◌<◌, ◌-◌, ℕ, suc, cond, nat_eq, length, get_or, take, sym, ap, subst, ◌∙◌, arith}
 use Rattle.package_sets.specs.Kept.{pair_at}
 use Rattle.package_sets.specs.Chained.{external_name, AreChained}
 use Rattle.package_sets.proofs.Chaining.{name_there, chained_pop, take_fits, take_holds}

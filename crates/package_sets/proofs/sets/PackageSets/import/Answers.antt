@@ -5,6 +5,11 @@ use Rattle.package_sets.specs.Shown.{kept_of}
 use Rattle.package_sets.proofs.Growing.{good_import}
 use Rattle.package_sets.proofs.sets.PackageSets.import.Goals as goal
 
+pub push-requires : goal.push-requires
+push-requires c =
+    let none = ap (λ (k : Kept). position (pair_eq (c.args.owner, (pair_at k.symbols c.args.symbol).1)) k.imports) c.self.view_is ∙ c.requires.absent in
+    ap (λ (n : ℕ). position (pair_eq (c.args.owner, n)) c.self.inside.imports) (ap (λ (p : ℕ × ℕ). p.1) c.at-name.ensures) ∙ none
+
 pub invariant_of-self-2 : goal.invariant_of-self-2
 invariant_of-self-2 c =
     let k : Kept = kept_of c.self.inside in

@@ -1,4 +1,4 @@
-use Rattle.std.proofs.Common.{◌<◌, ◌++◌, ◌∷◌, [], ℕ, List, length, position, sym, ap, subst, ◌∙◌}
+use Rattle.std.proofs.Common.{◌<◌, ℕ, List, length, position, sym, ap, subst, ◌∙◌}
 use Rattle.package_sets.specs.Kept.{Kept, pair_eq}
 use Rattle.package_sets.specs.Good.{IsGood}
 use Rattle.package_sets.specs.Chained.{external_name, AreChained}
