@@ -26,15 +26,15 @@ module _ (k : Kept) (good : IsGood k) where
       let h : ℕ = (pair_at k.symbols i).0 in
       let g : ℕ = (pair_at k.symbols o).0 in
       let homes : h ≡ g = same_some h g (
-        sym (position_of k.packages good.distinct.packages h (home_fits k good i i_in))
-        ∙ ap (λ (n : Name). position (bytes_eq n) k.packages) same
-        ∙ position_of k.packages good.distinct.packages g (home_fits k good o o_in)
+      sym (position_of k.packages good.distinct.packages h (home_fits k good i i_in))
+      ∙ ap (λ (n : Name). position (bytes_eq n) k.packages) same
+      ∙ position_of k.packages good.distinct.packages g (home_fits k good o o_in)
       ) in
       let pairs : pair_at k.symbols i ≡ pair_at k.symbols o = λ t. (homes t, (i_named ∙ sym o_named) t) in
       same_some i o (
-        sym (position_in pair_equiv k.symbols (0, 0) good.distinct.symbols i i_in)
-        ∙ ap (λ (p : ℕ × ℕ). position (pair_eq p) k.symbols) pairs
-        ∙ position_in pair_equiv k.symbols (0, 0) good.distinct.symbols o o_in
+      sym (position_in pair_equiv k.symbols (0, 0) good.distinct.symbols i i_in)
+      ∙ ap (λ (p : ℕ × ℕ). position (pair_eq p) k.symbols) pairs
+      ∙ position_in pair_equiv k.symbols (0, 0) good.distinct.symbols o o_in
       )
 
   module _ (p j : ℕ) where
@@ -88,11 +88,11 @@ module _ (k : Kept) (good : IsGood k) where
           let u : IsUsed i = record { q = q; x = taken.0; used = taken.1; shown = shown } in
           elim (first_shown k j (positions_of p k.uses)) as (λ o. first_shown k j (positions_of p k.uses) ≡ o → o ≡ Some i) [
             | None ↦ λ none. absurd (
-              let at = position-Some (pair_eq (p, q)) k.uses taken.0 (0, 0) taken.1 in
-              let among = any_at (pair_eq (p, q)) k.uses taken.0 (0, 0) at.0 at.1 in
-              let has = positions_have p q k.uses [] k.uses 0 refl refl among in
-              none_some i (sym (first_none k j (positions_of p k.uses) none has.0 has.1) ∙ ap (λ (u : ℕ × ℕ). shown_number k u.1 j) has.2 ∙ shown)
-            )
+                let at = position-Some (pair_eq (p, q)) k.uses taken.0 (0, 0) taken.1 in
+                let among = any_at (pair_eq (p, q)) k.uses taken.0 (0, 0) at.0 at.1 in
+                let has = positions_have p q k.uses [] k.uses 0 refl refl among in
+                none_some i (sym (first_none k j (positions_of p k.uses) none has.0 has.1) ∙ ap (λ (u : ℕ × ℕ). shown_number k u.1 j) has.2 ∙ shown)
+                )
             | Some o ↦ λ is. ap Some (one_used o i (first_used o is) u)
           ] refl
 
