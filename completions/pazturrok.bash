@@ -1,0 +1,37 @@
+# Completions for bash, which completions/write makes from the help of the program. To use them in a clone:
+#
+#   . completions/pazturrok.bash
+_pazturrok() {
+    local word=${COMP_WORDS[COMP_CWORD]} words='' kind=-d
+    COMPREPLY=()
+    case ${COMP_WORDS[1]} in
+        help) words='run snapshot upgrade export dump verify show info log backup check help' kind= ;;
+        build) words=--anew kind= ;;
+        run) words='--existing --rescue --strict --group --snapshot-every --quiet --help' ;;
+        snapshot) words='--existing --help' ;;
+        upgrade) words='--existing --help' ;;
+        export) words='--existing --data --help' ;;
+        dump) words='--existing --at --help' ;;
+        verify) words='--existing --help' ;;
+        show) words='--existing --package --indicator --like --forms --help' ;;
+        info) words='--existing --help' ;;
+        log) words='--existing --from --help' ;;
+        backup) words='--existing --help' ;;
+        check) words='--store --help' kind=-f ;;
+        try) words='--existing --rescue --strict --group --snapshot-every --quiet --help' ;;
+    esac
+    if [ "$COMP_CWORD" -eq 1 ]; then
+        words='run snapshot upgrade export dump verify show info log backup check help try build install --help --version'
+        kind=
+    fi
+    case ${COMP_WORDS[COMP_CWORD - 1]} in
+        --at | --from | --indicator | --like | --package | --snapshot-every) return ;;
+        --store) kind=-d words='' ;;
+    esac
+    if [ -z "$kind" ] || [ "${word#-}" != "$word" ]; then
+        mapfile -t COMPREPLY < <(compgen -W "$words" -- "$word")
+    else
+        mapfile -t COMPREPLY < <(compgen "$kind" -- "$word")
+    fi
+}
+complete -o filenames -F _pazturrok pazturrok
