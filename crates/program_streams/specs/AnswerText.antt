@@ -88,7 +88,7 @@ counted at counts (byte ∷ bytes) = counted (after at byte) (counted_byte at co
 -- the line on them: how many answers there were, and how many of them were refusals
 abbrev pub counts_line : Counts → List ℕ
 counts_line counts =
-    codes "answers " ++ decimal (told_number (counts.values + counts.refusals)) ++ codes " refusals " ++ decimal counts.refusals ++ 10 ∷ []
+    codes "answers " ++ (decimal (told_number (counts.values + counts.refusals)) ++ (codes " refusals " ++ (decimal counts.refusals ++ 10 ∷ [])))
 
 -- the writer got these bytes
 abbrev pub Gets : Option (List ℕ) → Option (List ℕ) → List ℕ → Type 0

@@ -13,7 +13,6 @@ use lisp_object::refusal::{INPUT, NO_MEMORY};
 use log_look::{HostFiles, Sight, cut_after, look_into};
 use plist_state::Seed;
 use prevalence_store::Store;
-use program_streams::Shown;
 use std::alloc::{AllocError, Global};
 use std::convert::AsStr;
 use std::fmt::{Display, Write as WriteText};
@@ -78,7 +77,7 @@ pub(crate) fn end_unlooked<F: Write>(faults: &mut F, unlooked: Unlooked) -> Stat
         Unlooked::NoPlace(error) => tell_error(faults, &error),
         Unlooked::Taken(error) => tell_error(faults, &error),
         Unlooked::Unread(error) => {
-            let mut shown = Shown::new(faults);
+            let mut shown = program_streams::Shown::new(faults);
             let _ = writeln!(shown, "error: the file cannot be read: {error}");
             Status::WordsRefused
         }
@@ -89,7 +88,7 @@ pub(crate) fn end_unlooked<F: Write>(faults: &mut F, unlooked: Unlooked) -> Stat
 fn tell_error<F: Write, E: Display>(faults: &mut F, error: &E) -> Status
     ensures { result ≡ Status.WordsRefused }
 {
-    let mut shown = Shown::new(faults);
+    let mut shown = program_streams::Shown::new(faults);
     let _ = writeln!(shown, "error: {error}");
     Status::WordsRefused
 }
