@@ -69,7 +69,7 @@ pub fn headline<D: Disk>()
 {}
 
 /// While lines are written, nothing happens to the disk: whatever a crash then leaves, a store that is opened on it has the world
-/// after all forms whose lines these are. So what was answered is stored, also where a session is stopped in the middle.
+/// after all forms whose lines these are. That they are the forms of a session which is stopped in the middle no clause says.
 pub fn what_is_answered_is_stored<D: Disk>()
     ensures { (functions : Functions) (disk crashed opened : D) (lines : List ℕ) (image : Image) (now : WorldState)
         → IsHonest (D.state disk) → (stored : AreStored functions (D.state disk) lines)

@@ -11,8 +11,8 @@
 //!   `snapshot` and `close` take none.
 //! - *Between calls* (`Store::keeps_its_world`): whatever a crash leaves while a store is in no call means the world that it has.
 //! - *Before an answer* (`write_lines` of `session::output`): all that a session writes goes out by one function, which does not touch
-//!   the disk. It asks that whatever a crash leaves now means the world after all forms whose lines it is handed (`AreStored`). So of
-//!   a session that is stopped at any moment, all that was answered is there (`what_is_answered_is_stored`).
+//!   the disk. It asks that whatever a crash leaves now means the world after all forms whose lines it is handed (`AreStored`), and an
+//!   opening then gives that world (`what_is_answered_is_stored`). That these are the forms of the session no clause says.
 //! - *What opening gives* (`Reopens`): if the files mean a world, `Store::open` gives that world, or a refusal that is no
 //!   word on the files. While it opens, a crash leaves what the files might have meant before. A refusal gives the disk back.
 //! - *The two together* (`headline`): after an opening and any calls in a row, a crash at any moment and an opening of what it leaves give
