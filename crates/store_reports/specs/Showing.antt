@@ -59,12 +59,12 @@ symbol_text t home name =
 
 -- a line: the symbol, the indicator and the value
 abbrev pub line_text : (symbol indicator value : List ℕ) → List ℕ
-line_text symbol indicator value = escaped symbol ++ 32 ∷ escaped indicator ++ 32 ∷ escaped value ++ 10 ∷ []
+line_text symbol indicator value = escaped symbol ++ (32 ∷ (escaped indicator ++ (32 ∷ (escaped value ++ 10 ∷ []))))
 
 -- the form that sets it
 abbrev pub form_text : (symbol indicator value : List ℕ) → List ℕ
 form_text symbol indicator value =
-    codes "(SETF (GET '" ++ symbol ++ codes " '" ++ indicator ++ codes ") '" ++ value ++ codes ")" ++ 10 ∷ []
+    codes "(SETF (GET '" ++ (symbol ++ (codes " '" ++ (indicator ++ (codes ") '" ++ (value ++ (codes ")" ++ 10 ∷ []))))))
 
 abbrev pub layout_text : Layout → (symbol indicator value : List ℕ) → List ℕ
 layout_text Lines symbol indicator value = line_text symbol indicator value
