@@ -154,8 +154,7 @@ fn told_of(
         }
         Mistake::NoPlace(option, value) => {
             let wanted = "the number of a record, or G.N: N in the half of generation G";
-            let text =
-                format!(in alloc; "invalid value '{value}' for '--{option} <N>': {wanted}")?;
+            let text = format!(in alloc; "invalid value '{value}' for '--{option} <N>': {wanted}")?;
             command.error(ErrorKind::ValueValidation, text.as_str())
         }
     }
@@ -313,6 +312,7 @@ fn backup_command<'a>(alloc: Global) -> Result<Command<'a>, AllocError> {
 fn dump_command<'a>(alloc: Global) -> Result<Command<'a>, AllocError> {
     let about = "Writes the text of the world";
     let command = folder_command(alloc, DUMP, about, DUMP_USAGE, DUMP_HELP)?;
-    let help = "The world after the first N records of the half in use; G.N of that of generation G";
+    let help =
+        "The world after the first N records of the half in use; G.N of that of generation G";
     command.arg(place_option(alloc, AT, help))
 }

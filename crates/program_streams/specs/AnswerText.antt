@@ -76,8 +76,8 @@ is_refusal _ = false
 abbrev pub counted_byte : At → Counts → ℕ → Counts
 counted_byte at counts byte =
     if is_end (after at byte) then
-      (if is_refusal at then record counts { refusals = told_number (counts.refusals + 1) }
-      else record counts { values = told_number (counts.values + 1) })
+    (if is_refusal at then record counts { refusals = told_number (counts.refusals + 1) }
+    else record counts { values = told_number (counts.values + 1) })
     else counts
 
 -- with the answers that end within these bytes

@@ -70,7 +70,13 @@ fn serve_words<M: MacroFunctions + Drop, F: Write>(
             let mut input = Uninterrupted::new(rt.stdin());
             check(rt, macros, words, &mut input, &mut output, faults)
         }
-        Way::See => serve_pipe(rt, &Telling::new(rt, &Looking::new(rt)), macros, words, output),
+        Way::See => serve_pipe(
+            rt,
+            &Telling::new(rt, &Looking::new(rt)),
+            macros,
+            words,
+            output,
+        ),
         Way::Serve if rt.stdin().is_terminal() => serve_at_terminal(rt, macros, words, faults),
         Way::Serve if asks_for_quiet(words) => serve_quietly(rt, macros, words, faults),
         Way::Serve => serve_pipe(rt, &Telling::new(rt, rt), macros, words, output),

@@ -1,5 +1,5 @@
 -- Parts of names, byte by byte.
-use Rattle.std.proofs.Common.{◌≡◌, ℕ, ◌+◌, ◌<◌, ◌≤◌, Bool, true, false, List, [], ◌∷◌, length, get_or, drop, sym, ap, ◌∙◌, refl, arith}
+use Rattle.std.proofs.Common.{◌≡◌, ◌==◌, ℕ, ◌+◌, ◌<◌, ◌≤◌, Bool, true, false, List, [], ◌∷◌, length, get_or, drop, sym, ap, ◌∙◌, refl, arith}
 use Rattle.std.specs.Prelude.{◌&&◌, ◌||◌}
 use Rattle.std.specs.Char.{eq_ignore_ascii_case}
 use Rattle.std.proofs.lemmas.List.{at_drop_all, at_drop_more}
@@ -21,6 +21,12 @@ with_none : (text : List ℕ) → begins_with text [] ≡ true
 unfolding begins_with
 with_none [] = refl
 with_none (t ∷ ts) = refl
+
+-- the empty text begins with the empty one alone
+pub with_empty : (part : List ℕ) → (length part == 0) ≡ begins_with [] part
+unfolding begins_with
+with_empty [] = refl
+with_empty (c ∷ cs) = refl
 
 module _ (text part : List ℕ) (i d : ℕ) where
   one_more : i < length text → i < length part

@@ -58,17 +58,17 @@ symbol_text t home name =
     if list_all is_ascii home && list_all is_ascii name then printed t common_lisp_user (symbol home name) else []
 
 -- a line: the symbol, the indicator and the value
-abbrev pub line_text : (symbol indicator value : List ℕ) → List ℕ
-line_text symbol indicator value = escaped symbol ++ (32 ∷ (escaped indicator ++ (32 ∷ (escaped value ++ 10 ∷ []))))
+abbrev pub line_text : (name indicator value : List ℕ) → List ℕ
+line_text name indicator value = escaped name ++ (32 ∷ (escaped indicator ++ (32 ∷ (escaped value ++ 10 ∷ []))))
 
 -- the form that sets it
-abbrev pub form_text : (symbol indicator value : List ℕ) → List ℕ
-form_text symbol indicator value =
-    codes "(SETF (GET '" ++ (symbol ++ (codes " '" ++ (indicator ++ (codes ") '" ++ (value ++ (codes ")" ++ 10 ∷ []))))))
+abbrev pub form_text : (name indicator value : List ℕ) → List ℕ
+form_text name indicator value =
+    codes "(SETF (GET '" ++ (name ++ (codes " '" ++ (indicator ++ (codes ") '" ++ (value ++ (codes ")" ++ 10 ∷ []))))))
 
-abbrev pub layout_text : Layout → (symbol indicator value : List ℕ) → List ℕ
-layout_text Lines symbol indicator value = line_text symbol indicator value
-layout_text Forms symbol indicator value = form_text symbol indicator value
+abbrev pub layout_text : Layout → (name indicator value : List ℕ) → List ℕ
+layout_text Lines name indicator value = line_text name indicator value
+layout_text Forms name indicator value = form_text name indicator value
 
 -- a property of this symbol
 unfoldable pub property_text : Layout → Table → Symbol → Symbol × Object → List ℕ
@@ -96,8 +96,8 @@ has_package (Some name) t = finite.contains_key t name.now
 -- The text of the properties that are asked for. The package is there, and where an indicator is asked for some property has it.
 pub record IsShown (selection : Selection) (s : WorldState) (text : List ℕ) : Type 0 where
   pub is : text ≡ shown_text selection s
-  pub package : has_package selection.package s.packages ≡ true
-  pub indicator : IsSome selection.indicator → text ≢ []
+  pub has : has_package selection.package s.packages ≡ true
+  pub some : IsSome selection.indicator → text ≢ []
 
 -- why nothing is shown
 abbrev pub IsUnshown : ShowError → Selection → WorldState → Type 0

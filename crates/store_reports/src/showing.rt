@@ -106,7 +106,14 @@ fn push_list(
         return Ok(());
     }
     let properties = world.plist_of(home, name);
-    push_properties(alloc, text, world.packages(), selection, symbol, &properties)
+    push_properties(
+        alloc,
+        text,
+        world.packages(),
+        selection,
+        symbol,
+        &properties,
+    )
 }
 
 fn push_properties(
