@@ -90,7 +90,7 @@ run_rows folder mode strict group existing number =
     ++ other_rows (codes "quiet") false)))))))))
 
 asked_of_rows : (folder : Text) (mode : Mode) (strict group existing : Bool)
-    → asked_of (codes "run", run_rows folder mode strict group existing []) ≡ Some (folder, existing, Run (wanting mode 0 strict group))
+    → asked_of (codes "run", run_rows folder mode strict group existing []) ≡ Some (folder, existing, Run (wanting mode 0 0 strict group))
 asked_of_rows folder Current false false false = refl
 asked_of_rows folder Current false false true = refl
 asked_of_rows folder Current false true false = refl
@@ -212,7 +212,7 @@ module _ (program : Text) (x : ℕ) (xs : Text) (e : (x == 45) ≡ false) where
   run_faultless : (mode : Mode) (strict group existing : Bool)
       → fault_of command_line (program ∷ codes "run" ∷ (x ∷ xs) ∷ (flag_for mode ++ (strict_for strict ++ (group_for group ++ existing_for existing)))) ≡ []
   unfolding clap_on_literals
-  run_faultless Current false false false = simp e
+  run_faultless Current false false false = rw e (rw e refl)
   run_faultless Current false false true = rw e (rw e refl)
   run_faultless Current false true false = rw e (rw e refl)
   run_faultless Current false true true = rw e (rw e refl)

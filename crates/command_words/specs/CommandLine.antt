@@ -84,9 +84,12 @@ existing_rule = record (new_rule (codes "existing")) {
 abbrev pub folder_line : Text → App
 folder_line name = with_rule (with_rule (new_app name) directory_rule) existing_rule
 
--- with what is wanted of a session
+-- with what is wanted of a session: its flags, and its numbers
+abbrev pub flags_line : App
+flags_line = with_rule (with_rule (with_rule (folder_line (codes "run")) rescue_rule) strict_rule) group_rule
+
 abbrev pub session_line : App
-session_line = with_rule (with_rule (with_rule (with_rule (with_rule (folder_line (codes "run")) rescue_rule) strict_rule) group_rule) every_rule) ratio_rule
+session_line = with_rule (with_rule flags_line every_rule) ratio_rule
 
 abbrev pub run_line : App
 run_line = with_rule session_line quiet_rule

@@ -4,7 +4,7 @@ ghost use Rattle.clap.specs.Words.{FailsBy, Text, app_of, found_of, kind_of, row
 ghost use Rattle.clap.specs.declared.builder.command.Command.TheViews.{out-Command as fields_of};
 ghost use Rattle.clap.specs.declared.error.kind.ErrorKind.TheVariants.{MissingRequiredArgument, OutOfMemory};
 ghost use Rattle.command_words.specs.declared.words.Task.{Task};
-ghost use Rattle.command_words.specs.CommandLine.{asked_in, asked_of, command_line, content_of_flag, data_rule, every_rule, existing_rule, export_line, faults_of, folder_line, group_rule, is_set, mode_of_flag, number_in, program_line, quiet_rule, ratio_rule, rescue_rule, run_line, session_line, strict_rule, task_of, wanted_of, AsksFor};
+ghost use Rattle.command_words.specs.CommandLine.{asked_in, asked_of, command_line, content_of_flag, data_rule, every_rule, existing_rule, export_line, faults_of, flags_line, folder_line, group_rule, is_set, mode_of_flag, number_in, program_line, quiet_rule, ratio_rule, rescue_rule, run_line, session_line, strict_rule, task_of, wanted_of, AsksFor};
 
 use crate::help::{
     DUMP_HELP, DUMP_USAGE, EXPORT_HELP, EXPORT_USAGE, PROGRAM_HELP, RUN_HELP, RUN_USAGE,
@@ -197,16 +197,24 @@ fn export_command<'a>(alloc: Global) -> Result<Command<'a>, AllocError>
     command.arg(data_option(alloc))
 }
 
-// A session, with what is wanted of it.
-fn session_command<'a>(alloc: Global) -> Result<Command<'a>, AllocError>
-    ensures line { IfOk result (λ command. app_of command ≡ session_line) }
+// A session, with its flags.
+fn flags_command<'a>(alloc: Global) -> Result<Command<'a>, AllocError>
+    ensures line { IfOk result (λ command. app_of command ≡ flags_line) }
     ensures local { IfOk result (λ command. (fields_of command).has_globals ≡ false) }
 {
     let about = "Serves the forms of standard input to standard output";
     let command = folder_command(alloc, RUN, about, RUN_USAGE, RUN_HELP)?;
     let command = command.arg(rescue_option(alloc))?;
     let command = command.arg(strict_option(alloc))?;
-    let command = command.arg(group_option(alloc))?;
+    command.arg(group_option(alloc))
+}
+
+// The same with all that is wanted of it.
+fn session_command<'a>(alloc: Global) -> Result<Command<'a>, AllocError>
+    ensures line { IfOk result (λ command. app_of command ≡ session_line) }
+    ensures local { IfOk result (λ command. (fields_of command).has_globals ≡ false) }
+{
+    let command = flags_command(alloc)?;
     let command = command.arg(every_option(alloc))?;
     command.arg(ratio_option(alloc))
 }

@@ -26,7 +26,7 @@ pub struct Selection<'a> {
 
 // Whether a name is the one that is asked for, if one is.
 fn is_named(wanted: Option<&[u8]>, name: &[u8]) -> bool
-    ensures { result ≡ is_named wanted name.now }
+    ensures { result ≡ is_named wanted.entry name.now }
 {
     match wanted {
         Some(wanted) => wanted == name,

@@ -65,7 +65,7 @@ pub fn show(alloc: Global, world: &World, selection: &Selection<'_>) -> Result<V
 
 // Whether the package that is asked for is there, if one is.
 fn has_package(packages: &Packages, wanted: Option<&[u8]>) -> bool
-    ensures { result ≡ has_package wanted packages.now.0 }
+    ensures { result ≡ has_package wanted.entry packages.now.0 }
 {
     match wanted {
         Some(package) => packages.has_package(package),
