@@ -94,7 +94,7 @@ export_line = with_rule (folder_line (codes "export")) data_rule
 
 -- the program, with its commands and its version
 abbrev pub program_line : App
-program_line = on_top (λ s. record s { has_version = true }) (new_app (codes "pazturrok"))
+program_line = on_top (λ s. record s { subcommand_required = true; has_version = true }) (new_app (codes "pazturrok"))
 
 abbrev pub command_line : App
 command_line =

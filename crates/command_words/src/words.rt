@@ -214,6 +214,7 @@ fn bare_command<'a>(alloc: Global) -> Command<'a>
         .version(PROGRAM_VERSION)
         .override_usage(USAGE)
         .override_help(PROGRAM_HELP)
+        .subcommand_required(true)
 }
 
 // Adds a command that has nothing but its folder.
@@ -346,7 +347,7 @@ fn asked_by<'a>(matches: &ArgMatches<'a>) -> Option<Asked<'a>>
 fn nothing_asked(command: &mut Command<'_>) -> Error
     ensures { (kind_of result ≡ OutOfMemory) ⊎ (kind_of result ≡ MissingRequiredArgument) }
 {
-    match command.error(ErrorKind::MissingRequiredArgument, "no command was given") {
+    match command.error(ErrorKind::MissingRequiredArgument, "no folder was given") {
         Ok(error) => error,
         Err(memory) => Error::from(memory),
     }

@@ -1,2 +1,1 @@
 pub mod Joined
-mod Selected

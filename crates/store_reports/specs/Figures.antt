@@ -5,7 +5,7 @@ use Rattle.disk_trait.specs.Disk.{Image}
 use Rattle.disk_trait.specs.declared.half.Half.{Half}
 use Rattle.disk_trait.specs.declared.half.Half.TheVariants.{A, B}
 use Rattle.gate_log.specs.Layout.{Contents, half_size}
-use Rattle.gate_log.specs.Log.{FilesMean, Holds, first_size_in, generation_in, records_in, size_in, version_in}
+use Rattle.gate_log.specs.Log.{FilesMean, Holds, generation_in, records_in, size_in, version_in}
 use Rattle.log_look.specs.declared.host.Figures.{Figures}
 use Rattle.package_table.specs.Readers.{own_names, package_names}
 use Rattle.package_table.specs.Table.{Table}
@@ -24,7 +24,6 @@ pub record AreFiguresOf (image : Image) (figures : HalfFigures) : Type 0 where
   pub generation : figures.generation ≡ generation_in contents
   pub records : figures.records ≡ records_in contents
   pub bytes : figures.bytes ≡ size_in contents
-  pub first_bytes : figures.first_bytes ≡ first_size_in contents
 
 -- ---- the figures of a store, a line each
 
@@ -61,10 +60,6 @@ counts_in world = record {
   properties = told_number (property_count world);
 }
 
--- how many bytes the half has, and how many it had when it was begun
-abbrev pub sizes_text : ℕ → ℕ → List ℕ
-sizes_text bytes first_bytes = figure (codes "bytes") bytes ++ figure (codes "first-bytes") first_bytes
-
 -- of the half in use
 abbrev pub half_text : HalfFigures → List ℕ
 half_text half =
@@ -72,7 +67,7 @@ half_text half =
     ++ figure (codes "version") half.version
     ++ figure (codes "generation") half.generation
     ++ figure (codes "records") half.records
-    ++ sizes_text half.bytes half.first_bytes
+    ++ figure (codes "bytes") half.bytes
 
 -- of the world
 abbrev pub counts_text : Counts → List ℕ

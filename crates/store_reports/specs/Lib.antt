@@ -2,4 +2,3 @@ pub mod Backup
 pub mod Escaped
 pub mod Figures
 pub mod Log
-pub mod Showing

@@ -3,7 +3,7 @@ ghost use Rattle.std.specs.Prelude.{◌≡◌, ◌+◌, ◌-◌, ◌^◌, ◌<�
 ghost use Rattle.log_look.specs.Cut.{IsUnopened};
 ghost use Rattle.package_table.specs.Readers.{package_names};
 ghost use Rattle.plist_state.specs.Readers.{borrowed_symbols, symbols_with_properties};
-ghost use Rattle.store_reports.specs.Figures.{AreFiguresOf, counts_in, files_text, half_line, half_text, info_text, known_figure, property_count, sizes_text, symbol_count, told_number, world_text};
+ghost use Rattle.store_reports.specs.Figures.{AreFiguresOf, counts_in, files_text, half_line, half_text, info_text, known_figure, property_count, symbol_count, told_number, world_text};
 
 use crate::numbers::push_figure;
 use disk_trait::{Disk, Half};
@@ -21,8 +21,6 @@ pub struct HalfFigures {
     pub records: u64,
     /// The bytes up to its closed gate, and that: so many the next opening reads.
     pub bytes: u64,
-    /// Those that it had when it was begun: 16, and its snapshot.
-    pub first_bytes: u64,
 }
 
 /// What is told of the half in use of what was seen, and the sight as it was. Where no half is open it is half A, and its numbers are 0.
@@ -44,7 +42,6 @@ pub fn half_figures(alloc: Global, sight: Sight) -> Result<(HalfFigures, Sight),
         generation: log.generation(),
         records: log.record_count(),
         bytes: log.size(),
-        first_bytes: log.first_size(),
     };
     Ok((figures, log.into_disk()))
 }
@@ -122,19 +119,7 @@ fn push_half(alloc: Global, text: &mut Vec<u8>, half: &HalfFigures) -> Result<()
     push_figure(alloc, text, b"version", half.version as u64)?;
     push_figure(alloc, text, b"generation", half.generation)?;
     push_figure(alloc, text, b"records", half.records)?;
-    push_sizes(alloc, text, half.bytes, half.first_bytes)
-}
-
-fn push_sizes(
-    alloc: Global,
-    text: &mut Vec<u8>,
-    bytes: u64,
-    first_bytes: u64,
-) -> Result<(), AllocError>
-    ensures { OnOk result (text.new.items ≡ text.old.items ++ sizes_text bytes first_bytes) }
-{
-    push_figure(alloc, text, b"bytes", bytes)?;
-    push_figure(alloc, text, b"first-bytes", first_bytes)
+    push_figure(alloc, text, b"bytes", half.bytes)
 }
 
 // How much is in a world.

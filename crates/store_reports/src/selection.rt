@@ -1,6 +1,4 @@
 //! Which properties are asked for, and how they are written.
-ghost use Rattle.std.specs.Prelude.{◌≡◌};
-ghost use Rattle.store_reports.specs.Showing.{begins_with, has_part, is_named, takes_indicator, takes_symbol};
 
 /// How properties are written.
 #[derive(Clone, Copy, Debug, PartialEq, Eq)]
@@ -25,58 +23,46 @@ pub struct Selection<'a> {
 }
 
 // Whether a name is the one that is asked for, if one is.
-fn is_named(wanted: Option<&[u8]>, name: &[u8]) -> bool
-    ensures { result ≡ is_named wanted name.now }
-{
+fn is_named(wanted: Option<&[u8]>, name: &[u8]) -> bool {
     match wanted {
         Some(wanted) => wanted == name,
         None => true,
     }
 }
 
-// Whether a text begins with another, in upper or lower case.
-fn begins_with(text: &[u8], part: &[u8]) -> bool
-    ensures { result ≡ begins_with text.now part.now }
-{
-    if text.len() < part.len() {
-        return false;
-    }
-    for index in 0..part.len() {
-        if !text[index].eq_ignore_ascii_case(&part[index]) {
-            return false;
-        }
-    }
-    true
+// Whether two texts of one length are the same but for the case of their letters.
+fn is_same_but_case(text: &[u8], other: &[u8]) -> bool {
+    text.iter()
+        .zip(other)
+        .all(|(one, another)| one.eq_ignore_ascii_case(another))
 }
 
 // Whether a text has another in it, in upper or lower case.
-fn has_part(text: &[u8], part: &[u8]) -> bool
-    ensures { result ≡ has_part text.now part.now }
-{
-    for at in 0..text.len() {
-        if begins_with(&text[at..], part) {
+fn is_in(part: &[u8], text: &[u8]) -> bool {
+    if part.len() > text.len() {
+        return false;
+    }
+    let last = text.len() - part.len();
+    'places: for at in 0..=last {
+        if is_same_but_case(&text[at..at + part.len()], part) {
             return true;
         }
     }
-    part.is_empty()
+    false
 }
 
 impl Selection<'_> {
     /// Whether properties of this symbol are asked for.
-    pub(crate) fn takes_symbol(&self, home: &[u8], name: &[u8]) -> bool
-        ensures { result ≡ takes_symbol self.now home.now name.now }
-    {
+    pub(crate) fn takes_symbol(&self, home: &[u8], name: &[u8]) -> bool {
         is_named(self.package, home)
             && match self.like {
-                Some(part) => has_part(name, part),
+                Some(part) => is_in(part, name),
                 None => true,
             }
     }
 
     /// Whether properties of an indicator of this name are.
-    pub(crate) fn takes_indicator(&self, name: &[u8]) -> bool
-        ensures { result ≡ takes_indicator self.now name.now }
-    {
+    pub(crate) fn takes_indicator(&self, name: &[u8]) -> bool {
         is_named(self.indicator, name)
     }
 }

@@ -1,11 +1,6 @@
 //! Properties of a world.
-ghost use Rattle.std.specs.Prelude.{◌≡◌, ◌++◌, true, IfErr, IfOk, OnOk};
-ghost use Rattle.std.specs.List.{flat_map};
+ghost use Rattle.std.specs.Prelude.{◌≡◌, true};
 ghost use Rattle.lisp_object.specs.Datum.{is_proper};
-ghost use Rattle.plist_state.specs.Readers.{borrowed_symbol, borrowed_symbols};
-ghost use Rattle.plist_state.specs.Shown.{property_of};
-ghost use Rattle.store_reports.specs.Showing.{form_text, has_package, layout_text, line_text, plist_text, property_text, selected_text, symbol_text, IsShown, IsUnshown};
-ghost use Rattle.store_reports.specs.declared.showing.ShowError.TheVariants as showing;
 
 use crate::escaped::push_escaped;
 use crate::selection::{Layout, Selection};
@@ -13,7 +8,7 @@ use canon_printer::print;
 use lisp_object::{Bytes, Datum};
 use package_table::Packages;
 use package_table::standardized::COMMON_LISP_USER;
-use plist_state::{Property, PropertyList, World};
+use plist_state::{Property, World};
 use std::alloc::{AllocError, Global};
 use thiserror::Error;
 
@@ -32,8 +27,6 @@ pub enum ShowError {
 }
 
 impl From<AllocError> for ShowError {
-    ghost from_gives = { λ _ e. e ≡ showing.OutOfMemory };
-
     fn from(_error: AllocError) -> ShowError {
         ShowError::OutOfMemory
     }
@@ -46,153 +39,70 @@ impl From<AllocError> for ShowError {
 ///
 /// `NoPackage` where a package is asked for that there is not; `NoIndicator` where an indicator is asked for that none of the
 /// properties has. Out of memory.
-#[tactic(auto, unfolding(crate::specs::Showing::shown_text))]
-pub fn show(alloc: Global, world: &World, selection: &Selection<'_>) -> Result<Vec<u8>, ShowError>
-    ensures shown { IfOk result (λ text. IsShown selection.now world.now.0 text.items) }
-    ensures refused { IfErr result (λ e. IsUnshown e selection.now world.now.0) }
-{
-    if !has_package(world.packages(), selection.package) {
+pub fn show(alloc: Global, world: &World, selection: &Selection<'_>) -> Result<Vec<u8>, ShowError> {
+    if let Some(package) = selection.package
+        && !world.packages().has_package(package)
+    {
         return Err(ShowError::NoPackage);
     }
     let mut text = Vec::new(alloc);
     let symbols = world.owners(alloc)?;
-    push_symbols(alloc, &mut text, world, selection, symbols.as_slice())?;
+    for symbol in symbols.as_slice() {
+        let (home, name) = symbol;
+        if selection.takes_symbol(home, name) {
+            push_list(alloc, &mut text, world, selection, home, name)?;
+        }
+    }
     if selection.indicator.is_some() && text.is_empty() {
         return Err(ShowError::NoIndicator);
     }
     Ok(text)
 }
 
-// Whether the package that is asked for is there, if one is.
-fn has_package(packages: &Packages, wanted: Option<&[u8]>) -> bool
-    ensures { result ≡ has_package wanted packages.now.0 }
-{
-    match wanted {
-        Some(package) => packages.has_package(package),
-        None => true,
-    }
-}
-
-fn push_symbols(
-    alloc: Global,
-    text: &mut Vec<u8>,
-    world: &World,
-    selection: &Selection<'_>,
-    symbols: &[(&[u8], &[u8])],
-) -> Result<(), AllocError>
-    ensures { OnOk result (text.new.items
-        ≡ text.old.items ++ flat_map (plist_text selection.now world.now.0) (borrowed_symbols symbols.now)) }
-{
-    for symbol in symbols {
-        push_list(alloc, text, world, selection, symbol)?;
-    }
-    Ok(())
-}
-
 // Adds those properties of a symbol that are asked for.
-#[tactic(auto, unfolding(crate::specs::Showing::plist_text))]
 fn push_list(
     alloc: Global,
     text: &mut Vec<u8>,
     world: &World,
     selection: &Selection<'_>,
-    symbol: &(&[u8], &[u8]),
-) -> Result<(), AllocError>
-    ensures { OnOk result (text.new.items
-        ≡ text.old.items ++ plist_text selection.now world.now.0 (borrowed_symbol symbol.now)) }
-{
-    let (home, name) = symbol;
-    if !selection.takes_symbol(home, name) {
-        return Ok(());
-    }
+    home: &[u8],
+    name: &[u8],
+) -> Result<(), AllocError> {
+    let symbol = symbol_text(alloc, world.packages(), home, name)?;
     let properties = world.plist_of(home, name);
-    push_properties(
-        alloc,
-        text,
-        world.packages(),
-        selection,
-        symbol,
-        &properties,
-    )
-}
-
-fn push_properties(
-    alloc: Global,
-    text: &mut Vec<u8>,
-    packages: &Packages,
-    selection: &Selection<'_>,
-    symbol: &(&[u8], &[u8]),
-    properties: &PropertyList<'_>,
-) -> Result<(), AllocError>
-    ensures { OnOk result (text.new.items
-        ≡ text.old.items ++ flat_map (selected_text selection.now packages.now.0 (borrowed_symbol symbol.now)) properties.now) }
-{
     for index in 0..properties.len() {
         let property = properties.at(index);
-        push_selected(alloc, text, packages, selection, symbol, &property)?;
+        if selection.takes_indicator(property.name) {
+            push_property(
+                alloc,
+                text,
+                world.packages(),
+                selection.layout,
+                symbol.as_slice(),
+                &property,
+            )?;
+        }
     }
     Ok(())
 }
 
-// Adds a property, if it is asked for.
-#[tactic(auto, unfolding(crate::specs::Showing::selected_text))]
-fn push_selected(
-    alloc: Global,
-    text: &mut Vec<u8>,
-    packages: &Packages,
-    selection: &Selection<'_>,
-    symbol: &(&[u8], &[u8]),
-    property: &Property<'_>,
-) -> Result<(), AllocError>
-    requires { is_proper property.now.value.now ≡ true }
-    ensures { OnOk result (text.new.items ≡ text.old.items
-        ++ selected_text selection.now packages.now.0 (borrowed_symbol symbol.now) (property_of property.now)) }
-{
-    if !selection.takes_indicator(property.name) {
-        return Ok(());
-    }
-    push_property(alloc, text, packages, selection.layout, symbol, property)
-}
-
-#[tactic(auto, unfolding(crate::specs::Showing::property_text))]
+// Adds a property of the symbol of this text.
 fn push_property(
     alloc: Global,
     text: &mut Vec<u8>,
     packages: &Packages,
     layout: Layout,
-    symbol: &(&[u8], &[u8]),
+    symbol: &[u8],
     property: &Property<'_>,
 ) -> Result<(), AllocError>
     requires { is_proper property.now.value.now ≡ true }
-    ensures { OnOk result (text.new.items ≡ text.old.items
-        ++ property_text layout packages.now.0 (borrowed_symbol symbol.now) (property_of property.now)) }
 {
     packages.soundness();
-    let (home, name) = symbol;
-    let symbol = symbol_text(alloc, packages, home, name)?;
     let indicator = symbol_text(alloc, packages, property.home, property.name)?;
     let value = print(alloc, property.value, packages, COMMON_LISP_USER)?;
-    push_texts(
-        text,
-        layout,
-        symbol.as_slice(),
-        indicator.as_slice(),
-        value.as_slice(),
-    )
-}
-
-fn push_texts(
-    text: &mut Vec<u8>,
-    layout: Layout,
-    symbol: &[u8],
-    indicator: &[u8],
-    value: &[u8],
-) -> Result<(), AllocError>
-    ensures { OnOk result (text.new.items ≡ text.old.items ++ layout_text layout symbol.now indicator.now value.now) }
-{
     match layout {
-        Layout::Lines => push_line(text, symbol, indicator, value),
-        Layout::Forms => push_form(text, symbol, indicator, value),
+        Layout::Lines => push_line(text, symbol, indicator.as_slice(), value.as_slice()),
+        Layout::Forms => push_form(text, symbol, indicator.as_slice(), value.as_slice()),
     }
 }
 
@@ -201,9 +111,7 @@ fn push_line(
     symbol: &[u8],
     indicator: &[u8],
     value: &[u8],
-) -> Result<(), AllocError>
-    ensures { OnOk result (text.new.items ≡ text.old.items ++ line_text symbol.now indicator.now value.now) }
-{
+) -> Result<(), AllocError> {
     push_escaped(text, symbol)?;
     text.push(b' ')?;
     push_escaped(text, indicator)?;
@@ -218,9 +126,7 @@ fn push_form(
     symbol: &[u8],
     indicator: &[u8],
     value: &[u8],
-) -> Result<(), AllocError>
-    ensures { OnOk result (text.new.items ≡ text.old.items ++ form_text symbol.now indicator.now value.now) }
-{
+) -> Result<(), AllocError> {
     text.extend_from_slice(b"(SETF (GET '")?;
     text.extend_from_slice(symbol)?;
     text.extend_from_slice(b" '")?;
@@ -232,15 +138,12 @@ fn push_form(
 }
 
 // The text of a symbol in COMMON-LISP-USER. The names of a world are bytes below 128; of others nothing is written.
-#[tactic(auto, unfolding(crate::specs::Showing::symbol_text))]
 fn symbol_text(
     alloc: Global,
     packages: &Packages,
     home: &[u8],
     name: &[u8],
-) -> Result<Vec<u8>, AllocError>
-    ensures { IfOk result (λ text. text.items ≡ symbol_text packages.now.0 home.now name.now) }
-{
+) -> Result<Vec<u8>, AllocError> {
     packages.soundness();
     let package = Bytes::from_slice(alloc, home)?;
     let name = Bytes::from_slice(alloc, name)?;
