@@ -15,7 +15,7 @@ _pazturrok() {
         verify) words='--existing --help' ;;
         show) words='--existing --package --indicator --like --forms --help' ;;
         info) words='--existing --help' ;;
-        log) words='--existing --from --help' ;;
+        log) words='--existing --from --places --help' ;;
         backup) words='--existing --help' ;;
         check) words='--store --help' kind=-f ;;
         try) words='--existing --rescue --strict --group --snapshot-every --quiet --help' ;;

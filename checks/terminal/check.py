@@ -151,6 +151,22 @@ def load(folder):
     check("nothing of it beside answers", told_at_terminal(folder, answers=True), "9\r\n" * 4 + "! 4 STRAY-CLOSE\r\n" + refused)
 
 
+def long_opening(folder):
+    """What takes a second to open is told before it is opened, at a terminal alone."""
+    form = b"(PROGN (SETF (GET 'A 'B) \"%s\") 1)\n" % (b"x" * 1_000_000)
+    subprocess.run([program, "run", folder], input=form * 7, stdout=subprocess.DEVNULL, check=True)
+    told = "opening half-a, 7 MB: about 1 s\r\n"
+    for words, answers in ((["verify", folder], b"half A generation 1 records 7\n"), (["verify", folder, "--existing"], b"half A generation 1 records 7\n"),
+                           (["run", folder], b"")):
+        master, slave = pty.openpty()
+        process = subprocess.Popen([program, *words], stdin=subprocess.DEVNULL, stdout=subprocess.PIPE, stderr=slave)
+        os.close(slave)
+        check(f"a long opening: {words[0]}", (process.communicate()[0], os.read(master, 65536).decode()), (answers, told))
+        os.close(master)
+    silent = subprocess.run([program, "verify", folder], capture_output=True)
+    check("a long opening without a terminal", (silent.stdout, silent.stderr), (b"half A generation 1 records 7\n", b""))
+
+
 with tempfile.TemporaryDirectory() as room:
     store = os.path.join(room, "store")
     it = Terminal("run", store)
@@ -217,6 +233,7 @@ with tempfile.TemporaryDirectory() as room:
           (2, True, False, False))
     interrupted(store)
     load(store)
+    long_opening(os.path.join(room, "long"))
 
 print(f"{passed} passed, {failed} failed")
 sys.exit(1 if failed else 0)

@@ -18,6 +18,6 @@ mod way;
 mod words;
 
 pub use check::{Check, checked_in};
-pub use looks::{Look, Looked, Shown, looked_in};
+pub use looks::{Look, Looked, RecordPlace, Records, Shown, looked_in};
 pub use way::{Way, asks_for_quiet, way_of};
 pub use words::{Asked, Report, Task, asked_in};

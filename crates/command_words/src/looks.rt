@@ -6,7 +6,6 @@ use crate::help::{
     SHOW_HELP, SHOW_USAGE, USAGE,
 };
 use crate::words::{DIRECTORY, DUMP, EXISTING, PROGRAM, flag_is_set};
-use clap::builder::ValueParser;
 use clap::error::ErrorKind;
 use clap::{Arg, ArgAction, ArgMatches, Command, Error};
 use std::alloc::{AllocError, Global};
@@ -32,6 +31,8 @@ const FROM: &str = "from";
 
 const AT: &str = "at";
 
+const PLACES: &str = "places";
+
 const DESTINATION: &str = "DEST";
 
 /// What is looked at.
@@ -41,12 +42,51 @@ pub enum Look<'a> {
     Show(Shown<'a>),
     /// Figures of the store and of its files.
     Info,
-    /// The records of the half in use, from this number on.
-    Log(u64),
+    /// The records of the half in use.
+    Log(Records),
     /// The world, of which a new store is made in this folder.
     Backup(&'a str),
     /// The text of the world after so many records of the half in use.
-    Dump(u64),
+    Dump(RecordPlace),
+}
+
+/// Which records are told.
+#[derive(Clone, Copy, Debug, PartialEq, Eq)]
+pub struct Records {
+    /// Those from this one on, counted from 1.
+    pub from: RecordPlace,
+    /// With the generation before each number.
+    pub places: bool,
+}
+
+/// The number of a record, and the generation that the half in use has to have, if one is given: `N` or `G.N`.
+#[derive(Clone, Copy, Debug, PartialEq, Eq)]
+pub struct RecordPlace {
+    pub generation: Option<u64>,
+    pub number: u64,
+}
+
+impl RecordPlace {
+    /// The place that a word writes, of which the number is `least` or more.
+    fn of(word: &str, least: u64) -> Option<RecordPlace> {
+        let (generation, number) = match word.split_once('.') {
+            Some((generation, number)) => (Some(digits_in(generation)?), digits_in(number)?),
+            None => (None, word.parse::<u64>().ok()?),
+        };
+        if number < least {
+            return None;
+        }
+        Some(RecordPlace { generation, number })
+    }
+}
+
+// The number that a word of digits alone writes.
+fn digits_in(word: &str) -> Option<u64> {
+    if word.bytes().all(|byte| byte.is_ascii_digit()) {
+        word.parse::<u64>().ok()
+    } else {
+        None
+    }
 }
 
 /// Which properties are shown, and how.
@@ -79,43 +119,97 @@ pub fn looked_in<'a, S: AsStr>(alloc: Global, words: &'a [S]) -> Result<Looked<'
     let mut command = looking_command(alloc)?;
     match command.try_get_matches_from_mut(words) {
         Ok(matches) => match looked_by(&matches) {
-            Some(looked) => Ok(looked),
-            None => Err(nothing_asked(&mut command)),
+            Ok(looked) => Ok(looked),
+            Err(mistake) => Err(error_of(alloc, &mut command, mistake)),
         },
         Err(error) => Err(error),
     }
 }
 
-// The words passed, and yet no command with its folder was found.
-fn nothing_asked(command: &mut Command<'_>) -> Error {
-    match command.error(ErrorKind::MissingRequiredArgument, "no folder was given") {
+// What `clap` does not refuse.
+#[derive(Clone, Copy)]
+enum Mistake<'a> {
+    // There is no command with its folder.
+    NoCommand,
+    // The value of this option is no place.
+    NoPlace(&'a str, &'a str),
+}
+
+// The refusal of words that passed.
+fn error_of(alloc: Global, command: &mut Command<'_>, mistake: Mistake<'_>) -> Error {
+    match told_of(alloc, command, mistake) {
         Ok(error) => error,
         Err(memory) => Error::from(memory),
     }
 }
 
-// What was found, if it is a command with its folder.
-fn looked_by<'a>(matches: &ArgMatches<'a>) -> Option<Looked<'a>> {
-    let (name, found) = matches.subcommand()?;
-    let folder = found.get_str(DIRECTORY)?;
+fn told_of(
+    alloc: Global,
+    command: &mut Command<'_>,
+    mistake: Mistake<'_>,
+) -> Result<Error, AllocError> {
+    match mistake {
+        Mistake::NoCommand => {
+            command.error(ErrorKind::MissingRequiredArgument, "no command was given")
+        }
+        Mistake::NoPlace(option, value) => {
+            let wanted = "the number of a record, or G.N: N in the half of generation G";
+            let text = format!(in alloc; "invalid value '{value}' for '--{option} <N>': {wanted}")?;
+            command.error(ErrorKind::ValueValidation, text.as_str())
+        }
+    }
+}
+
+// What was found.
+fn looked_by<'a>(matches: &ArgMatches<'a>) -> Result<Looked<'a>, Mistake<'a>> {
+    let Some((name, found)) = matches.subcommand() else {
+        return Err(Mistake::NoCommand);
+    };
+    let Some(folder) = found.get_str(DIRECTORY) else {
+        return Err(Mistake::NoCommand);
+    };
     let look = look_for(name, found)?;
-    Some(Looked { folder, look })
+    Ok(Looked { folder, look })
 }
 
 // What the command of this name looks at.
-fn look_for<'a>(name: &str, found: &ArgMatches<'a>) -> Option<Look<'a>> {
+fn look_for<'a>(name: &str, found: &ArgMatches<'a>) -> Result<Look<'a>, Mistake<'a>> {
     match name {
-        SHOW => Some(Look::Show(Shown {
+        SHOW => Ok(Look::Show(Shown {
             package: found.get_str(PACKAGE),
             indicator: found.get_str(INDICATOR),
             like: found.get_str(LIKE),
             forms: flag_is_set(found.get_str(FORMS)),
         })),
-        INFO => Some(Look::Info),
-        LOG => Some(Look::Log(found.get_one::<u64>(FROM).unwrap_or(1))),
-        BACKUP => Some(Look::Backup(found.get_str(DESTINATION)?)),
-        DUMP => Some(Look::Dump(found.get_one::<u64>(AT)?)),
-        _ => None,
+        INFO => Ok(Look::Info),
+        LOG => Ok(Look::Log(Records {
+            from: place_in(found, FROM, 1)?,
+            places: flag_is_set(found.get_str(PLACES)),
+        })),
+        BACKUP => match found.get_str(DESTINATION) {
+            Some(to) => Ok(Look::Backup(to)),
+            None => Err(Mistake::NoCommand),
+        },
+        DUMP => Ok(Look::Dump(place_in(found, AT, 0)?)),
+        _ => Err(Mistake::NoCommand),
+    }
+}
+
+// The place of an option; the least one where it is not given.
+fn place_in<'a>(
+    found: &ArgMatches<'a>,
+    option: &'static str,
+    least: u64,
+) -> Result<RecordPlace, Mistake<'a>> {
+    let Some(value) = found.get_str(option) else {
+        return Ok(RecordPlace {
+            generation: None,
+            number: least,
+        });
+    };
+    match RecordPlace::of(value, least) {
+        Some(place) => Ok(place),
+        None => Err(Mistake::NoPlace(option, value)),
     }
 }
 
@@ -185,19 +279,24 @@ fn name_option<'a>(alloc: Global, name: &'a str, help: &'a str) -> Arg<'a> {
         .action(ArgAction::Set)
 }
 
-fn number_option<'a>(alloc: Global, name: &'a str, help: &'a str, least: u64) -> Arg<'a> {
+fn place_option<'a>(alloc: Global, name: &'a str, help: &'a str) -> Arg<'a> {
     Arg::new(alloc, name)
         .long(name)
         .value_name("N")
         .help(help)
         .action(ArgAction::Set)
-        .value_parser(ValueParser::unsigned(least, u64::MAX))
 }
 
 fn log_command<'a>(alloc: Global) -> Result<Command<'a>, AllocError> {
     let about = "Writes the records of the half in use, a line each";
     let command = folder_command(alloc, LOG, about, LOG_USAGE, LOG_HELP)?;
-    command.arg(number_option(alloc, FROM, "From this record on, counted from 1", 1))
+    let help = "From this record on, counted from 1; G.N is that of generation G";
+    let command = command.arg(place_option(alloc, FROM, help))?;
+    let places = Arg::new(alloc, PLACES)
+        .long(PLACES)
+        .help("Write each number with the generation of the half before it, as G.N")
+        .action(ArgAction::SetTrue);
+    command.arg(places)
 }
 
 fn backup_command<'a>(alloc: Global) -> Result<Command<'a>, AllocError> {
@@ -213,10 +312,7 @@ fn backup_command<'a>(alloc: Global) -> Result<Command<'a>, AllocError> {
 fn dump_command<'a>(alloc: Global) -> Result<Command<'a>, AllocError> {
     let about = "Writes the text of the world";
     let command = folder_command(alloc, DUMP, about, DUMP_USAGE, DUMP_HELP)?;
-    command.arg(number_option(
-        alloc,
-        AT,
-        "The world after the first N records of the half in use",
-        0,
-    ))
+    let help =
+        "The world after the first N records of the half in use; G.N of that of generation G";
+    command.arg(place_option(alloc, AT, help))
 }

@@ -1,6 +1,7 @@
 -- The refusals of a text of answers, each a value as it is printed, or a refusal, and a newline.
-use Rattle.std.specs.Prelude.{ℕ, ◌≡◌, ◌==◌, if◌then◌else◌, List, [], ◌∷◌, ◌++◌, Option, Some}
+use Rattle.std.specs.Prelude.{ℕ, ◌+◌, ◌≡◌, ◌==◌, if◌then◌else◌, Bool, true, false, min, List, [], ◌∷◌, ◌++◌, Option, Some, codes, decimal}
 use Rattle.program_streams.specs.declared.answer_text.At.{At}
+use Rattle.program_streams.specs.declared.refusals.Counts.{Counts}
 use Rattle.program_streams.specs.declared.answer_text.At.TheVariants.{Start, Mark, Refusal, Value, ValueEscape, Text, TextEscape, Name, NameEscape}
 
 -- a newline ends a value; a backslash takes the next character, a quotation mark begins a text, and a bar a name
@@ -55,6 +56,39 @@ after_all at (byte ∷ bytes) = after_all (after at byte) bytes
 unfoldable pub refusals_in : At → List ℕ → List ℕ
 refusals_in at [] = []
 refusals_in at (byte ∷ bytes) = passed at byte ++ refusals_in (after at byte) bytes
+
+-- ---- how many answers a text has
+
+-- as much of a number as one of 64 bits can tell
+abbrev pub told_number : ℕ → ℕ
+told_number n = min n 18446744073709551615
+
+-- an answer ends here
+abbrev pub is_end : At → Bool
+is_end Start = true
+is_end _ = false
+
+abbrev pub is_refusal : At → Bool
+is_refusal Refusal = true
+is_refusal _ = false
+
+-- a byte after which an answer ends makes one more of its kind
+abbrev pub counted_byte : At → Counts → ℕ → Counts
+counted_byte at counts byte =
+    if is_end (after at byte) then
+    (if is_refusal at then record counts { refusals = told_number (counts.refusals + 1) }
+    else record counts { values = told_number (counts.values + 1) })
+    else counts
+
+-- with the answers that end within these bytes
+unfoldable pub counted : At → Counts → List ℕ → Counts
+counted at counts [] = counts
+counted at counts (byte ∷ bytes) = counted (after at byte) (counted_byte at counts byte) bytes
+
+-- the line on them: how many answers there were, and how many of them were refusals
+abbrev pub counts_line : Counts → List ℕ
+counts_line counts =
+    codes "answers " ++ (decimal (told_number (counts.values + counts.refusals)) ++ (codes " refusals " ++ (decimal counts.refusals ++ 10 ∷ [])))
 
 -- the writer got these bytes
 abbrev pub Gets : Option (List ℕ) → Option (List ℕ) → List ℕ → Type 0

@@ -2,8 +2,8 @@
 //!
 //! - `Uninterrupted`: a stream on which a signal ends no session (module `uninterrupted`).
 //! - `Shown`: a writer of text that lets no control character through to a terminal (module `shown`).
-//! - `Refusals`: an output that lets the refusals among answers through, and counts (module `refusals`, over `answer_text`, which tells
-//!   where an answer ends).
+//! - `Refusals`: an output that lets the refusals among answers through, and counts; `write_counts` writes the line on the counts (module
+//!   `refusals`, over `answer_text`, which tells where an answer ends).
 //! - `Progress`: an input that tells how much of it was read, and `Cleared`, a writer that takes this line away first (module `progress`).
 #![tactic(auto)]
 
@@ -14,6 +14,6 @@ mod shown;
 mod uninterrupted;
 
 pub use progress::{Cleared, Progress};
-pub use refusals::{Counts, Refusals};
+pub use refusals::{Counts, Refusals, write_counts};
 pub use shown::Shown;
 pub use uninterrupted::Uninterrupted;

@@ -1,12 +1,13 @@
-//! An output that lets refusals through.
+//! An output that lets refusals through, and counts the answers.
 ghost use Rattle.std.specs.Prelude.{◌≡◌, ◌++◌, length, None, IfOk, OnOk};
 ghost use Rattle.std.specs.Io.{WritesAtMost};
 ghost use Rattle.std.specs.Io.KnownBytes.{WriteAppends};
-ghost use Rattle.program_streams.specs.AnswerText.{after, after_all, passed, refusals_in, Gets};
+ghost use Rattle.program_streams.specs.AnswerText.{after, after_all, counted, counted_byte, counts_line, passed, refusals_in, Gets};
 
 use crate::answer_text::At;
+use arrayvec::ArrayString;
 use std::alloc::{AllocError, Global};
-use std::cell::Cell;
+use std::fmt::Write as WriteText;
 use std::io;
 use std::io::{ErrorKind, Write};
 
@@ -19,50 +20,79 @@ pub struct Counts {
 
 impl Counts {
     /// None.
-    pub fn new() -> Counts {
+    pub fn new() -> Counts
+        ensures { result ≡ record { values = 0; refusals = 0 } }
+    {
         Counts {
             values: 0,
             refusals: 0,
         }
     }
+
+    // With an answer that ends with this byte, if one does.
+    fn after(self, at: At, byte: u8) -> Counts
+        ensures { result ≡ counted_byte at self byte }
+    {
+        match (at.after(byte), at) {
+            (At::Start, At::Refusal) => Counts {
+                refusals: self.refusals.saturating_add(1),
+                ..self
+            },
+            (At::Start, _) => Counts {
+                values: self.values.saturating_add(1),
+                ..self
+            },
+            _ => self,
+        }
+    }
+}
+
+/// Writes the line on so many answers: how many there were, and how many of them were refusals.
+///
+/// # Errors
+///
+/// Those of the writer, which got a part of the line from its front then.
+pub fn write_counts<W: Write>(writer: &mut W, counts: Counts) -> io::Result<()>
+    ensures { OnOk result (Gets (W.contents writer.old) (W.contents writer.new) (counts_line counts)) }
+{
+    let Counts { values, refusals } = counts;
+    let answers = values.saturating_add(refusals);
+    let mut line = ArrayString::<64>::new();
+    let Ok(()) = writeln!(line, "answers {answers} refusals {refusals}") else {
+        return Err(ErrorKind::WriteZero.into());
+    };
+    write_whole(writer, line.as_bytes())
 }
 
 /// An output of answers, of which it hands on the refusals alone.
 #[derive(Drop)]
-pub struct Refusals<'a, O> {
+pub struct Refusals<O> {
     output: O,
     at: At,
     refusals: Vec<u8>,
-    counts: &'a Cell<Counts>,
+    counts: Counts,
 }
 
-impl<'a, O> Refusals<'a, O> {
-    /// Before the first answer. The cell gets the counts.
-    pub fn new(alloc: Global, output: O, counts: &'a Cell<Counts>) -> Refusals<'a, O>
+impl<O> Refusals<O> {
+    /// Before the first answer.
+    pub fn new(alloc: Global, output: O) -> Refusals<O>
         ensures output { result.output ≡ output }
         ensures at { result.at ≡ At.Start }
+        ensures counts { result.counts ≡ record { values = 0; refusals = 0 } }
     {
         Refusals {
             output,
             at: At::Start,
             refusals: Vec::new(alloc),
-            counts,
+            counts: Counts::new(),
         }
     }
 
-    // Counts an answer that ends with this byte.
-    fn count(&mut self, byte: u8)
-        ensures { self.new ≡ self.old }
+    /// How many answers were handed to it.
+    pub fn counts(&self) -> Counts
+        ensures { result ≡ self.now.counts }
     {
-        let mut counts = self.counts.get();
-        match (self.at, self.at.after(byte)) {
-            (At::Refusal, At::Start) => counts.refusals = counts.refusals.saturating_add(1),
-            (At::Start, At::Start) | (_, At::Start) => {
-                counts.values = counts.values.saturating_add(1);
-            }
-            _ => return,
-        }
-        self.counts.set(counts);
+        self.counts
     }
 
     // Takes note of a byte.
@@ -70,13 +100,14 @@ impl<'a, O> Refusals<'a, O> {
         ensures output { self.new.output ≡ self.old.output }
         ensures at { OnOk result (self.new.at ≡ after self.old.at byte) }
         ensures refusals { OnOk result (self.new.refusals.items ≡ self.old.refusals.items ++ passed self.old.at byte) }
+        ensures counts { OnOk result (self.new.counts ≡ counted_byte self.old.at self.old.counts byte) }
     {
         match self.at {
             At::Mark if byte == b' ' => self.refusals.extend_from_slice(b"! ")?,
             At::Refusal => self.refusals.push(byte)?,
             _ => {}
         }
-        self.count(byte);
+        self.counts = self.counts.after(self.at, byte);
         self.at = self.at.after(byte);
         Ok(())
     }
@@ -86,6 +117,7 @@ impl<'a, O> Refusals<'a, O> {
         ensures output { self.new.output ≡ self.old.output }
         ensures at { OnOk result (self.new.at ≡ after_all self.old.at bytes.now) }
         ensures refusals { OnOk result (self.new.refusals.items ≡ refusals_in self.old.at bytes.now) }
+        ensures counts { OnOk result (self.new.counts ≡ counted self.old.at self.old.counts bytes.now) }
     {
         self.refusals.clear();
         for byte in bytes {
@@ -110,7 +142,7 @@ fn write_whole<O: Write>(output: &mut O, text: &[u8]) -> io::Result<()>
     Ok(())
 }
 
-impl<O: Write> Write for Refusals<'_, O> {
+impl<O: Write> Write for Refusals<O> {
     // of what was handed to it nothing is told
     ghost contents = { λ _. None };
 
@@ -121,6 +153,7 @@ impl<O: Write> Write for Refusals<'_, O> {
         ensures at { IfOk result (λ _. self.new.at ≡ after_all self.old.at buf.now) }
         ensures refusals { IfOk result (λ _. Gets (O.contents self.old.output) (O.contents self.new.output)
             (refusals_in self.old.at buf.now)) }
+        ensures counts { IfOk result (λ _. self.new.counts ≡ counted self.old.at self.old.counts buf.now) }
     {
         self.note_all(buf)?;
         write_whole(&mut self.output, self.refusals.as_slice())?;

@@ -15,6 +15,7 @@ use plist_state::Seed;
 use prevalence_store::Store;
 use std::alloc::{AllocError, Global};
 use std::convert::AsStr;
+use std::fmt::{Display, Write as WriteText};
 use std::fs::File;
 use std::io;
 use std::io::Write;
@@ -72,23 +73,24 @@ pub(crate) fn end_unlooked<F: Write>(faults: &mut F, unlooked: Unlooked) -> Stat
             let status = Status::of_host(&error);
             end_with_told(faults, status, &Told::Cause(error))
         }
-        Unlooked::Show(error) => {
-            let _ = writeln!(faults, "error: {error}");
-            Status::WordsRefused
-        }
-        Unlooked::PastTheEnd(error) => {
-            let _ = writeln!(faults, "error: {error}");
-            Status::WordsRefused
-        }
-        Unlooked::Exists(error) => {
-            let _ = writeln!(faults, "error: {error}");
-            Status::WordsRefused
-        }
+        Unlooked::Show(error) => tell_error(faults, &error),
+        Unlooked::NoPlace(error) => tell_error(faults, &error),
+        Unlooked::Taken(error) => tell_error(faults, &error),
         Unlooked::Unread(error) => {
-            let _ = writeln!(faults, "error: the file cannot be read: {error}");
+            let mut shown = program_streams::Shown::new(faults);
+            let _ = writeln!(shown, "error: the file cannot be read: {error}");
             Status::WordsRefused
         }
     }
+}
+
+// Tells why what is asked for is not there. A name in it goes to a terminal.
+fn tell_error<F: Write, E: Display>(faults: &mut F, error: &E) -> Status
+    ensures { result ≡ Status.WordsRefused }
+{
+    let mut shown = program_streams::Shown::new(faults);
+    let _ = writeln!(shown, "error: {error}");
+    Status::WordsRefused
 }
 
 // What the files of a folder hold at one moment, of which one is a half in use.
@@ -138,17 +140,17 @@ where
     };
     let sight = sight_of(rt, looked.folder)?;
     match looked.look {
-        Look::Dump(count) => {
-            let cut = usable(cut_after(alloc, sight, count, None)?)?;
+        Look::Dump(place) => {
+            let cut = usable(cut_after(alloc, sight, place.number, place.generation)?)?;
             dump(alloc, cut, macros, seed, output)
         }
         Look::Show(shown) => show_on(alloc, sight, macros, seed, shown, output),
         Look::Info => info_on(rt, looked.folder, sight, macros, seed, output),
-        Look::Log(from) => {
+        Look::Log(records) => {
             let part = LogPart {
-                from,
-                generation: None,
-                with_generation: false,
+                from: records.from.number,
+                generation: records.from.generation,
+                with_generation: records.places,
             };
             let lines = log_lines(alloc, sight, &part)?;
             write_told(output, lines.as_slice())

@@ -15,10 +15,10 @@ pub(crate) enum Unlooked {
     Host(HostError),
     /// What is asked for is not in the world.
     Show(ShowError),
-    /// There are not so many records.
-    PastTheEnd(LogError),
-    /// There is something where the new store would be.
-    Exists(BackupError),
+    /// There are not so many records, or they are of another generation.
+    NoPlace(LogError),
+    /// There is something where the new store would be, or beside it.
+    Taken(BackupError),
     /// A file of forms cannot be read.
     Unread(io::Error),
 }
@@ -51,7 +51,7 @@ impl From<LogError> for Unlooked {
             LogError::DeviceFault => Unlooked::Fault(DEVICE),
             LogError::Damaged => Unlooked::Fault(DAMAGED),
             LogError::UnknownVersion => Unlooked::Fault(VERSION),
-            error => Unlooked::PastTheEnd(error),
+            error => Unlooked::NoPlace(error),
         }
     }
 }
@@ -66,7 +66,7 @@ impl From<BackupError> for Unlooked {
                 io::ErrorKind::Other,
                 "the backup has another world than the store",
             ))),
-            error => Unlooked::Exists(error),
+            error => Unlooked::Taken(error),
         }
     }
 }

@@ -2,13 +2,16 @@
 //! the files of the system, and ends with its status.
 #![tactic(auto)]
 
+mod opening;
+
 ghost use Rattle.std.specs.Prelude.{◌≡◌, true, IfErr, is_ok};
 ghost use Rattle.user_macros.specs.Sound.{IsSoundCall};
 ghost use Rattle.user_macros.specs.Functions.{are_registered};
 
+use crate::opening::Telling;
 use command_words::{Way, asks_for_quiet, way_of};
 use lisp_object::refusal::NO_MEMORY;
-use program_streams::{Cleared, Counts, Progress, Refusals, Uninterrupted};
+use program_streams::{Cleared, Progress, Refusals, Uninterrupted, write_counts};
 use readtable_core::FnName;
 use six_functions::{SixFunctions, macro_functions};
 use std::alloc::AllocError;
@@ -67,10 +70,16 @@ fn serve_words<M: MacroFunctions + Drop, F: Write>(
             let mut input = Uninterrupted::new(rt.stdin());
             check(rt, macros, words, &mut input, &mut output, faults)
         }
-        Way::See => serve_pipe(rt, &Looking::new(rt), macros, words, output),
+        Way::See => serve_pipe(
+            rt,
+            &Telling::new(rt, &Looking::new(rt)),
+            macros,
+            words,
+            output,
+        ),
         Way::Serve if rt.stdin().is_terminal() => serve_at_terminal(rt, macros, words, faults),
         Way::Serve if asks_for_quiet(words) => serve_quietly(rt, macros, words, faults),
-        Way::Serve => serve_pipe(rt, rt, macros, words, output),
+        Way::Serve => serve_pipe(rt, &Telling::new(rt, rt), macros, words, output),
     }
 }
 
@@ -83,15 +92,12 @@ fn serve_quietly<M: MacroFunctions + Drop, F: Write>(
 ) -> Status
     requires answers { M.answers macros }
 {
-    let counts = Cell::new(Counts::new());
-    let output = Refusals::new(rt.alloc(), Uninterrupted::new(rt.stdout()), &counts);
-    let status = serve_pipe(rt, rt, macros, words, output);
+    let mut output = Refusals::new(rt.alloc(), Uninterrupted::new(rt.stdout()));
+    let status = serve_pipe(rt, &Telling::new(rt, rt), macros, words, &mut output);
     match status {
         Status::Helped | Status::WordsRefused => {}
         _ => {
-            let Counts { values, refusals } = counts.get();
-            let answers = values.saturating_add(refusals);
-            let _ = writeln!(faults, "answers {answers} refusals {refusals}");
+            let _ = write_counts(faults, output.counts());
         }
     }
     status
@@ -153,7 +159,8 @@ fn serve_at_terminal<M: MacroFunctions + Drop, F: Write>(
     let lines = Lines::new(rt.alloc(), Uninterrupted::new(rt.stdin()));
     let mut input = Terminal::new(lines, rt.stderr(), &heard);
     let mut output = Answers::new(Uninterrupted::new(rt.stdout()), &heard);
-    program_at_terminal(rt, macros, words, &mut input, &mut output, faults)
+    let folders = Telling::new(rt, rt);
+    program_at_terminal(&folders, macros, words, &mut input, &mut output, faults)
 }
 
 // What comes of registering a function whose name is known and not taken: only memory can refuse it.

@@ -16,9 +16,6 @@ use std::{fs, io};
 use thiserror::Error;
 use world_text::write;
 
-/// How many folders of unfinished backups may be beside one that is made.
-const PARTIALS: u32 = 1000;
-
 /// Why there is no backup.
 #[derive(Debug, Drop, Error)]
 pub enum BackupError {
@@ -28,6 +25,9 @@ pub enum BackupError {
     /// There is something at the place already.
     #[error("there is something of this name already; a backup is made in a new folder")]
     Exists,
+    /// There is the folder of a backup to that place which was not finished, with this name: it was stopped, or is under way.
+    #[error("{0} is there already, as a backup leaves it that was stopped; take it away first")]
+    Unfinished(String),
     /// The files were not made.
     #[error("{0}")]
     Host(HostError),
@@ -37,6 +37,33 @@ pub enum BackupError {
     /// What was opened again is another world.
     #[error("the backup has another world than the store")]
     Differs,
+}
+
+/// Why a log was not begun with a world, and its disk.
+#[derive(Drop)]
+pub struct NotBegun<D> {
+    /// Why.
+    pub error: BackupError,
+    /// The disk.
+    pub disk: D,
+}
+
+impl<D> NotBegun<D> {
+    fn new(error: BackupError, disk: D) -> NotBegun<D> {
+        NotBegun { error, disk }
+    }
+}
+
+impl NotBegun<HostDisk> {
+    // The error, with the cause of a fault of the device.
+    fn with_cause(self) -> BackupError {
+        match (self.error, self.disk.cause()) {
+            (BackupError::Refused(DEVICE), Some(cause)) => {
+                BackupError::Host(HostError::System(cause))
+            }
+            (error, _) => error,
+        }
+    }
 }
 
 impl From<AllocError> for BackupError {
@@ -90,41 +117,49 @@ fn number_of_start(error: StartError) -> u16 {
 ///
 /// # Errors
 ///
-/// `Exists` where a half is open, and nothing is written then. `Refused` with the number where the log was not opened, or the half not
-/// begun.
-pub fn backup_onto<D: Disk + Drop>(
+/// With the disk: `Exists` where a half is open, and nothing is written then. `Refused` with the number where the log was not opened, or the
+/// half not begun. Out of memory.
+pub fn backup_onto<D: Disk>(
     alloc: Global,
     world: &World,
     disk: D,
     limit: u64,
-) -> Result<D, BackupError>
+) -> Result<D, NotBegun<D>>
     requires { (D.state disk).failures < 2 ^ 64 - 1 }
     ensures holds { IfOk result (λ back. IsHonest (D.state disk)
         → HoldsWorld world.now.0 (D.state back)) }
 {
     shown_is_meant();
-    let text = write(alloc, world)?;
+    let text = match write(alloc, world) {
+        Ok(text) => text,
+        Err(AllocError) => return Err(NotBegun::new(BackupError::OutOfMemory, disk)),
+    };
     let mut log = match Halves::open(alloc, disk, limit) {
         Ok(log) => log,
-        Err(error) => return Err(BackupError::Refused(number_of(error.refusal))),
+        Err(refused) => {
+            let error = BackupError::Refused(number_of(refused.refusal));
+            return Err(NotBegun::new(error, refused.disk));
+        }
     };
     if log.is_started() {
-        return Err(BackupError::Exists);
+        return Err(NotBegun::new(BackupError::Exists, log.into_disk()));
     }
     match log.start_half(alloc, text.as_slice()) {
         Ok(()) => Ok(log.into_disk()),
-        Err(error) => Err(BackupError::Refused(number_of_start(error))),
+        Err(refused) => {
+            let error = BackupError::Refused(number_of_start(refused));
+            Err(NotBegun::new(error, log.into_disk()))
+        }
     }
 }
 
 /// Makes a new store in `dir`, where there may be nothing yet, with a world as its snapshot, in halves of `limit` bytes at most. It is
-/// made in a folder of its own beside it, `dir` with `.partial` behind, or with `.partial-2` and so on where that is there already; synced,
-/// opened again and compared; and then gets its name. So nothing half made is ever at `dir`. After an error neither folder is left.
-/// Slashes at the end of `dir` are left out.
+/// made in a folder of its own beside it, `dir` with `.partial` behind; synced, opened again and compared; and then gets its name. So
+/// nothing half made is ever at `dir`. After an error neither folder is left. Slashes at the end of `dir` are left out.
 ///
 /// # Errors
 ///
-/// `Exists` where something is at `dir`. `Host` with the cause where a call of the system failed. `Refused` with its number. `Differs`
+/// `Exists` where something is at `dir`, and `Unfinished` where something is beside it: none of that is touched. `Host` with the cause where a call of the system failed. `Refused` with its number. `Differs`
 /// where what was opened again has another text.
 pub fn backup<R: Files<File = File> + AllocGlobal>(
     rt: &R,
@@ -156,24 +191,15 @@ fn free_place<'a, R: Files<File = File> + AllocGlobal>(
     Ok(name)
 }
 
-// Makes the folder in which a backup is made, and gives its name. One that another backup left, or makes now, is not touched.
+// Makes the folder in which a backup is made, and gives its name. What has that name already is not touched: it may be in use.
 fn begin<R: Files<File = File> + AllocGlobal>(rt: &R, dir: &str) -> Result<String, BackupError> {
-    'names: for number in 1..=PARTIALS {
-        let partial = partial_name(rt.alloc(), dir, number)?;
-        match fs::create_dir(rt, partial.as_str()) {
-            Ok(()) => return Ok(partial),
-            Err(error) if error.kind() == io::ErrorKind::AlreadyExists => {}
-            Err(error) => return Err(BackupError::from(error)),
+    let partial = format!(in rt.alloc(); "{dir}.partial")?;
+    match fs::create_dir(rt, partial.as_str()) {
+        Ok(()) => Ok(partial),
+        Err(error) if error.kind() == io::ErrorKind::AlreadyExists => {
+            Err(BackupError::Unfinished(partial))
         }
-    }
-    Err(BackupError::from(io::Error::from(io::ErrorKind::AlreadyExists)))
-}
-
-fn partial_name(alloc: Global, dir: &str, number: u32) -> Result<String, AllocError> {
-    if number == 1 {
-        format!(in alloc; "{dir}.partial")
-    } else {
-        format!(in alloc; "{dir}.partial-{number}")
+        Err(error) => Err(BackupError::from(error)),
     }
 }
 
@@ -213,8 +239,10 @@ fn write_at<R: Files<File = File> + AllocGlobal>(
     limit: u64,
 ) -> Result<(), BackupError> {
     let disk = HostDisk::open_files(rt, partial, IfMissing::Make)?;
-    let _disk = backup_onto(rt.alloc(), world, disk, limit)?;
-    Ok(())
+    match backup_onto(rt.alloc(), world, disk, limit) {
+        Ok(_disk) => Ok(()),
+        Err(not_begun) => Err(not_begun.with_cause()),
+    }
 }
 
 // Whether the files of a folder hold this text and no record.

@@ -16,7 +16,7 @@ mod numbers;
 mod selection;
 mod showing;
 
-pub use backups::{BackupError, backup, backup_onto};
+pub use backups::{BackupError, NotBegun, backup, backup_onto};
 pub use figures::{HalfFigures, half_figures, info};
 pub use log::{LogPart, log_lines};
 pub use selection::{Layout, Selection};
