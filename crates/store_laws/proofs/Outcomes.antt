@@ -254,8 +254,8 @@ module _ (functions : Functions) {D R : Type 0} (state : D → State) (old new :
   module _ (wanted : Wanted) (input : List ℕ) (has held written : Option (List ℕ)) where
     pub stopped : (number : ℕ) (place : Place) → ServesWanted functions state wanted old new w (Some input) has held written (Unaccepted number place) → StopsOver wanted.mode held written input
     stopped number place (strict, text, stops, reads, stays) = by_rest (stays input refl) where
-      refused : stops.far.refused ≢ []
-      refused = some_refused stops.before.refused number stops.far.refused
+      last_refused : stops.far.refused ≢ []
+      last_refused = some_refused stops.before.refused number stops.far.refused
           (refused_last functions w wanted.mode text stops.forms stops.accepted stops.far stops.before number stops.start stops.one_more stops.advances.far_is stops.before_is stops.refuses)
 
       read : (left : List ℕ) × (input ≡ text ++ left) × (has ≡ Some left)
@@ -268,7 +268,7 @@ module _ (functions : Functions) {D R : Type 0} (state : D → State) (old new :
         record {
           first = record {
             far_is = stops.advances.far_is;
-            refused = refused;
+            refused = last_refused;
             accepted = stops.accepted;
             one_more = stops.one_more;
             before = stops.before;
@@ -285,7 +285,7 @@ module _ (functions : Functions) {D R : Type 0} (state : D → State) (old new :
         record {
           first = record {
             far_is = still.0 read.0;
-            refused = refused;
+            refused = last_refused;
             accepted = stops.accepted;
             one_more = stops.one_more;
             before = record stops.before { rest = stops.before.rest ++ read.0 };
