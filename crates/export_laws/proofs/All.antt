@@ -1,5 +1,6 @@
 -- The forms of all properties make the property lists, each in its order.
 --     properties_made      from a state without properties on
+--     listed, all_listed_in      the lists one after the other; all_may_be: each may be one
 use Rattle.std.proofs.Common.{◌≡◌, ℕ, zero, suc, ◌+◌, ◌<◌, ◌||◌, true, List, [], ◌∷◌, ◌++◌, length, map, drop, Option, Some, None, Ok, Err, refl, sym, ap, subst, ◌∙◌, arith}
 use Rattle.std.specs.Prelude.{All, slice_index_or, unwrap_or, IsTrue, is_some}
 use Rattle.std.specs.List.{flat_map, list_any}
@@ -51,13 +52,13 @@ abbrev put : Properties → Symbol → Plist → Properties
 put m x [] = m
 put m x (p ∷ ps) = put (with_list m x (with_value (list_at m x) p.0 p.1)) x ps
 
-each_put : (now : WorldState) (x : Symbol) (ps : Plist) → with_each now x ps ≡ with_properties now (put now.properties x ps)
+pub each_put : (now : WorldState) (x : Symbol) (ps : Plist) → with_each now x ps ≡ with_properties now (put now.properties x ps)
 each_put now x [] = refl
 each_put now x (p ∷ ps) = each_put (with_property now x p.0 p.1) x ps
 
 module _ (s : WorldState) where
   -- the lists of these symbols, one after the other
-  abbrev listed : WorldState → List Symbol → WorldState
+  abbrev pub listed : WorldState → List Symbol → WorldState
   listed now [] = now
   listed now (x ∷ xs) = listed (with_each now x (plist s x)) xs
 
@@ -102,7 +103,7 @@ module _ (s : WorldState) where
 
     -- ---- the forms of all
 
-    abbrev MayBe : Symbol → Type 0
+    abbrev pub MayBe : Symbol → Type 0
     MayBe x = IsSymbol s.packages x × IsPlist s.packages (plist s x)
 
     all_set : (names : List Name) (now : WorldState) (xs : List Symbol) → now.packages ≡ s.packages → All MayBe xs
@@ -129,15 +130,19 @@ module _ (s : WorldState) where
         All-cons P x xs (each x (ap (λ b. b || list_any (eq_by_cmp symbol_cmp x) xs) ((eq_by_cmp_equiv symbol_total).refl x)))
         (every_key P xs (λ y there. each y (or_right (eq_by_cmp symbol_cmp y x) _ there)))
 
-    all_may_be : All MayBe (symbols_with_properties s)
+    pub all_may_be : All MayBe (symbols_with_properties s)
     all_may_be =
         every_key MayBe (symbols_with_properties s) (λ x there.
         let key : IsTrue (finite.contains_key s.properties x) = contains_key-keys s.properties x ∙ there in
         (sound.symbols x key, sound.properties x (plist s x) (has_list x key)))
 
+    -- the lists of all symbols, in a state that has none
+    pub all_listed_in : (now : WorldState) → now.properties ≡ finite.empty → listed now (symbols_with_properties s) ≡ record now { properties = s.properties }
+    all_listed_in now none =
+        all_put now (symbols_with_properties s) ∙ ap (with_properties now) (ap (λ (m : Properties). put_all m (symbols_with_properties s)) none ∙ all_listed)
+
     pub properties_made : (names : List Name) (now : WorldState) → now.packages ≡ s.packages → now.properties ≡ finite.empty
         → after_each names now (property_objects s) ≡ Some (record now { properties = s.properties })
     properties_made names now same none =
-        let xs = symbols_with_properties s in
-        all_set names now xs same all_may_be
-        ∙ ap (λ (w : WorldState). Some w) (all_put now xs ∙ ap (with_properties now) (ap (λ (m : Properties). put_all m xs) none ∙ all_listed))
+        all_set names now (symbols_with_properties s) same all_may_be
+        ∙ ap (λ (w : WorldState). Some w) (all_listed_in now none)

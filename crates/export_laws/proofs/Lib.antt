@@ -1,3 +1,16 @@
 pub mod There
 pub mod One
 pub mod All
+pub mod PartsRead
+pub mod Symbols
+pub mod PropertyText
+pub mod OneForm
+pub mod Lines
+pub mod PackageText
+pub mod PackageForms
+pub mod OnTheWay
+pub mod NewPackages
+pub mod PackageLines
+pub mod Front
+pub mod Current
+pub mod Data

@@ -1,5 +1,6 @@
 -- The form of a property sets it, and changes nothing else.
 --     property_set      the form as a transaction
+--     two_values      of two forms that give their values and change nothing
 use Rattle.std.proofs.Common.{◌≡◌, Bool, true, false, not, ◌||◌, ◌++◌, List, [], ◌∷◌, bytes_eq, codes, Option, Some, None, is_some, is_none, Result, Ok, Err, refl, ap, ◌∙◌}
 use Rattle.std.specs.Prelude.{if◌then◌else◌, nat_lt, nat_le, length, option_map}
 use Rattle.std.specs.Option.{option_and_then, option_map_or}
@@ -12,7 +13,7 @@ use Rattle.package_table.specs.Changes.{after_intern, intern_changes, with_new_s
 use Rattle.package_table.specs.Limits.{longest_symbol_name, most_symbols}
 use Rattle.package_table.specs.Symbols.{are_there, symbols}
 use Rattle.package_table.specs.Table as packages
-use Rattle.package_table.specs.Table.{Name, Table, Package, Present, IsPresent, common_lisp, full_name, package_named, symbol_count}
+use Rattle.package_table.specs.Table.{Name, Table, Package, Present, IsPresent, common_lisp, common_lisp_names, full_name, package_named, symbol_count}
 use Rattle.package_table.proofs.Found.{present_found}
 use Rattle.plist_state.specs.Properties.{Symbol}
 use Rattle.plist_state.specs.Changes.{with_property}
@@ -26,7 +27,7 @@ use Rattle.form_eval.specs.Acceptance.{accept, accepted_by}
 use Rattle.form_eval.proofs.KnownSymbols.{known_symbols}
 use Rattle.world_forms.specs.Tokens.{is_too_long}
 use Rattle.export_laws.specs.Objects.{call, symbol_form, property_object}
-use Rattle.export_laws.proofs.There.{get_there, intern_there, nil_there, pair_there, quote_there, setf_there, there_alone}
+use Rattle.export_laws.proofs.There.{lisp_there, nil_there, pair_there, there_alone}
 
 module _ (names : List Name) (s : WorldState) (sound : packages.IsSound s.packages) where
   abbrev t : Table
@@ -77,17 +78,18 @@ module _ (names : List Name) (s : WorldState) (sound : packages.IsSound s.packag
         ]
 
     symbol_there : are_there t (symbol_form (h, n)) ≡ true
+    unfolding common_lisp_names
     symbol_there =
         elim (is_too_long h n) as (λ b. are_there t (if b then call (codes "INTERN") (text n ∷ text h ∷ []) else call (codes "QUOTE") (symbol h n ∷ [])) ≡ true) [
-          | true ↦ pair_there t (symbol common_lisp (codes "INTERN")) (pair (text n) (pair (text h) nil)) (intern_there t sound)
+          | true ↦ pair_there t (symbol common_lisp (codes "INTERN")) (pair (text n) (pair (text h) nil)) (lisp_there t sound (codes "INTERN") refl)
               (pair_there t (text n) (pair (text h) nil) refl (pair_there t (text h) nil refl (nil_there t sound)))
-          | false ↦ pair_there t (symbol common_lisp (codes "QUOTE")) (pair (symbol h n) nil) (quote_there t sound)
+          | false ↦ pair_there t (symbol common_lisp (codes "QUOTE")) (pair (symbol h n) nil) (lisp_there t sound (codes "QUOTE") refl)
               (pair_there t (symbol h n) nil (there_alone t h n there) (nil_there t sound))
         ]
 
   -- ---- a property
 
-  two_values : (a b u v : Object) → value_by true names s a ≡ gives u s → value_by true names s b ≡ gives v s
+  pub two_values : (a b u v : Object) → value_by true names s a ≡ gives u s → value_by true names s b ≡ gives v s
       → values_by true names s (pair a (pair b nil)) ≡ gives (u ∷ v ∷ []) s
   unfolding value_by
   two_values a b u v first second =
@@ -105,15 +107,16 @@ module _ (names : List Name) (s : WorldState) (sound : packages.IsSound s.packag
         (λ xs later. and_then (values_by true names later (pair quoted nil)) (λ ys end'. gives (xs ++ ys) end'))) set
 
     property_there : are_there t p.1 ≡ true → are_there t (property_object x p) ≡ true
+    unfolding common_lisp_names
     property_there value =
         let place = call (codes "GET") (symbol_form x ∷ symbol_form p.0 ∷ []) in
-        pair_there t (symbol common_lisp (codes "SETF")) (pair place (pair quoted nil)) (setf_there t sound)
+        pair_there t (symbol common_lisp (codes "SETF")) (pair place (pair quoted nil)) (lisp_there t sound (codes "SETF") refl)
         (pair_there t place (pair quoted nil)
-        (pair_there t (symbol common_lisp (codes "GET")) (pair (symbol_form x) (pair (symbol_form p.0) nil)) (get_there t sound)
+        (pair_there t (symbol common_lisp (codes "GET")) (pair (symbol_form x) (pair (symbol_form p.0) nil)) (lisp_there t sound (codes "GET") refl)
         (pair_there t (symbol_form x) (pair (symbol_form p.0) nil) (symbol_there x.0 x.1 there)
         (pair_there t (symbol_form p.0) nil (symbol_there p.0.0 p.0.1 indicator) (nil_there t sound))))
         (pair_there t quoted nil
-        (pair_there t (symbol common_lisp (codes "QUOTE")) (pair p.1 nil) (quote_there t sound) (pair_there t p.1 nil value (nil_there t sound)))
+        (pair_there t (symbol common_lisp (codes "QUOTE")) (pair p.1 nil) (lisp_there t sound (codes "QUOTE") refl) (pair_there t p.1 nil value (nil_there t sound)))
         (nil_there t sound)))
 
   pub property_set : (x : Symbol) (p : Symbol × Object) → IsSymbol t x → IsSymbol t p.0 → are_there t p.1 ≡ true

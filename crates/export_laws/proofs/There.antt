@@ -2,11 +2,10 @@
 --     lisp_there      a symbol of COMMON-LISP that is used in them
 --     pair_there      a pair of objects whose symbols are there
 --     value_there      a value that is stored
-use Rattle.std.proofs.Common.{◌≡◌, true, false, List, map, bytes_eq, codes, Option, Some, None, refl, ap, ◌∙◌}
-use Rattle.std.specs.Prelude.{option_map}
-use Rattle.std.specs.Option.{option_and_then, option_map_or}
-use Rattle.std.specs.FinMap as finite
-use Rattle.std.specs.FinMap.{get-from_entries}
+use Rattle.std.proofs.Common.{◌≡◌, true, false, bytes_eq, codes, Option, Some, None, refl, ◌∙◌}
+use Rattle.std.specs.Prelude.{IsTrue, option_map}
+use Rattle.std.specs.List.{list_any}
+use Rattle.std.specs.Option.{option_map_or}
 use Rattle.std.specs.Cmp.Lexicographic.{bytes_decides}
 use Rattle.std.proofs.lemmas.Bool.{and_from}
 use Rattle.std.proofs.lemmas.List.Folds.{list_all-append}
@@ -14,9 +13,9 @@ use Rattle.lisp_object.specs.Object.{Object, AllAtoms, integer, rational, charac
 use Rattle.package_table.specs.Lookup.{is_symbol}
 use Rattle.package_table.specs.Symbols.{are_there, symbols}
 use Rattle.package_table.specs.Table as packages
-use Rattle.package_table.specs.Table.{Name, Table, Package, Present, IsPresent, common_lisp, common_lisp_package, common_lisp_names, entry_at}
+use Rattle.package_table.specs.Table.{Name, Table, Present, IsPresent, common_lisp, common_lisp_names, entry_at}
+use Rattle.package_table.proofs.FirstNames.{lisp_present}
 use Rattle.plist_state.specs.Sound.{IsKnown}
-use Rattle.plist_state.proofs.Orders.{name_total}
 
 module _ (t : Table) where
   -- a symbol that is present in its home is one
@@ -46,29 +45,9 @@ module _ (t : Table) where
   value_there (uninterned name) known = refl
 
   module _ (sound : packages.IsSound t) where
-    lisp_present : (n : Name) → option_map (λ (e : Present). e.home) (finite.get common_lisp_package.symbols n) ≡ Some common_lisp → are_there t (symbol common_lisp n) ≡ true
-    lisp_present n there =
-        there_alone common_lisp n (ap (λ (o : Option Package). option_map (λ (e : Present). e.home) (option_and_then (λ (k : Package). finite.get k.symbols n) o)) sound.first.fixed ∙ there)
-
-    abbrev entries : List (Name × Present)
-    entries = map (λ n. (n, record { home = common_lisp; external = true })) common_lisp_names
-
-    pub setf_there : are_there t (symbol common_lisp (codes "SETF")) ≡ true
-    unfolding common_lisp_package common_lisp_names
-    setf_there = lisp_present (codes "SETF") (ap (option_map (λ (e : Present). e.home)) (get-from_entries name_total entries (codes "SETF")))
-
-    pub get_there : are_there t (symbol common_lisp (codes "GET")) ≡ true
-    unfolding common_lisp_package common_lisp_names
-    get_there = lisp_present (codes "GET") (ap (option_map (λ (e : Present). e.home)) (get-from_entries name_total entries (codes "GET")))
-
-    pub quote_there : are_there t (symbol common_lisp (codes "QUOTE")) ≡ true
-    unfolding common_lisp_package common_lisp_names
-    quote_there = lisp_present (codes "QUOTE") (ap (option_map (λ (e : Present). e.home)) (get-from_entries name_total entries (codes "QUOTE")))
-
-    pub intern_there : are_there t (symbol common_lisp (codes "INTERN")) ≡ true
-    unfolding common_lisp_package common_lisp_names
-    intern_there = lisp_present (codes "INTERN") (ap (option_map (λ (e : Present). e.home)) (get-from_entries name_total entries (codes "INTERN")))
+    pub lisp_there : (n : Name) → IsTrue (list_any (bytes_eq n) common_lisp_names) → are_there t (symbol common_lisp n) ≡ true
+    lisp_there n listed = there_alone common_lisp n (lisp_present t sound n listed)
 
     pub nil_there : are_there t (symbol common_lisp (codes "NIL")) ≡ true
-    unfolding common_lisp_package common_lisp_names
-    nil_there = lisp_present (codes "NIL") (ap (option_map (λ (e : Present). e.home)) (get-from_entries name_total entries (codes "NIL")))
+    unfolding common_lisp_names
+    nil_there = lisp_there (codes "NIL") refl

@@ -1,14 +1,23 @@
 //! Laws of exports: what the forms of a world make. Each is the contract of a function that does nothing: who calls it has the law in
 //! his own proof.
 //!
+//! - `data_makes_a_world`: the text of an export of data, given to a new store, makes the packages and the property lists
+//! - `property_lines_are_read`: the lines of the properties alone, in a store that has the packages
 //! - `properties_are_made`: the forms of the properties, as objects, make the property lists in their order (`specs/Objects.antt`)
 //! - `properties_of_a_world`: so do those of each world that a program has, from the first world with its packages on
 //!
-//! That these objects are what is read of the text of an export, and that the forms of the packages and of the readtables make these,
-//! is not proved: tests say it.
+//! What a text makes is `Makes` of `specs/Texts.antt`: each form is read in the world that the ones before it left, and accepted.
+//!
+//! That the forms of the readtables make these is not proved: tests say it.
+//!
+//! The lemmas in `proofs` are of this crate alone:
+//!
+//! - `PartsRead`, `Symbols`: what is read of the parts of a form; `PropertyText`, `PackageText`, `Current`: of the forms
+//! - `There`, `One`, `All`, `PackageForms`: the forms as transactions
+//! - `OneForm`, `Front`: a form in a text; `Lines`, `OnTheWay`, `PackageLines`, `Data`: all of them
 #![tactic(auto)]
 
-ghost use Rattle.std.specs.Prelude.{◌≡◌, List, Some, true};
+ghost use Rattle.std.specs.Prelude.{◌≡◌, ◌∷◌, ◌++◌, [], ℕ, List, Some, true};
 ghost use Rattle.std.specs.FinMap as finite;
 ghost use Rattle.lisp_object.specs.Object.{Object};
 ghost use Rattle.lisp_operators.specs.Evaluation.{writes};
@@ -18,10 +27,15 @@ ghost use Rattle.package_table.specs.Table.{Name};
 ghost use Rattle.plist_state.specs.Changes.{with_property};
 ghost use Rattle.plist_state.specs.Properties.{Symbol};
 ghost use Rattle.plist_state.specs.Sound.{IsSound, IsSymbol};
-ghost use Rattle.plist_state.specs.State.{WorldState};
+ghost use Rattle.plist_state.specs.State.{WorldState, initial};
 ghost use Rattle.form_eval.specs.Acceptance.{accept};
 ghost use Rattle.snapshot_text.specs.Built.{with_packages_of, with_properties_of};
+ghost use Rattle.user_macros.specs.Functions.{Functions};
+ghost use Rattle.world_forms.specs.declared.export.Content.TheVariants.{Data};
+ghost use Rattle.world_forms.specs.Forms.{forms};
+ghost use Rattle.world_forms.specs.Properties.{left_out_lines, property_lines};
 ghost use Rattle.export_laws.specs.Objects.{after_each, property_object, property_objects};
+ghost use Rattle.export_laws.specs.Texts.{Makes, ReadsAsExported, with_data_of};
 
 use plist_state::World;
 
@@ -52,3 +66,22 @@ pub fn properties_of_a_world(world: &World)
     world.soundness();
     properties_are_made();
 }
+
+/// The lines of the properties of a sound state, of which none is left out, after a newline. In a state that has its packages and no
+/// properties, and that reads as exports are read, all are accepted, whatever macro functions there are. They leave that state with
+/// the property lists of the sound one.
+pub fn property_lines_are_read()
+    ensures { (functions : Functions) (s now : WorldState) (rest : List ℕ)
+        → IsSound s → left_out_lines s ≡ [] → now.packages ≡ s.packages
+        → now.properties ≡ finite.empty → ReadsAsExported now
+        → Makes functions now (10 ∷ property_lines s ++ rest)
+        (record now { properties = s.properties }) (10 ∷ rest) }
+{}
+
+/// The forms of the data of a sound state, of which no property is left out, given to a new store one after the other: all are
+/// accepted, whatever macro functions there are. They leave the first state with the packages and the property lists of this one, and
+/// with its package current. Only the last newline is left of the text.
+pub fn data_makes_a_world()
+    ensures { (functions : Functions) (s : WorldState) → IsSound s → left_out_lines s ≡ []
+        → Makes functions initial (forms s Data) (with_data_of s) (10 ∷ []) }
+{}
