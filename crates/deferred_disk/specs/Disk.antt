@@ -1,7 +1,8 @@
 -- What a `DeferredDisk` is, by what it was asked.
-use Rattle.std.specs.Prelude.{◌≡◌, List, Result, OnOk, OnErr}
+use Rattle.std.specs.Prelude.{◌≡◌, ℕ, List, length, Result, OnOk, OnErr}
 use Rattle.disk_trait.specs.Disk.{State}
-use Rattle.deferred_disk.specs.Calls.{CallsValue, all_of, asked}
+use Rattle.deferred_disk.specs.Bytes.{orders_bytes}
+use Rattle.deferred_disk.specs.Calls.{CallsValue, all_of, asked, reported}
 use Rattle.deferred_disk.specs.Kept.{IsWhole}
 use Rattle.deferred_disk.specs.Orders.{OrderValue}
 use Rattle.deferred_disk.specs.State.{ordered}
@@ -26,3 +27,10 @@ KeepsAll disk = IsWhole disk.a × IsWhole disk.b
 pub record Asks {T E : Type 0} (order : OrderValue) (old new : DeferredDisk) (result : Result T E) : Type 0 where
   pub ok : OnOk result (calls_of new ≡ asked (calls_of old) order)
   pub refused : OnErr result (calls_of new ≡ calls_of old)
+
+-- A report that so many bytes of orders were done: all pending ones are done, if they have just so many, and else nothing has changed.
+-- So what was asked after the orders were taken is never counted as done.
+pub record IsReported (count : ℕ) (old new : DeferredDisk) : Type 0 where
+  pub all : count ≡ length (orders_bytes (pending_of old)) → calls_of new ≡ reported (calls_of old)
+  pub other : (count ≡ length (orders_bytes (pending_of old)) → ⊥) → calls_of new ≡ calls_of old
+  pub failures : new.failures ≡ old.failures

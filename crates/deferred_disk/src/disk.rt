@@ -214,12 +214,15 @@ impl Disk for DeferredDisk {
 }
 
 impl DefersCalls for DeferredDisk {
-    ghost use Rattle.deferred_disk.specs.Calls.{reported};
-    ghost use Rattle.deferred_disk.specs.Disk.{calls_of};
+    ghost use Rattle.deferred_disk.specs.Disk.{IsReported};
 
-    ghost reports = { λ old new. (calls_of new ≡ reported (calls_of old)) × (new.failures ≡ old.failures) };
+    ghost reports = { λ count old new. IsReported count old new };
 
-    fn report_done(&mut self) {
+    // orders that were made since the bytes were taken are not done
+    fn report_done(&mut self, count: usize) {
+        if count != self.orders.len() {
+            return;
+        }
         self.past = self.past.reported();
         if self.orders.capacity() > KEPT {
             self.orders = Vec::new(self.alloc);

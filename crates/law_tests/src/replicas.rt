@@ -40,12 +40,14 @@ fn answered_twice<D: Disk, E: Disk, M: MacroFunctions>(
     let plain = Wanted {
         mode: Mode::Current,
         snapshot_every: 0,
+        snapshot_ratio: 0,
         strict: false,
         group: false,
     };
     let grouped = Wanted {
         mode: Mode::Current,
         snapshot_every: 1,
+        snapshot_ratio: 0,
         strict: false,
         group: true,
     };

@@ -34,7 +34,8 @@ fn copy_items(alloc: Global, items: &Items<Datum>) -> Result<Items<Datum>, Alloc
     ensures { IfOk result (λ copies. copies ≡ items.now) }
 {
     let items = items.as_slice();
-    let mut copies = Items::new(alloc);
+    // A copy mostly grows no more, so it has no room for that.
+    let mut copies = Items::from_vec(Vec::with_capacity(alloc, items.len())?);
     for item in items {
         copies.push(item.copy(alloc)?)?;
     }

@@ -26,4 +26,5 @@ pub mod Registered
 pub mod Dependings
 pub mod Refusals
 pub mod Discardings
+pub mod LargerLimits
 pub mod Widening

@@ -1,73 +1,43 @@
--- A form that is read under a limit of the text is read under a larger one too. There a plan has more turns and more room.
--- So it gives what the plan under the smaller limit gives, and may go on where that one is refused.
+-- A form that is read under limits is read under larger ones too. There a plan has more turns and more room. So it gives what the
+-- plan under the smaller limits gives, and may go on where that one is refused.
+--     attempt_allowed      what is found at the front of a text, under limits of which none is smaller
+--     form_widens      a form, under a larger limit of the text
 use Rattle.std.proofs.Common.{◌≡◌, ℕ, zero, suc, ◌+◌, ◌-◌, ◌≤◌, Bool, true, false, List, [], ◌∷◌, ◌++◌, length, Option, Some, None, Result, Ok, Err, refl, sym, ap, subst, ◌∙◌, arith}
-use Rattle.std.specs.Prelude.{nat_le, nat_lt, ◌==◌}
-use Rattle.std.proofs.lemmas.Bool.{le-leb, lt-leb, leb-true, leb-false}
-use Rattle.lisp_object.specs.Object.{Object}
-use Rattle.lisp_object.specs.declared.refusal.TheConstants.{END_OF_FILE, INVALID_CHARACTER, DOT_CONTEXT, NO_DISPATCH, NUMERIC_ARGUMENT, TOO_DEEP, FORM_TOO_LONG, OUT_OF_PROFILE}
+use Rattle.std.specs.Prelude.{nat_le, nat_lt, ◌==◌, ◌&&◌}
+use Rattle.std.proofs.lemmas.Bool.{and_from, and_parts, le-leb, lt-leb, leb-true, leb-false}
+use Rattle.lisp_object.specs.Object.{Object, object_depth}
+use Rattle.lisp_object.specs.declared.refusal.TheConstants.{END_OF_FILE, INVALID_CHARACTER, DOT_CONTEXT, MACRO_ANSWER, MACRO_REFUSED, NO_DISPATCH, NUMERIC_ARGUMENT, TOO_DEEP, FORM_TOO_LONG, OUT_OF_PROFILE}
 use Rattle.readtable_core.specs.Characters.{is_digit, upper_case}
 use Rattle.readtable_core.specs.Names.{is_dispatch_name}
 use Rattle.readtable_core.specs.Tables.{Table, entry_at, dispatch_at}
 use Rattle.readtable_core.specs.declared.characters.Syntax.{Syntax}
-use Rattle.readtable_core.specs.declared.characters.Syntax.TheVariants.{Whitespace, Constituent, TerminatingMacro, NonTerminatingMacro, SingleEscape, MultipleEscape, Invalid}
+use Rattle.readtable_core.specs.declared.characters.Syntax.TheVariants.{Whitespace, TerminatingMacro, NonTerminatingMacro}
 use Rattle.token_scan.specs.declared.mark.Mark.{Mark}
-use Rattle.token_scan.specs.Tokens.{ScannedBytes}
-use Rattle.token_meaning.specs.Results.{scan_refusal_number}
-use Rattle.std_macros.specs.Values.{Material, nothing as no_material, one as one_object, many, letters, marked}
+use Rattle.user_macros.specs.Calls.{MacroAnswer, value, no_value, improper, refused as answer_refused}
+use Rattle.std_macros.specs.Values.{Material, value_of, nothing as no_material, one as one_object, many, dotted, letters, marked}
 use Rattle.lisp_reading.specs.declared.found.Found.{Found}
 use Rattle.lisp_reading.specs.declared.found.Found.TheVariants.{Nothing as nothing, One as one, LoneDot as lone_dot, TheEnd as the_end}
+use Rattle.lisp_reading.specs.declared.limits.Limits.{Limits}
+use Rattle.lisp_reading.specs.declared.way.Function.{Function}
+use Rattle.lisp_reading.specs.declared.way.Function.TheVariants.{Standard as AStandard, User}
 use Rattle.lisp_reading.specs.declared.way.Keep.{Keep}
 use Rattle.lisp_reading.specs.declared.way.Way.{Way}
 use Rattle.lisp_reading.specs.declared.way.Way.TheVariants.{Nothing, Next, List as AList, Until, Text, Line, Block, Token, EscapedToken}
 use Rattle.lisp_reading.specs.Calls.{InvokedCall}
 use Rattle.lisp_reading.specs.Gathering.{text_turn, is_escape, kept, line_turn, block_next, block_goes, block_turn, number_turn, next_digit}
-use Rattle.lisp_reading.specs.Plans.{Plan, gives, refuses, takes, scans, then_plan, character, next_byte, loop_in, loop, Fault, Read, within, stands_below, limited, scanned, run}
-use Rattle.lisp_reading.specs.Setting.{Setting, way_in, function_of}
-use Rattle.lisp_reading.specs.Reading.{text_to, line_after, block_after, number_after, Piece, item, dot, closed, is_whitespace, without_space, piece_of, or_closed, next_item_turn, next_item, Items, items_step, items_turn, items_after, undotted, after_tail, after_dot, list_end, one_piece, completed, opened, gathered, gathered_by, called, sub_called, sub_there, dispatched, macro_called, stands_alone, alone, token_found, attempt_by, inner, attempt, Outcome, form, outcome, reads_in, reads}
+use Rattle.lisp_reading.specs.Plans.{Plan, gives, refuses, takes, scans, then_plan, character, next_byte, loop_in, loop, Read, scanned, run}
+use Rattle.lisp_reading.specs.Setting.{Setting, macro_call, way_in, function_of}
+use Rattle.lisp_reading.specs.Reading.{text_to, line_after, block_after, number_after, Piece, item, dot, closed, is_whitespace, without_space, piece_of, or_closed, next_item_turn, next_item, Items, items_step, items_turn, items_after, undotted, after_tail, after_dot, list_end, one_piece, finished, answered, completed_by, completed, opened, gathered, gathered_by, called, sub_called, sub_there, dispatched, macro_called, stands_alone, alone, token_found, attempt_by, inner, attempt, Outcome, form, outcome, reads_in, reads}
+use Rattle.lisp_reading.specs.Answering.{may_be_answered}
+use Rattle.lisp_reading.proofs.LargerLimits.{GivesToo, byte_too, gives_along, outcome_too, scanned_too, token_too, within_text}
 use Rattle.lisp_reading.proofs.Steps.{and_then, run_then}
 
--- ---- results
-
--- what the first gives the second gives too; where the first is a fault, nothing is said
-abbrev GivesToo : {B : Type 0} → Result B Fault → Result B Fault → Type 0
-GivesToo (Ok v) r = r ≡ Ok v
-GivesToo (Err e) r = Unit {0}
-
-gives_along : {B : Type 0} (r s r2 s2 : Result B Fault) → r ≡ s → r2 ≡ s2 → GivesToo s s2 → GivesToo r r2
-gives_along {B = B} r s r2 s2 e e2 h =
-    subst (λ (q : Result B Fault). GivesToo q r2) (sym e) (subst (λ (q : Result B Fault). GivesToo s q) (sym e2) h)
-
-byte_too : {A : Type 0} (b full full2 : Bool) (at : ℕ) (r s r2 s2 : Read A) → (full ≡ false → full2 ≡ false) → GivesToo r r2 → GivesToo s s2
-    → GivesToo {B = A × ℕ × List ℕ} (elim b [ true ↦ within full at r | false ↦ s ]) (elim b [ true ↦ within full2 at r2 | false ↦ s2 ])
-byte_too true true full2 at r s r2 s2 room h g = tt
-byte_too true false full2 at r s r2 s2 room h g =
-    gives_along r r (within full2 at r2) r2 refl (ap (λ (f : Bool). within f at r2) (room refl)) h
-byte_too false full full2 at r s r2 s2 room h g = g
-
-end_too : {B : Type 0} (b b2 : Bool) (x : B) (e e2 : Fault) → (b ≡ true → b2 ≡ true)
-    → GivesToo {B = B} (elim b [ true ↦ Ok x | false ↦ Err e ]) (elim b2 [ true ↦ Ok x | false ↦ Err e2 ])
-end_too true b2 x e e2 room = ap (λ (c : Bool). elim c [ true ↦ Ok x | false ↦ Err e2 ]) (room refl)
-end_too false b2 x e e2 room = tt
-
-fault_too : {B : Type 0} (b : Bool) (e e2 : Fault) (r : Result B Fault) → GivesToo {B = B} (elim b [ true ↦ Err e | false ↦ Err e2 ]) r
-fault_too true e e2 r = tt
-fault_too false e e2 r = tt
-
-outcome_too : (table : Table) (x : Object) (from «end» next : ℕ) (again again2 : ℕ → List ℕ → Outcome) (start : ℕ) (r r2 : Read Found)
-    → ((at : ℕ) (cs : List ℕ) → again at cs ≡ form x from «end» next → again2 at cs ≡ form x from «end» next) → GivesToo r r2
-    → outcome table start again r ≡ form x from «end» next → outcome table start again2 r2 ≡ form x from «end» next
-outcome_too table x from «end» next again again2 start (Ok (nothing token, at, cs)) r2 all h e = ap (outcome table start again2) h ∙ all (start + at) cs e
-outcome_too table x from «end» next again again2 start (Ok (one token y, at, cs)) r2 all h e = ap (outcome table start again2) h ∙ e
-outcome_too table x from «end» next again again2 start (Ok (lone_dot, at, cs)) r2 all h e = cc
-outcome_too table x from «end» next again again2 start (Ok (the_end, at, cs)) r2 all h e = cc
-outcome_too table x from «end» next again again2 start (Err f) r2 all h e = cc
-
-module _ (setting : Setting) (most : ℕ) where
-  -- the setting with the larger limit
+module _ (setting : Setting) (wider : Limits) where
+  -- the setting with the larger limits
   abbrev wide : Setting
-  wide = record setting { limits = record setting.limits { text = most } }
+  wide = record setting { limits = wider }
 
-  -- under the larger limit the second plan gives what the first one gives under the limit
+  -- under the larger limits the second plan gives what the first one gives under the limits
   abbrev Widens : {A : Type 0} → Plan A → Plan A → Type 0
   Widens p q = (at : ℕ) (cs : List ℕ) → GivesToo (run setting.table setting.limits p at cs) (run setting.table wide.limits q at cs)
 
@@ -114,39 +84,37 @@ module _ (setting : Setting) (most : ℕ) where
       (run_then setting.table setting.limits p next at cs) (run_then setting.table wide.limits q next2 at cs)
       (and_then_too next next2 r r2 all (h at cs))
 
-  module _ (larger : setting.limits.text ≤ most) where
+  -- what gives an object, where the test is passed under the larger limits too
+  opens_widens : {A : Type 0} (b b2 : Bool) (x : A) (number back : ℕ) (q : Plan A) → (b ≡ true → b2 ≡ true) → Widens (elim b [ true ↦ gives x | false ↦ refuses number back ]) (elim b2 [ true ↦ gives x | false ↦ q ])
+  opens_widens true b2 x number back q too = subst (λ (c : Bool). Widens (gives x) (elim c [ true ↦ gives x | false ↦ q ])) (sym (too refl)) (gives_widens x)
+  opens_widens false b2 x number back q too = refuses_widens number back (elim b2 [ true ↦ gives x | false ↦ q ])
+
+  module _ (larger : setting.limits.text ≤ wider.text) (longer : setting.limits.token ≤ wider.token) (deeper : setting.limits.nesting ≤ wider.nesting) where
     takes_widens : {A : Type 0} (p q : Plan A) (test : ℕ → Bool) (on on2 : ℕ → Plan A) → Widens p q → ((c : ℕ) → Widens (on c) (on2 c))
         → Widens (takes p test on) (takes q test on2)
     unfolding run
     takes_widens p q test on on2 h all at [] = h at []
     takes_widens p q test on on2 h all at (c ∷ cs) =
-        byte_too (test c) (nat_le setting.limits.text at) (nat_le most at) at
+        byte_too (test c) (nat_le setting.limits.text at) (nat_le wider.text at) at
         (run setting.table setting.limits (on c) (at + 1) cs) (run setting.table setting.limits p at (c ∷ cs))
         (run setting.table wide.limits (on2 c) (at + 1) cs) (run setting.table wide.limits q at (c ∷ cs))
-        (λ e. lt-leb most at (omega (arith, larger, leb-false setting.limits.text at e))) (all c (at + 1) cs) (h at (c ∷ cs))
+        (λ e. lt-leb wider.text at (omega (arith, larger, leb-false setting.limits.text at e))) (all c (at + 1) cs) (h at (c ∷ cs))
 
-    token_too : (r : ScannedBytes) → GivesToo (limited setting.limits.text r (λ p. p.1)) (limited most r (λ p. p.1))
-    token_too (Ok (marks, next, ds)) =
-        end_too {B = List Mark × ℕ × List ℕ} (nat_le next setting.limits.text) (nat_le next most) (marks, next, ds)
-        (record { number = FORM_TOO_LONG; at = setting.limits.text }) (record { number = FORM_TOO_LONG; at = most })
-        (λ e. le-leb next most (omega (arith, larger, leb-true next setting.limits.text e)))
-    token_too (Err e) =
-        fault_too (stands_below setting.limits.text e.refusal e.at) (record { number = scan_refusal_number e.refusal; at = e.at })
-        (record { number = FORM_TOO_LONG; at = setting.limits.text }) (limited {A = List Mark × ℕ × List ℕ} most (Err e) (λ p. p.1))
-
-    scans_widens : {A : Type 0} (escaped : Bool) (limit : ℕ) (on on2 : List Mark → Plan A) → ((marks : List Mark) → Widens (on marks) (on2 marks))
-        → Widens (scans escaped limit on) (scans escaped limit on2)
+    scans_widens : {A : Type 0} (escaped : Bool) (limit limit2 : ℕ) (on on2 : List Mark → Plan A) → limit ≤ limit2 → ((marks : List Mark) → Widens (on marks) (on2 marks))
+        → Widens (scans escaped limit on) (scans escaped limit2 on2)
     unfolding run
-    scans_widens escaped limit on on2 all at cs =
+    scans_widens escaped limit limit2 on on2 le all at cs =
         let r = scanned escaped setting.table limit at cs in
-        and_then_too on on2 (limited setting.limits.text r (λ p. p.1)) (limited most r (λ p. p.1)) all (token_too r)
+        let r2 = scanned escaped setting.table limit2 at cs in
+        and_then_too on on2 (within_text setting.limits.text r) (within_text wider.text r2) all
+        (token_too setting.limits.text wider.text larger r r2 (scanned_too limit limit2 le escaped setting.table at cs))
 
-    -- a plan gives the same under the larger limit
+    -- a plan gives the same under the larger limits
     same_widens : {A : Type 0} (plan : Plan A) → Widens plan plan
     same_widens (gives x) = gives_widens x
     same_widens (refuses number back) = refuses_widens number back (refuses number back)
     same_widens (takes other test on) = takes_widens other other test on on (same_widens other) (λ c. same_widens (on c))
-    same_widens (scans escaped limit on) = scans_widens escaped limit on on (λ marks. same_widens (on marks))
+    same_widens (scans escaped limit on) = scans_widens escaped limit limit on on (omega arith) (λ marks. same_widens (on marks))
 
     character_widens : {A : Type 0} (on on2 : ℕ → Plan A) (c : ℕ) → Widens (on c) (on2 c) → Widens (character on c) (character on2 c)
     character_widens on on2 c h =
@@ -158,7 +126,7 @@ module _ (setting : Setting) (most : ℕ) where
         takes_widens (refuses END_OF_FILE 0) (refuses END_OF_FILE 0) (λ c. true) (λ c. character on c) (λ c. character on2 c)
         (refuses_widens END_OF_FILE 0 (refuses END_OF_FILE 0)) (λ c. character_widens on on2 c (all c))
 
-    -- ---- turns: under the larger limit there are more
+    -- ---- turns: under a larger limit of the text there are more
 
     loop_in_widens : {S A : Type 0} (turn turn2 : (S → Plan A) → S → Plan A) → WidensTurn turn turn2 → (n m : ℕ) → n ≤ m → (s : S)
         → Widens (loop_in turn n s) (loop_in turn2 m s)
@@ -170,7 +138,7 @@ module _ (setting : Setting) (most : ℕ) where
 
     loop_widens : {S A : Type 0} (turn turn2 : (S → Plan A) → S → Plan A) → WidensTurn turn turn2 → (s : S)
         → Widens (loop setting.limits turn s) (loop wide.limits turn2 s)
-    loop_widens turn turn2 all s = loop_in_widens turn turn2 all (setting.limits.text + 1) (most + 1) (omega (arith, larger)) s
+    loop_widens turn turn2 all s = loop_in_widens turn turn2 all (setting.limits.text + 1) (wider.text + 1) (omega (arith, larger)) s
 
     text_turn_widens : (terminator : ℕ) → WidensTurn (text_turn setting.table terminator) (text_turn setting.table terminator)
     text_turn_widens terminator p q all s =
@@ -254,21 +222,55 @@ module _ (setting : Setting) (most : ℕ) where
 
     -- ---- the end of a list
 
-    tail_widens : (p q : Plan Found) (on : Material → Plan Found) (xs : List Object) (piece : Piece) → Widens p q
-        → Widens (after_dot setting p on xs piece) (after_dot wide q on xs piece)
-    tail_widens p q on xs closed h = refuses_widens DOT_CONTEXT 1 (refuses DOT_CONTEXT 1)
-    tail_widens p q on xs dot h = refuses_widens DOT_CONTEXT 0 (refuses DOT_CONTEXT 0)
-    tail_widens p q on xs (item token x) h =
-        space_widens token (then_plan (next_item setting (Some 41) p) (after_tail on xs x)) (then_plan (next_item wide (Some 41) q) (after_tail on xs x))
-        (then_widens (next_item setting (Some 41) p) (next_item wide (Some 41) q) (after_tail on xs x) (after_tail on xs x)
-        (next_item_widens (Some 41) p q h) (λ piece. same_widens (after_tail on xs x piece)))
+    -- what is done with what was gathered
+    module _ (on on2 : Material → Plan Found) (done : (material : Material) → Widens (on material) (on2 material)) where
+      closed_tail_widens : (xs : List Object) (x : Object) (piece : Piece) → Widens (after_tail on xs x piece) (after_tail on2 xs x piece)
+      closed_tail_widens xs x closed = done (dotted xs x)
+      closed_tail_widens xs x _ = refuses_widens DOT_CONTEXT 0 (refuses DOT_CONTEXT 0)
 
-    end_widens : (p q : Plan Found) (on : Material → Plan Found) (items : Items) → Widens p q → Widens (list_end setting p on items) (list_end wide q on items)
-    end_widens p q on (xs, true) h = same_widens (on (many xs))
-    end_widens p q on ([], false) h = refuses_widens DOT_CONTEXT 0 (refuses DOT_CONTEXT 0)
-    end_widens p q on (x ∷ xs, false) h =
-        then_widens (next_item setting (Some 41) p) (next_item wide (Some 41) q) (after_dot setting p on (x ∷ xs)) (after_dot wide q on (x ∷ xs))
-        (next_item_widens (Some 41) p q h) (λ piece. tail_widens p q on (x ∷ xs) piece h)
+      tail_widens : (p q : Plan Found) (xs : List Object) (piece : Piece) → Widens p q → Widens (after_dot setting p on xs piece) (after_dot wide q on2 xs piece)
+      tail_widens p q xs closed h = refuses_widens DOT_CONTEXT 1 (refuses DOT_CONTEXT 1)
+      tail_widens p q xs dot h = refuses_widens DOT_CONTEXT 0 (refuses DOT_CONTEXT 0)
+      tail_widens p q xs (item token x) h =
+          space_widens token (then_plan (next_item setting (Some 41) p) (after_tail on xs x)) (then_plan (next_item wide (Some 41) q) (after_tail on2 xs x))
+          (then_widens (next_item setting (Some 41) p) (next_item wide (Some 41) q) (after_tail on xs x) (after_tail on2 xs x)
+          (next_item_widens (Some 41) p q h) (λ piece. closed_tail_widens xs x piece))
+
+      end_widens : (p q : Plan Found) (items : Items) → Widens p q → Widens (list_end setting p on items) (list_end wide q on2 items)
+      end_widens p q (xs, true) h = done (many xs)
+      end_widens p q ([], false) h = refuses_widens DOT_CONTEXT 0 (refuses DOT_CONTEXT 0)
+      end_widens p q (x ∷ xs, false) h =
+          then_widens (next_item setting (Some 41) p) (next_item wide (Some 41) q) (after_dot setting p on (x ∷ xs)) (after_dot wide q on2 (x ∷ xs))
+          (next_item_widens (Some 41) p q h) (λ piece. tail_widens p q (x ∷ xs) piece h)
+
+      undotted_widens : (items : Items) → Widens (undotted on items) (undotted on2 items)
+      undotted_widens (xs, true) = done (many xs)
+      undotted_widens (xs, false) = refuses_widens DOT_CONTEXT 0 (refuses DOT_CONTEXT 0)
+
+    piece_done : (on on2 : Bool → Object → Plan Found) → ((token : Bool) (x : Object) → Widens (on token x) (on2 token x)) → (piece : Piece)
+        → Widens (one_piece on piece) (one_piece on2 piece)
+    piece_done on on2 all (item token x) = all token x
+    piece_done on on2 all _ = refuses_widens DOT_CONTEXT 0 (refuses DOT_CONTEXT 0)
+
+    -- ---- what a call gives: an answer may be as deep as the nesting allows
+
+    answer_widens : (depth : ℕ) (token spaced : Bool) (answer : MacroAnswer) → Widens (answered setting.packages setting.limits.nesting depth token spaced answer) (answered setting.packages wider.nesting depth token spaced answer)
+    answer_widens depth token spaced (value x) =
+        let may = may_be_answered setting.packages x in
+        opens_widens (may && nat_le (object_depth x + depth) setting.limits.nesting) (may && nat_le (object_depth x + depth) wider.nesting) (one token x) MACRO_ANSWER 0 (refuses MACRO_ANSWER 0)
+        (λ e. let both = and_parts may (nat_le (object_depth x + depth) setting.limits.nesting) e in
+        and_from may (nat_le (object_depth x + depth) wider.nesting) both.0
+        (le-leb (object_depth x + depth) wider.nesting (omega (arith, deeper, leb-true (object_depth x + depth) setting.limits.nesting both.1))))
+    answer_widens depth token spaced no_value = gives_widens (nothing spaced)
+    answer_widens depth token spaced improper = refuses_widens MACRO_ANSWER 0 (refuses MACRO_ANSWER 0)
+    answer_widens depth token spaced (answer_refused number) = refuses_widens MACRO_REFUSED 0 (refuses MACRO_REFUSED 0)
+
+    by_function : (depth : ℕ) (call : InvokedCall) (function : Function) (token spaced : Bool) (material : Material) → Widens (completed_by setting depth call function token spaced material) (completed_by wide depth call function token spaced material)
+    by_function depth call (AStandard kind) token spaced material = same_widens (finished token (value_of kind setting.table.letters call.number material))
+    by_function depth call (User name) token spaced material = answer_widens depth token spaced (setting.answer name (macro_call call material))
+
+    completed_widens : (depth : ℕ) (call : InvokedCall) (token spaced : Bool) (material : Material) → Widens (completed setting depth call token spaced material) (completed wide depth call token spaced material)
+    completed_widens depth call token spaced material = by_function depth call call.function token spaced material
 
     -- ---- calls
 
@@ -278,34 +280,42 @@ module _ (setting : Setting) (most : ℕ) where
     opened_widens (Some p) None on on2 h all = absurd h
     opened_widens (Some p) (Some q) on on2 h all = all p q h
 
-    -- A call that ends with no object read in it gives the same, as no function is told the limits.
-    module _ (depth : ℕ) (may may2 : Option (Plan Found)) (deeper : WidensInner may may2) where
+    module _ (depth : ℕ) (may may2 : Option (Plan Found)) (inside : WidensInner may may2) where
+      abbrev on_marks : Setting → InvokedCall → List Mark → Plan Found
+      on_marks by call marks = completed by depth call true false (marked marks)
+
+      token_call_widens : (escaped : Bool) (call : InvokedCall) → Widens (scans escaped setting.limits.token (on_marks setting call)) (scans escaped wider.token (on_marks wide call))
+      token_call_widens escaped call =
+          scans_widens escaped setting.limits.token wider.token (on_marks setting call) (on_marks wide call) longer (λ marks. completed_widens depth call true false (marked marks))
+
       gathered_widens : (call : InvokedCall) (way : Way) → Widens (gathered setting depth may call way) (gathered wide depth may2 call way)
-      gathered_widens call Nothing = same_widens (completed setting depth call false false no_material)
+      gathered_widens call Nothing = completed_widens depth call false false no_material
       gathered_widens call Next =
-          let on : Piece → Plan Found = one_piece (λ token x. completed setting depth call token token (one_object x)) in
-          opened_widens may may2 (λ p. then_plan (next_item setting None p) on) (λ q. then_plan (next_item wide None q) on) deeper
-          (λ p q h. then_widens (next_item setting None p) (next_item wide None q) on on (next_item_widens None p q h) (λ piece. same_widens (on piece)))
+          let on : Setting → Bool → Object → Plan Found = λ by token x. completed by depth call token token (one_object x) in
+          opened_widens may may2 (λ p. then_plan (next_item setting None p) (one_piece (on setting))) (λ q. then_plan (next_item wide None q) (one_piece (on wide))) inside
+          (λ p q h. then_widens (next_item setting None p) (next_item wide None q) (one_piece (on setting)) (one_piece (on wide)) (next_item_widens None p q h)
+          (λ piece. piece_done (on setting) (on wide) (λ token x. completed_widens depth call token token (one_object x)) piece))
       gathered_widens call AList =
-          let on : Material → Plan Found = λ m. completed setting depth call false false m in
-          opened_widens may may2 (λ p. then_plan (items_after setting 41 p []) (list_end setting p on)) (λ q. then_plan (items_after wide 41 q []) (list_end wide q on)) deeper
-          (λ p q h. then_widens (items_after setting 41 p []) (items_after wide 41 q []) (list_end setting p on) (list_end wide q on)
-          (items_widen 41 p q [] h) (λ items. end_widens p q on items h))
+          let on : Setting → Material → Plan Found = λ by m. completed by depth call false false m in
+          opened_widens may may2 (λ p. then_plan (items_after setting 41 p []) (list_end setting p (on setting))) (λ q. then_plan (items_after wide 41 q []) (list_end wide q (on wide))) inside
+          (λ p q h. then_widens (items_after setting 41 p []) (items_after wide 41 q []) (list_end setting p (on setting)) (list_end wide q (on wide))
+          (items_widen 41 p q [] h) (λ items. end_widens (on setting) (on wide) (λ m. completed_widens depth call false false m) p q items h))
       gathered_widens call (Until close) =
-          let on : Items → Plan Found = undotted (λ m. completed setting depth call false false m) in
-          opened_widens may may2 (λ p. then_plan (items_after setting close p []) on) (λ q. then_plan (items_after wide close q []) on) deeper
-          (λ p q h. then_widens (items_after setting close p []) (items_after wide close q []) on on (items_widen close p q [] h) (λ items. same_widens (on items)))
+          let on : Setting → Material → Plan Found = λ by m. completed by depth call false false m in
+          opened_widens may may2 (λ p. then_plan (items_after setting close p []) (undotted (on setting))) (λ q. then_plan (items_after wide close q []) (undotted (on wide))) inside
+          (λ p q h. then_widens (items_after setting close p []) (items_after wide close q []) (undotted (on setting)) (undotted (on wide)) (items_widen close p q [] h)
+          (λ items. undotted_widens (on setting) (on wide) (λ m. completed_widens depth call false false m) items))
       gathered_widens call (Text close) =
-          let on : List ℕ → Plan Found = λ cs. completed setting depth call false false (letters cs) in
-          then_widens (text_to setting close []) (text_to wide close []) on on (text_widens close []) (λ cs. same_widens (on cs))
+          then_widens (text_to setting close []) (text_to wide close []) (λ cs. completed setting depth call false false (letters cs))
+          (λ cs. completed wide depth call false false (letters cs)) (text_widens close []) (λ cs. completed_widens depth call false false (letters cs))
       gathered_widens call (Line keep) =
-          let on : List ℕ → Plan Found = λ cs. completed setting depth call false false (letters cs) in
-          then_widens (line_after setting keep []) (line_after wide keep []) on on (line_widens keep []) (λ cs. same_widens (on cs))
+          then_widens (line_after setting keep []) (line_after wide keep []) (λ cs. completed setting depth call false false (letters cs))
+          (λ cs. completed wide depth call false false (letters cs)) (line_widens keep []) (λ cs. completed_widens depth call false false (letters cs))
       gathered_widens call Block =
-          let on : Unit {0} → Plan Found = λ u. completed setting depth call false false no_material in
-          then_widens (block_after setting (0, 0)) (block_after wide (0, 0)) on on (block_widens (0, 0)) (λ u. same_widens (on u))
-      gathered_widens call Token = same_widens (scans false setting.limits.token (λ marks. completed setting depth call true false (marked marks)))
-      gathered_widens call EscapedToken = same_widens (scans true setting.limits.token (λ marks. completed setting depth call true false (marked marks)))
+          then_widens (block_after setting (0, 0)) (block_after wide (0, 0)) (λ u. completed setting depth call false false no_material)
+          (λ u. completed wide depth call false false no_material) (block_widens (0, 0)) (λ u. completed_widens depth call false false no_material)
+      gathered_widens call Token = token_call_widens false call
+      gathered_widens call EscapedToken = token_call_widens true call
 
       way_widens : (call : InvokedCall) (way : Option Way) → Widens (gathered_by setting depth may call way) (gathered_by wide depth may2 call way)
       way_widens call None = refuses_widens OUT_OF_PROFILE 1 (refuses OUT_OF_PROFILE 1)
@@ -337,26 +347,32 @@ module _ (setting : Setting) (most : ℕ) where
       alone_widens c Whitespace = gives_widens (nothing false)
       alone_widens c TerminatingMacro = macro_widens c (entry_at setting.table c).function
       alone_widens c NonTerminatingMacro = macro_widens c (entry_at setting.table c).function
-      alone_widens c Constituent = refuses_widens INVALID_CHARACTER 1 (refuses INVALID_CHARACTER 1)
-      alone_widens c SingleEscape = refuses_widens INVALID_CHARACTER 1 (refuses INVALID_CHARACTER 1)
-      alone_widens c MultipleEscape = refuses_widens INVALID_CHARACTER 1 (refuses INVALID_CHARACTER 1)
-      alone_widens c Invalid = refuses_widens INVALID_CHARACTER 1 (refuses INVALID_CHARACTER 1)
+      alone_widens c _ = refuses_widens INVALID_CHARACTER 1 (refuses INVALID_CHARACTER 1)
 
       attempt_widens : Widens (attempt_by setting depth may) (attempt_by wide depth may2)
       attempt_widens =
-          let token : Plan Found = scans false setting.limits.token (token_found setting) in
-          takes_widens token token (λ c. stands_alone (entry_at setting.table c).syntax) (λ c. alone setting depth may c (entry_at setting.table c).syntax)
-          (λ c. alone wide depth may2 c (entry_at setting.table c).syntax) (same_widens token) (λ c. alone_widens c (entry_at setting.table c).syntax)
+          takes_widens (scans false setting.limits.token (token_found setting)) (scans false wider.token (token_found wide)) (λ c. stands_alone (entry_at setting.table c).syntax)
+          (λ c. alone setting depth may c (entry_at setting.table c).syntax) (λ c. alone wide depth may2 c (entry_at setting.table c).syntax)
+          (scans_widens false setting.limits.token wider.token (token_found setting) (token_found wide) longer (λ marks. same_widens (token_found setting marks)))
+          (λ c. alone_widens c (entry_at setting.table c).syntax)
 
-    -- ---- attempts, and forms
+    -- as many calls are as_many in both, so more may be opened under the larger limit
+    at_depth : (room room2 : ℕ) → room + wider.nesting ≡ room2 + setting.limits.nesting → WidensInner (inner setting room) (inner wide room2) → Widens (attempt setting room) (attempt wide room2)
+    at_depth room room2 as_many inside =
+        let depth : setting.limits.nesting - room ≡ wider.nesting - room2 = omega (arith, as_many, deeper) in
+        subst (λ (d : ℕ). Widens (attempt setting room) (attempt_by wide d (inner wide room2))) depth
+        (attempt_widens (setting.limits.nesting - room) (inner setting room) (inner wide room2) inside)
 
-    inner_widens : (room : ℕ) → WidensInner (inner setting room) (inner wide room)
+    inner_widens : (room room2 : ℕ) → room + wider.nesting ≡ room2 + setting.limits.nesting → WidensInner (inner setting room) (inner wide room2)
     unfolding inner
-    inner_widens zero = tt
-    inner_widens (suc room) = attempt_widens (setting.limits.nesting - room) (inner setting room) (inner wide room) (inner_widens room)
+    inner_widens zero room2 as_many = tt
+    inner_widens (suc room) zero as_many = absurd (omega (arith, as_many, deeper))
+    inner_widens (suc room) (suc room2) as_many =
+        let before : room + wider.nesting ≡ room2 + setting.limits.nesting = omega (arith, as_many) in
+        at_depth room room2 before (inner_widens room room2 before)
 
-    attempts_widen : (room : ℕ) → Widens (attempt setting room) (attempt wide room)
-    attempts_widen room = attempt_widens (setting.limits.nesting - room) (inner setting room) (inner wide room) (inner_widens room)
+    attempts_widen : (room room2 : ℕ) → room + wider.nesting ≡ room2 + setting.limits.nesting → Widens (attempt setting room) (attempt wide room2)
+    attempts_widen room room2 as_many = at_depth room room2 as_many (inner_widens room room2 as_many)
 
     form_too : (x : Object) (from «end» next n start : ℕ) (text : List ℕ) → reads_in setting n start text ≡ form x from «end» next
         → reads_in wide n start text ≡ form x from «end» next
@@ -365,11 +381,20 @@ module _ (setting : Setting) (most : ℕ) where
     form_too x from «end» next (suc n) start text e =
         outcome_too setting.table x from «end» next (λ at cs. reads_in setting n at cs) (λ at cs. reads_in wide n at cs) start
         (run setting.table setting.limits (attempt setting setting.limits.nesting) 0 text)
-        (run setting.table wide.limits (attempt wide setting.limits.nesting) 0 text)
-        (λ at cs f. form_too x from «end» next n at cs f) (attempts_widen setting.limits.nesting 0 text) e
+        (run setting.table wider (attempt wide wider.nesting) 0 text)
+        (λ at cs f. form_too x from «end» next n at cs f) (attempts_widen setting.limits.nesting wider.nesting (omega arith) 0 text) e
+
+-- what is found at the front of a text stays what it is under larger limits
+pub attempt_allowed : (setting : Setting) (wider : Limits) (text : List ℕ) (v : Found × ℕ × List ℕ) → setting.limits.text ≤ wider.text → setting.limits.token ≤ wider.token → setting.limits.nesting ≤ wider.nesting
+    → run setting.table setting.limits (attempt setting setting.limits.nesting) 0 text ≡ Ok v
+    → run setting.table wider (attempt (record setting { limits = wider }) wider.nesting) 0 text ≡ Ok v
+attempt_allowed setting wider text v larger longer deeper e =
+    subst (λ (r : Read Found). GivesToo r (run setting.table wider (attempt (record setting { limits = wider }) wider.nesting) 0 text)) e
+    (attempts_widen setting wider larger longer deeper setting.limits.nesting wider.nesting (omega arith) 0 text)
 
 -- a form stays what it is under a larger limit of the text, and where it is
 pub form_widens : (setting : Setting) (text : List ℕ) (most : ℕ) (x : Object) (start «end» next : ℕ) → setting.limits.text ≤ most
     → reads setting text ≡ form x start «end» next → reads (record setting { limits = record setting.limits { text = most } }) text ≡ form x start «end» next
 unfolding reads
-form_widens setting text most x start «end» next larger e = form_too setting most larger x start «end» next (length text + 1) 0 text e
+form_widens setting text most x start «end» next larger e =
+    form_too setting (record setting.limits { text = most }) larger (omega arith) (omega arith) x start «end» next (length text + 1) 0 text e

@@ -31,7 +31,7 @@
 //! - proofs/Framing.antt, proofs/Forms.antt: a form is read again, alone, from its own bytes.
 //! - proofs/Following.antt, proofs/Refusals.antt: what ends before a byte is the same whatever follows.
 //! - proofs/Bounded.antt, proofs/Offsets.antt: what is read ends within the limit of the text, and is its front.
-//! - proofs/Widening.antt: a form that is read under a limit is read under a larger one.
+//! - proofs/Widening.antt, proofs/LargerLimits.antt: what is read under limits is read under larger ones.
 //! - proofs/Steps.antt, proofs/Turns.antt: one plan after another, and that the number of turns is always enough.
 //! - proofs/Fed.antt: what one byte is inside a text, a line, a block or a number.
 //! - proofs/Fittings.antt, proofs/Homes.antt: the symbols of a form fit sound packages; homes are ASCII.

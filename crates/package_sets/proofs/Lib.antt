@@ -1,4 +1,6 @@
 pub mod Places
 pub mod Positions
+pub mod Chaining
+pub mod Seeking
 pub mod Growing
 pub mod Cut

@@ -1,7 +1,9 @@
 -- What contracts see of the sets.
 use Rattle.package_sets.specs.declared.sets.PackageSets.TheInside.{Inside}
+use Rattle.std.specs.Prelude.{length}
 use Rattle.package_sets.specs.Kept.{Kept}
 use Rattle.package_sets.specs.Good.{IsGood}
+use Rattle.package_sets.specs.Chained.{external_name, AreChained}
 
 abbrev pub kept_of : Inside → Kept
 kept_of a = record {
@@ -14,5 +16,7 @@ kept_of a = record {
   uses = a.uses;
 }
 
-abbrev pub IsKept : Inside → Type 0
-IsKept a = IsGood (kept_of a)
+-- what is kept is good, and what is external is found by its name
+pub record IsKept (a : Inside) : Type 0 where
+  pub good : IsGood (kept_of a)
+  pub chained : AreChained (external_name a.symbols a.externals) (length a.externals) a.chains

@@ -61,7 +61,10 @@ impl PackageSets {
         ensures ok { OnOk result (self.new ≡ with_external self.old owner symbol) }
         ensures err { OnErr result (self.new ≡ self.old) }
     {
+        let name = self.symbols.at(symbol).second;
+        self.chains.reserve(name)?;
         self.externals.push(self.alloc, owner, symbol)?;
+        self.chains.push_reserved(name, self.externals.len());
         Ok(())
     }
 

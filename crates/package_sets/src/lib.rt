@@ -10,9 +10,21 @@
 //! - `sets`: `PackageSets`, a copy of them, their lengths and going back; `look_ups` and `changes`: their calls
 //! - `names`: `Names`, each once, and `name`: one of them; `pairs`: `Pairs` of numbers, each once, and the positions of
 //!   those with the same first, and `pair`: one of them
+//! - `chains`: `Chains`, external symbols by their names: for each name the last that has it, and for each of them the one
+//!   before. `find_inherited` goes along them
 //! - `seed`: `Seed`, with which both are hashed: names come from clients, who must not know where they fall
+//!
+//! # Laws for the crates above
+//!
+//! Their definitions are all in specs/Kept.antt, specs/Good.antt, specs/Changes.antt and specs/Inherited.antt.
+//!
+//! - proofs/Cut.antt: going back (`cut_itself`, `cut_cut`, and `cut_package` and its like), and that lengths are at most
+//!   those of now (`up_to_itself`, `up_to_package` and its like).
+//! - proofs/Places.antt: places in lists (`all_at`, `none_any`, `any_none`, `any_some`, `none_is_length`).
+//! - proofs/Growing.antt: `pair_equiv`, that the test of two pairs is an equivalence.
 #![tactic(auto)]
 
+mod chains;
 mod changes;
 mod look_ups;
 mod name;
@@ -23,6 +35,7 @@ mod seed;
 mod sets;
 mod sizes;
 
+pub use look_ups::Inherited;
 pub use names::Names;
 pub use pair::Pair;
 pub use pairs::Pairs;

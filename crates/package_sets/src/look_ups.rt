@@ -2,8 +2,20 @@
 ghost use Rattle.std.specs.Prelude.{◌≡◌, ◌<◌, length, get_or, position, bytes_eq, is_some};
 ghost use Rattle.package_sets.specs.Kept.{import_of, name_at, pair_at, pair_eq, positions_of};
 ghost use Rattle.package_sets.specs.Groups.{pair_of};
+ghost use Rattle.package_sets.specs.Inherited.{Tells};
 
 use crate::{PackageSets, Pair};
+
+/// The external symbol of a name in a package that another uses, if it was looked for to the end.
+#[derive(Clone, Copy, Debug, PartialEq, Eq)]
+pub enum Inherited {
+    /// It is at this place of what is external.
+    External(u32),
+    /// There is none.
+    Nothing,
+    /// More packages have a symbol of that name external than are used.
+    Unknown,
+}
 
 // Packages are made after those of the standard, of which names speak most.
 const STANDARDIZED_PACKAGES: u32 = 3;
@@ -157,5 +169,24 @@ impl PackageSets {
         ensures { result.now ≡ positions_of owner self.now.uses }
     {
         self.uses.of(owner)
+    }
+
+    /// An external symbol of this name in a package that `owner` uses. It looks at what is external by this name, at
+    /// no more places than `owner` uses packages.
+    pub fn find_inherited(&self, owner: u32, name: u32) -> Inherited
+        ensures { Tells self.now owner name result }
+    {
+        let mut last = self.chains.last(name);
+        for _ in self.uses.of(owner) {
+            if last == 0 {
+                return Inherited::Nothing;
+            }
+            let place = last - 1;
+            if self.is_used(owner, self.externals.at(place).first) {
+                return Inherited::External(place);
+            }
+            last = self.chains.before(place);
+        }
+        Inherited::Unknown
     }
 }

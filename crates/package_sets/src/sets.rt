@@ -1,8 +1,10 @@
 //! What is kept of the packages.
-ghost use Rattle.std.specs.Prelude.{◌≡◌, IfOk};
+ghost use Rattle.std.specs.Prelude.{◌≡◌, length, IfOk};
 ghost use Rattle.package_sets.specs.Kept.{cut, nothing, sizes_of};
 ghost use Rattle.package_sets.specs.Good.{IsGood};
+ghost use Rattle.package_sets.specs.Chained.{external_name, AreChained};
 
+use crate::chains::Chains;
 use crate::{Names, Pairs, Seed, Sizes};
 use std::alloc::{AllocError, Global};
 use std::marker::Model;
@@ -17,6 +19,8 @@ pub struct PackageSets {
     // For each import the number of the symbol.
     pub(crate) imported: Vec<u32>,
     pub(crate) externals: Pairs,
+    // Where what is external is, by its name.
+    pub(crate) chains: Chains,
     pub(crate) uses: Pairs,
 }
 
@@ -31,6 +35,7 @@ impl Drop for PackageSets {
             imports: _,
             imported: _,
             externals: _,
+            chains: _,
             uses: _,
         } = self;
     }
@@ -63,6 +68,7 @@ impl PackageSets {
             imports: Pairs::new(alloc, seed),
             imported: Vec::new(alloc),
             externals: Pairs::new(alloc, seed),
+            chains: Chains::new(alloc),
             uses: Pairs::new(alloc, seed),
         }
     }
@@ -71,11 +77,26 @@ impl PackageSets {
     pub fn copy(&self, alloc: Global) -> Result<PackageSets, AllocError>
         ensures { IfOk result (λ sets. sets ≡ self.now) }
     {
+        let imported = Vec::from_slice(alloc, self.imported.as_slice())?;
+        let chains = self.chains.copy(alloc)?;
+        self.copy_with(alloc, imported, chains)
+    }
+
+    // The same, where these two are copied.
+    fn copy_with(
+        &self,
+        alloc: Global,
+        imported: Vec<u32>,
+        chains: Chains,
+    ) -> Result<PackageSets, AllocError>
+        requires imported { imported.items ≡ self.now.imported }
+        requires chained { AreChained (external_name self.now.symbols self.now.externals) (length self.now.externals) chains }
+        ensures { IfOk result (λ sets. sets ≡ self.now) }
+    {
         let names = self.names.copy()?;
         let packages = self.packages.copy()?;
         let symbols = self.symbols.copy()?;
         let imports = self.imports.copy()?;
-        let imported = Vec::from_slice(alloc, self.imported.as_slice())?;
         let externals = self.externals.copy()?;
         let uses = self.uses.copy()?;
         Ok(PackageSets {
@@ -86,6 +107,7 @@ impl PackageSets {
             imports,
             imported,
             externals,
+            chains,
             uses,
         })
     }
@@ -116,6 +138,8 @@ impl PackageSets {
         requires { IsGood (cut sizes self.old) }
         ensures { self.new ≡ cut sizes self.old }
     {
+        self.chains
+            .truncate(&self.symbols, &self.externals, sizes.externals);
         self.names.truncate(sizes.names);
         self.packages.truncate(sizes.packages);
         self.symbols.truncate(sizes.symbols);

@@ -1,4 +1,5 @@
 -- What is asked before EXPORT and USE-PACKAGE, in the words of `Finds`.
+--     some_in, any_with      an entry that passes a test
 --     users_other      whether a package that uses p finds another symbol
 --     shown_other      whether p finds another symbol than one that is external in q
 use Rattle.std.proofs.Common.{◌≡◌, ◌≢◌, ◌↔◌, ◌&&◌, ◌||◌, not, Bool, true, false, cond, T, List, [], ◌∷◌, None, Some, IsTrue, bytes_eq, refl, sym, ap, ◌∙◌}
@@ -15,7 +16,7 @@ use Rattle.package_table.proofs.Names.{tied_same, same_tied}
 use Rattle.package_table.proofs.Frames.{unequal_names}
 use Rattle.package_table.proofs.Found.{found_finds}
 use Rattle.package_table.proofs.Counting.{first_of_both, second_of_both, below}
-use Rattle.package_table.proofs.KeptChanges.{users_agree, shown_agree}
+use Rattle.package_table.proofs.KeptChanges.{none_in, users_agree, shown_agree}
 
 -- a name below all the others is none of them
 pub none_above : {X : Type 0} (x : Name) (es : List (Name × X)) → T (below_all name_cmp x es) → find name_cmp x es ≡ None
@@ -48,6 +49,13 @@ pub some_in : {X : Type 0} (test : Name × X → Bool) (m : finite.FinMap name_c
 some_in test m some =
     let here = some_of test (finite.entries m) (finite.entries_sorted m) some in
     (here.0, here.1, finite.get-entries m here.0 ∙ here.2, here.3)
+
+pub any_with : {X : Type 0} (test : Name × X → Bool) (m : finite.FinMap name_cmp X) (q : Name) (x : X) → finite.get m q ≡ Some x → test (q, x) ≡ true → list_any test (finite.entries m) ≡ true
+any_with test m q x there passes =
+    elim (list_any test (finite.entries m)) as (λ b. list_any test (finite.entries m) ≡ b → b ≡ true) [
+      | true ↦ λ _. refl
+      | false ↦ λ none. absurd (false≢true (sym (none_in test m q x none there) ∙ passes))
+    ] refl
 
 other_found : (t : Table) (p h n : Name) → finds_other t p h n ≡ true → (g : Name) × Finds t p n g × (g ≢ h)
 other_found t p h n other =

@@ -1,9 +1,9 @@
 -- Conflicts over a name, looked for by numbers.
 --     all_packages, some_package      what no package has, or one, among the entries of the table
---     share_by, reaches_none, reaches_home, reaches_by      what is asked of each package before an export
+--     asked_user      what is asked of each package before an export
 --     users_none      where no conflict can be
 --     another_by, shown_by_numbers      what is asked of each external symbol before a package is used
-use Rattle.std.proofs.Common.{◌≡◌, ◌≢◌, ◌<◌, ℕ, Bool, true, false, not, ◌&&◌, ◌||◌, is_some, length, position, Option, None, Some, option_map, bytes_eq, refl, sym, ap, ◌∙◌, inl, inr}
+use Rattle.std.proofs.Common.{◌≡◌, ◌≢◌, ◌<◌, ℕ, Bool, true, false, not, ◌&&◌, is_some, length, position, Option, None, Some, option_map, bytes_eq, refl, sym, ap, ◌∙◌, inl, inr}
 use Rattle.std.proofs.lemmas.Bool.{false≢true}
 use Rattle.std.specs.Option.{option_map_or}
 use Rattle.std.specs.List.{list_any}
@@ -11,17 +11,15 @@ use Rattle.std.specs.FinMap as finite
 use Rattle.std.specs.Cmp.{both_ways}
 use Rattle.package_sets.specs.Kept.{Kept, name_at, pair_at, pair_eq}
 use Rattle.package_sets.specs.Good.{IsGood}
-use Rattle.package_table.specs.Table.{Name, Present, Package, Uses, Finds, IsPackage, IsPresent, IsExternal, IsSound}
-use Rattle.package_table.specs.Changes.{user_finds_other, finds_other_than_shown}
-use Rattle.package_table.specs.Reached.{share_user, reaches}
-use Rattle.package_table.specs.Meaning.{number_in, is_shown_in, present_in, package_in, home_in, symbol_name, found_number, finds_another, shown_positions, shown_symbol, numbered_of}
+use Rattle.package_table.specs.Table.{Name, Present, Package, Uses, Finds, IsPackage, IsPresent, IsExternal, IsJoined, IsSound}
+use Rattle.package_table.specs.Changes.{finds_other, user_finds_other, finds_other_than_shown}
+use Rattle.package_table.specs.Meaning.{number_in, is_shown_in, package_in, home_in, symbol_name, found_number, finds_another, shown_positions, shown_symbol, numbered_of}
 use Rattle.package_table.specs.Adds.{IsPlaced}
 use Rattle.package_table.proofs.Names.{same_some, none_some}
 use Rattle.package_table.proofs.Frames.{equal_itself, not_equal}
 use Rattle.package_table.proofs.Found.{found_is}
-use Rattle.package_table.proofs.Asked.{some_in, users_other, shown_other}
-use Rattle.package_table.proofs.Reaching.{any_with}
-use Rattle.package_table.proofs.Mapped.{named, got_at}
+use Rattle.package_table.proofs.Asked.{some_in, any_with, users_other, shown_other}
+use Rattle.package_table.proofs.Mapped.{named}
 use Rattle.package_table.proofs.Meant.{known, package_at, package_none, uses_there}
 use Rattle.package_table.proofs.FoundBy.{position_of, found_by, finds_number, nothing_by, shows as shows_number, number_by, shown_by, present_by}
 use Rattle.package_table.proofs.ByName.{present_number}
@@ -61,43 +59,17 @@ module _ (k : Kept) (good : IsGood k) where
       elim (position (pair_eq (q, p)) k.uses) as (λ o. is_some o ≡ is_some (option_map (λ _. tt {0}) o)) [ None ↦ refl | Some x ↦ refl ]
       ∙ sym (ap is_some (uses_there k good (name_at k.packages q) q p (name_at k.packages p) (position_of k.packages good.distinct.packages p less)))
 
-  -- both are used
-  pub share_by : (q p r : ℕ) → p < length k.packages → r < length k.packages
-      → (is_some (position (pair_eq (q, p)) k.uses) && is_some (position (pair_eq (q, r)) k.uses)) ≡ (finite.contains_key (package_in k q).uses (name_at k.packages p) && finite.contains_key (package_in k q).uses (name_at k.packages r))
-  share_by q p r p_in r_in = λ i. uses_number q p p_in i && uses_number q r r_in i
-
-  symbols_by : (r j : ℕ) → j < length k.names → finite.get (package_in k r).symbols (name_at k.names j) ≡ option_map (present_in k r) (number_in k r j)
-  symbols_by r j less = got_at k.names good.distinct.names (λ j. option_map (present_in k r) (number_in k r j)) (name_at k.names j) j (position_of k.names good.distinct.names j less)
-
-  module _ (p r j : ℕ) (h : Name) (p_in : p < length k.packages) (j_in : j < length k.names) where
-    abbrev asks : Bool
-    asks = reaches (numbered_of k).0 (name_at k.packages p) h (name_at k.names j) (name_at k.packages r, package_in k r)
-
-    pub reaches_none : number_in k r j ≡ None → reaches (numbered_of k).0 (name_at k.packages p) h (name_at k.names j) (name_at k.packages r, package_in k r) ≡ false
-    reaches_none none =
-        ap (λ o. option_map_or (λ (e : Present). not (bytes_eq e.home h)) o false && (finite.contains_key (package_in k r).uses (name_at k.packages p) || (option_map_or (λ (e : Present). e.external) o false && share_user (numbered_of k).0 (name_at k.packages p) (name_at k.packages r))))
-        (symbols_by r j j_in ∙ ap (option_map (present_in k r)) none)
-
-    module _ (i : ℕ) (is : number_in k r j ≡ Some i) where
-      pub reaches_by : reaches (numbered_of k).0 (name_at k.packages p) h (name_at k.names j) (name_at k.packages r, package_in k r)
-          ≡ (not (bytes_eq (home_in k i) h) && (is_some (position (pair_eq (r, p)) k.uses) || (is_shown_in k r i && share_user (numbered_of k).0 (name_at k.packages p) (name_at k.packages r))))
-      reaches_by =
-          ap (λ o. option_map_or (λ (e : Present). not (bytes_eq e.home h)) o false && (finite.contains_key (package_in k r).uses (name_at k.packages p) || (option_map_or (λ (e : Present). e.external) o false && share_user (numbered_of k).0 (name_at k.packages p) (name_at k.packages r))))
-          (symbols_by r j j_in ∙ ap (option_map (present_in k r)) is)
-          ∙ ap (λ b. not (bytes_eq (home_in k i) h) && (b || (is_shown_in k r i && share_user (numbered_of k).0 (name_at k.packages p) (name_at k.packages r)))) (sym (uses_number r p p_in))
-
-      pub reaches_same : bytes_eq (home_in k i) h ≡ true → reaches (numbered_of k).0 (name_at k.packages p) h (name_at k.names j) (name_at k.packages r, package_in k r) ≡ false
-      reaches_same same =
-          reaches_by ∙ ap (λ b. not b && (is_some (position (pair_eq (r, p)) k.uses) || (is_shown_in k r i && share_user (numbered_of k).0 (name_at k.packages p) (name_at k.packages r)))) same
-
-      pub reaches_using : bytes_eq (home_in k i) h ≡ false → is_some (position (pair_eq (r, p)) k.uses) ≡ true → reaches (numbered_of k).0 (name_at k.packages p) h (name_at k.names j) (name_at k.packages r, package_in k r) ≡ true
-      reaches_using differs used =
-          reaches_by ∙ (λ t. not (differs t) && (used t || (is_shown_in k r i && share_user (numbered_of k).0 (name_at k.packages p) (name_at k.packages r))))
-
-      pub reaches_sharing : (b : Bool) → bytes_eq (home_in k i) h ≡ false → is_some (position (pair_eq (r, p)) k.uses) ≡ false → is_shown_in k r i ≡ b
-          → reaches (numbered_of k).0 (name_at k.packages p) h (name_at k.names j) (name_at k.packages r, package_in k r) ≡ (b && share_user (numbered_of k).0 (name_at k.packages p) (name_at k.packages r))
-      reaches_sharing b differs unused shown_so =
-          reaches_by ∙ (λ t. not (differs t) && (unused t || (shown_so t && share_user (numbered_of k).0 (name_at k.packages p) (name_at k.packages r))))
+  -- whether a package uses p and finds another symbol, by numbers and by names
+  pub asked_user : IsJoined (numbered_of k).0 → (q p j : ℕ) (H : Name) → q < length k.packages → p < length k.packages → j < length k.names
+      → (is_some (position (pair_eq (q, p)) k.uses) && option_map_or (λ o. not (bytes_eq (home_in k o) H)) (found_number k q j) false)
+      ≡ (finite.contains_key (package_in k q).uses (name_at k.packages p) && finds_other (numbered_of k).0 (name_at k.packages q) H (name_at k.names j))
+  asked_user joined q p j H q_in p_in j_in = λ i. uses_number q p p_in i && finds i
+    where
+      finds : option_map_or (λ o. not (bytes_eq (home_in k o) H)) (found_number k q j) false ≡ finds_other (numbered_of k).0 (name_at k.packages q) H (name_at k.names j)
+      finds =
+          elim (found_number k q j) as (λ o. option_map_or (λ o. not (bytes_eq (home_in k o) H)) o false ≡ option_map_or (λ g. not (bytes_eq g H)) (option_map (home_in k) o) false) [ None ↦ refl | Some i ↦ refl ]
+          ∙ ap (λ (o : Option Name). option_map_or (λ g. not (bytes_eq g H)) o false)
+          (found_by k good (name_at k.packages q) (name_at k.names j) q j (position_of k.packages good.distinct.packages q q_in) (position_of k.names good.distinct.names j j_in) joined)
 
   -- no user, or no symbol by the name
   pub users_none : IsSound (numbered_of k).0 → (P H N : Name) → (position (bytes_eq P) k.packages ≡ None → user_finds_other (numbered_of k).0 P H N ≡ false) × (position (bytes_eq N) k.names ≡ None → user_finds_other (numbered_of k).0 P H N ≡ false)

@@ -121,7 +121,7 @@ module _ (k : Kept) where
         | Some y ↦ λ seen same. (x, ap (λ b. b || list_any (nat_eq x) xs) ((Decides-eqb x x).1 refl), seen ∙ same)
       ] refl is
 
-  first_none : (j : ℕ) (xs : List ℕ) → first_shown k j xs ≡ None → (x : ℕ) → list_any (nat_eq x) xs ≡ true → shown_number k (pair_at k.uses x).1 j ≡ None
+  pub first_none : (j : ℕ) (xs : List ℕ) → first_shown k j xs ≡ None → (x : ℕ) → list_any (nat_eq x) xs ≡ true → shown_number k (pair_at k.uses x).1 j ≡ None
   unfolding first_shown
   first_none j [] none x among = absurd (false≢true among)
   first_none j (y ∷ ys) none x among =
@@ -226,7 +226,7 @@ module _ (k : Kept) (good : IsGood k) where
     uses_read : AllByRecursion (λ x. (x < length k.uses) × ((pair_at k.uses x).0 ≡ p)) (positions_of p k.uses)
     uses_read = positions_read p k.uses [] k.uses 0 refl refl
 
-    finds_inherited : (i : ℕ) → first_shown k j (positions_of p k.uses) ≡ Some i → Finds (numbered_of k).0 P N (home_in k i)
+    pub finds_inherited : (i : ℕ) → first_shown k j (positions_of p k.uses) ≡ Some i → Finds (numbered_of k).0 P N (home_in k i)
     finds_inherited i is =
         let first = first_is k j (positions_of p k.uses) i is in
         let x : ℕ = first.0 in

@@ -14,6 +14,7 @@ pub mod Found
 pub mod FoundBy
 pub mod Frames
 pub mod Growing
+pub mod Inheriting
 pub mod Keeping
 pub mod KeptChanges
 pub mod KeptSound
@@ -25,7 +26,6 @@ pub mod Meant
 pub mod Names
 pub mod Numbered
 pub mod Puts
-pub mod Reaching
 pub mod Rows
 pub mod Seen
 pub mod Starting

@@ -8,7 +8,6 @@ pub mod Numbering
 pub mod Resolving
 pub mod Readers
 pub mod Changes
-pub mod Reached
 pub mod Growth
 pub mod Meaning
 pub mod Adds

@@ -1,14 +1,14 @@
 //! Whether a package finds another symbol than a given one by its name.
-ghost use Rattle.std.specs.Prelude.{◌≡◌, ◌<◌, ◌&&◌, false, nat_lt, is_some, length, position};
-ghost use Rattle.package_sets.specs.Kept.{name_at, pair_eq};
+ghost use Rattle.std.specs.Prelude.{◌≡◌, ◌<◌, ◌&&◌, false, nat_lt, length};
+ghost use Rattle.std.specs.FinMap as finite;
+ghost use Rattle.package_sets.specs.Kept.{name_at};
 ghost use Rattle.package_table.specs.Table.{IsJoined, IsPackage, IsSound};
-ghost use Rattle.package_table.specs.Reached.{reaches, share_user};
 ghost use Rattle.package_table.specs.Changes.{finds_this, finds_other, user_finds_other, finds_other_than_shown};
 ghost use Rattle.package_table.specs.Meaning.{finds_another, numbered_of, package_in, shown_positions, shown_symbol};
 ghost use Rattle.package_table.specs.Adds.{IsPlaced};
 
 use crate::limits::LOCKED_PACKAGES;
-use crate::look_ups::{found_number, home_name, home_of, is_shown_in, number_in};
+use crate::look_ups::{found_number, home_name, home_of};
 use package_sets::PackageSets;
 
 /// Whether `owner` finds the symbol of this home and name.
@@ -33,57 +33,28 @@ pub(crate) fn finds_other(sets: &PackageSets, owner: &[u8], home: &[u8], name: &
     }
 }
 
-// Whether a package uses both others.
-fn uses_both(sets: &PackageSets, user: u32, owner: u32, other: u32) -> bool
-    ensures { let uses = sets.now.uses in
-        result ≡ (is_some (position (pair_eq (user, owner)) uses)
-        && is_some (position (pair_eq (user, other)) uses)) }
-{
-    sets.is_used(user, owner) && sets.is_used(user, other)
-}
-
-// Whether there is a package that uses both.
-fn share_user(sets: &PackageSets, owner: u32, other: u32) -> bool
-    requires owner { owner < length sets.now.packages }
-    requires other { other < length sets.now.packages }
-    ensures { let packages = sets.now.packages in
-        result ≡ share_user (numbered_of sets.now).0 (name_at packages owner)
-        (name_at packages other) }
-{
-    sets.goodness();
-    for user in 0..sets.package_count() {
-        if uses_both(sets, user, owner, other) {
-            return true;
-        }
-    }
-    false
-}
-
-// Whether the package `holder` has another symbol by the name, which a package that
-// uses `owner` finds.
-fn reaches(sets: &PackageSets, owner: u32, home: &[u8], name: u32, holder: u32) -> bool
+// Whether the package `user` uses `owner` and finds another symbol than that of this home by a name.
+fn finds_as_user(sets: &PackageSets, user: u32, owner: u32, home: &[u8], name: u32) -> bool
+    requires user { user < length sets.now.packages }
     requires owner { owner < length sets.now.packages }
     requires name { name < length sets.now.names }
-    requires holder { holder < length sets.now.packages }
+    requires joined { IsJoined (numbered_of sets.now).0 }
     ensures { let k = sets.now in let at = name_at k.packages in
-        result ≡ reaches (numbered_of k).0 (at owner) home.now (name_at k.names name)
-        (at holder, package_in k holder) }
+        result ≡ (finite.contains_key (package_in k user).uses (at owner)
+        && finds_other (numbered_of k).0 (at user) home.now (name_at k.names name)) }
 {
     sets.goodness();
-    let Some(symbol) = number_in(sets, holder, name) else {
-        return false;
-    };
-    if home_name(sets, symbol) == home {
+    if !sets.is_used(user, owner) {
         return false;
     }
-    if sets.is_used(holder, owner) {
-        return true;
+    match found_number(sets, user, name) {
+        Some(symbol) => home_name(sets, symbol) != home,
+        None => false,
     }
-    is_shown_in(sets, holder, symbol) && share_user(sets, owner, holder)
 }
 
-/// Whether a package that uses `owner` finds another symbol than that of this home by its name. The look-up of the name
-/// goes once over the packages, and on only from those that have another symbol there.
+/// Whether a package that uses `owner` finds another symbol than that of this home by its name. Only those that use it
+/// look the name up.
 pub(crate) fn user_finds_other(sets: &PackageSets, owner: &[u8], home: &[u8], name: &[u8]) -> bool
     requires { IsSound (numbered_of sets.now).0 }
     ensures { result ≡ user_finds_other (numbered_of sets.now).0 owner.now home.now name.now }
@@ -95,8 +66,8 @@ pub(crate) fn user_finds_other(sets: &PackageSets, owner: &[u8], home: &[u8], na
     let Some(name) = sets.find_name(name) else {
         return false;
     };
-    for holder in 0..sets.package_count() {
-        if reaches(sets, owner, home, name, holder) {
+    for user in 0..sets.package_count() {
+        if finds_as_user(sets, user, owner, home, name) {
             return true;
         }
     }
@@ -105,7 +76,9 @@ pub(crate) fn user_finds_other(sets: &PackageSets, owner: &[u8], home: &[u8], na
 
 // Whether a package finds another symbol by the name of this one.
 fn finds_another(sets: &PackageSets, owner: u32, symbol: u32) -> bool
-    requires { symbol < length sets.now.symbols }
+    requires owner { owner < length sets.now.packages }
+    requires symbol { symbol < length sets.now.symbols }
+    requires joined { IsJoined (numbered_of sets.now).0 }
     ensures { result ≡ finds_another sets.now owner symbol }
 {
     sets.goodness();

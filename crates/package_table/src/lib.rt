@@ -29,17 +29,32 @@
 //! list. The numbers are beside the table (`Beside`): tables with the same symbols are equal whatever their numbers. A
 //! symbol keeps its number over each call that writes (`Keeps`), and has the one of the mark after going back.
 //!
-//! Proofs of crates above may cite these lemmas; they keep their names. On look-ups (proofs/Found.antt): `found_is`,
-//! `found_finds`, `found_none`, `finds_none`, `present_found`, `external_shows`, `shows_external`, `used_shows`. On
-//! symbols at home (proofs/Keeping.antt): `present_at_home`, `present_once`. On conflicts (proofs/Asked.antt):
-//! `users_other`, `shown_other`. On growth (proofs/Growing.antt): `grows_same`, `grows_both`, `finds_grown`. On names
-//! and on one change of a table (proofs/Frames.antt): `equal_names`, `unequal_names`, `equal_itself`, `entry_new`,
-//! `entry_other`, `package_with_entry`, `uses_with_entry`, `entry_with_used`, `uses_still`, `entry_with_new`. On the
-//! first packages (proofs/First.antt): `sound`, `first_count`, `lisp_is_package`, `user_is_package`. On lists that
-//! grow and shrink at their end, as journals do (proofs/Undoing.antt): `IsLast`, `at_last`, `no_more`, `take_seam`,
-//! `get_seam`, `on_ok`. On the order of names (proofs/Names.antt): `name_total`, `name_exact`. On numbers
-//! (proofs/Numbered.antt): `number_some`, `number_there`, `number_apart`, `number_kept`, `number_none`, `at_symbol`,
-//! `keeps_same`, `keeps_both`. On what COMMON-LISP has first (proofs/FirstNames.antt): `lisp_present`, `nil_present`.
+//! # Laws for the crates above
+//!
+//! Their definitions are those of specs/Table.antt, Lookup, Resolving, Readers, Changes, Growth, Numbers, Numbering,
+//! Symbols, Limits and Errors, and `as_map` of specs/Kept.antt. These lemmas keep their names:
+//!
+//! - proofs/Found.antt: look-ups (`found_is`, `found_finds`, `found_none`, `finds_none`, `present_found`,
+//!   `external_shows`, `shows_external`, `used_shows`, `external_entry`).
+//! - proofs/Keeping.antt: symbols at home (`present_at_home`, `present_once`, `new_home`).
+//! - proofs/Asked.antt: conflicts (`users_other`, `shown_other`).
+//! - proofs/KeptChanges.antt, proofs/KeptSound.antt: each change leaves a sound table (`kept_make`, `kept_intern`,
+//!   `kept_import`, `kept_export`, `exported_again`, `kept_use`), and what is used is there (`used_is_package`, `no_entry`).
+//! - proofs/Growing.antt: growth (`grows_same`, `grows_both`, `finds_grown`).
+//! - proofs/Frames.antt: names (`equal_names`, `unequal_names`, `equal_itself`, `name_cases` and their like), and one
+//!   change of a table (`entry_new`, `entry_other`, `package_with_entry`, `uses_with_entry`, `entry_with_used`,
+//!   `uses_still`, `entry_with_new` and their like).
+//! - proofs/Counting.antt: symbols that are counted (`at_home`, `weight`, `symbols_new`, `len_with_new`).
+//! - proofs/First.antt, proofs/FirstNames.antt: the first packages (`sound`, `first_count`, `lisp_is_package`,
+//!   `user_is_package`, `lisp_present`, `nil_present`).
+//! - proofs/Undoing.antt: lists that grow and shrink at their end, as journals do (`IsLast`, `at_last`, `no_more`,
+//!   `take_seam`, `get_seam`, `on_ok`).
+//! - proofs/Names.antt: the order of names (`name_total`, `name_exact`, `same_tied`, `tied_same`), and options
+//!   (`same_some`, `none_some`).
+//! - proofs/Numbered.antt: numbers (`number_some`, `number_there`, `number_apart`, `number_kept`, `number_none`,
+//!   `at_symbol`, `keeps_same`, `keeps_both`).
+//! - proofs/Seen.antt: a tree by names, read as a finite map (`as_map-insert`, `as_map-remove`, `keys-read`,
+//!   `entries-as_map` and their like).
 #![tactic(auto)]
 
 mod conflicts;

@@ -1,7 +1,7 @@
 //! Look-ups, by numbers and by names. They take no memory.
-ghost use Rattle.std.specs.Prelude.{◌≡◌, ◌<◌, ◌↔◌, IfSome, nat_lt, length, if◌then◌else◌, is_some, option_map, Some, None};
+ghost use Rattle.std.specs.Prelude.{◌≡◌, ◌<◌, ◌↔◌, ◌&&◌, IfSome, nat_lt, length, position, if◌then◌else◌, is_some, option_map, Some, None};
 ghost use Rattle.std.specs.FinMap as finite;
-ghost use Rattle.package_sets.specs.Kept.{name_at, pair_at, positions_of};
+ghost use Rattle.package_sets.specs.Kept.{name_at, pair_at, pair_eq, positions_of};
 ghost use Rattle.package_table.specs.Table.{IsJoined, Name};
 ghost use Rattle.package_table.specs.Lookup.{external_home, found, is_present, is_symbol, is_used};
 ghost use Rattle.package_table.specs.Changes.{is_full_of_packages};
@@ -9,7 +9,10 @@ ghost use Rattle.package_table.specs.Numbers.{names_of_symbol, number_of};
 ghost use Rattle.package_table.specs.Meaning.{first_shown, found_number, home_in, is_shown_in, number_in, numbered_of, shown_number, symbol_name};
 
 use crate::limits::{LOCKED_PACKAGES, MAX_PACKAGES};
-use package_sets::PackageSets;
+use package_sets::{Inherited, PackageSets};
+
+// So many used packages are looked at one after the other.
+const FEW_USES: usize = 4;
 
 /// The number of the symbol that a package has by a name: the one at home in it, and else the one that it imports.
 pub(crate) fn number_in(sets: &PackageSets, owner: u32, name: u32) -> Option<u32>
@@ -54,14 +57,55 @@ fn inherited_number(sets: &PackageSets, owner: u32, name: u32) -> Option<u32>
     None
 }
 
+// Whether a package uses another in which a symbol is present by a name.
+fn has_used(sets: &PackageSets, owner: u32, used: u32, name: u32) -> bool
+    ensures { result ≡ (is_some (position (pair_eq (owner, used)) sets.now.uses)
+        && is_some (number_in sets.now used name)) }
+{
+    sets.is_used(owner, used) && number_in(sets, used, name).is_some()
+}
+
+// The same number, looked for where a symbol of this name is external: in few packages, however many are used.
+fn inherited_by_name(sets: &PackageSets, owner: u32, name: u32) -> Option<u32>
+    requires owner { owner < length sets.now.packages }
+    requires name { name < length sets.now.names }
+    requires joined { IsJoined (numbered_of sets.now).0 }
+    ensures { result ≡ first_shown sets.now name (positions_of owner sets.now.uses) }
+{
+    sets.goodness();
+    match sets.find_inherited(owner, name) {
+        Inherited::External(place) => {
+            let used = sets.external_at(place).first;
+            if let Some(number) = shown_number(sets, used, name) {
+                return Some(number);
+            }
+        }
+        Inherited::Nothing => {
+            // what COMMON-LISP and KEYWORD have external is not among it
+            if !has_used(sets, owner, 0, name) && !has_used(sets, owner, 1, name) {
+                return None;
+            }
+        }
+        Inherited::Unknown => {}
+    }
+    inherited_number(sets, owner, name)
+}
+
 /// The number of the symbol that a package finds by a name.
 pub(crate) fn found_number(sets: &PackageSets, owner: u32, name: u32) -> Option<u32>
+    requires owner { owner < length sets.now.packages }
+    requires name { name < length sets.now.names }
+    requires joined { IsJoined (numbered_of sets.now).0 }
     ensures { result ≡ found_number sets.now owner name }
 {
-    match number_in(sets, owner, name) {
-        Some(number) => Some(number),
-        None => inherited_number(sets, owner, name),
+    let number = number_in(sets, owner, name);
+    if number.is_some() {
+        return number;
     }
+    if sets.uses_of(owner).len() <= FEW_USES {
+        return inherited_number(sets, owner, name);
+    }
+    inherited_by_name(sets, owner, name)
 }
 
 /// The name of a symbol.

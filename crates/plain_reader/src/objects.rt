@@ -198,8 +198,9 @@ fn is_escape(syntax: Syntax) -> bool
     matches!(syntax, Syntax::SingleEscape)
 }
 
+/// Whether it is whitespace.
 #[inline(always)]
-fn is_blank(readtable: &Readtable, c: u8) -> bool
+pub(crate) fn is_blank(readtable: &Readtable, c: u8) -> bool
     ensures { result ≡ is_whitespace readtable.now c }
 {
     matches!(readtable.syntax(c), Syntax::Whitespace)

@@ -12,12 +12,12 @@ ghost use Rattle.lisp_reading.specs.Setting.{setting_of};
 ghost use Rattle.lisp_reading.specs.Reading.{is_whitespace, form, reads};
 
 use crate::context::Context;
-use crate::objects::list;
+use crate::objects::{is_blank, list};
 use lisp_object::Datum;
 use lisp_reading::Limits;
 use package_table::Packages;
 use readtable_core::standard_names::{STD_LIST, STD_QUOTE, STD_STRING};
-use readtable_core::{Case, Readtable, Syntax};
+use readtable_core::{Case, Readtable};
 use std::alloc::{AllocError, Global};
 
 /// Under a higher limit of nesting, no form is read here.
@@ -106,12 +106,6 @@ fn calls(readtable: &Readtable, c: u8, name: &[u8]) -> bool
         Some(function) => function.as_bytes() == name,
         None => false,
     }
-}
-
-fn is_blank(readtable: &Readtable, c: u8) -> bool
-    ensures { result ≡ is_whitespace readtable.now c }
-{
-    matches!(readtable.syntax(c), Syntax::Whitespace)
 }
 
 fn is_upcase(case: Case) -> bool

@@ -82,7 +82,7 @@ impl SoundObject {
     pub fn quoted(self, alloc: Global) -> Result<SoundObject, AllocError>
         ensures { IfOk result (λ x. x ≡ headed (codes "QUOTE") self) }
     {
-        let mut items = SoundObjects::new(alloc);
+        let mut items = SoundObjects::with_capacity(alloc, 2)?;
         items.push(quote(alloc)?)?;
         items.push(self)?;
         items.into_list(alloc)
@@ -159,6 +159,15 @@ impl SoundObjects {
         SoundObjects {
             data: Vec::new(alloc),
         }
+    }
+
+    /// No objects, and room for so many.
+    pub fn with_capacity(alloc: Global, capacity: usize) -> Result<SoundObjects, AllocError>
+        ensures { IfOk result (λ xs. xs ≡ []) }
+    {
+        Ok(SoundObjects {
+            data: Vec::with_capacity(alloc, capacity)?,
+        })
     }
 
     /// One more object, after the others.

@@ -47,7 +47,7 @@ pub no_table : (n : Name) (tables : List (Vec ℕ × Table)) → None ≡ lookup
 no_table n tables none there = false≢true (ap is_some (none ∙ sym (got_table n tables)) ∙ there)
 
 module _ (m : Readtables) (n : Name) (w : Table) where
-  got_put : finite.get (finite.insert m n w) n ≡ Some w
+  pub got_put : finite.get (finite.insert m n w) n ≡ Some w
   got_put = get-insert name_total m n w n ∙ ap (λ b. cond b (Some w) (finite.get m n)) (name_tied n)
 
   -- what was there, put again

@@ -14,6 +14,7 @@ pub mod Named
 pub mod Listed
 pub mod InState
 pub mod Notes
+pub mod Restored
 pub mod Marking
 pub mod Left
 pub mod Viewed

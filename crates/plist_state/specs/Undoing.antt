@@ -1,5 +1,5 @@
 -- How changes are taken back: of a property list, of the readtables, and of all that a world keeps besides its packages.
-use Rattle.std.specs.Prelude.{◌≡◌, ℕ, zero, suc, ◌-◌, List, [], ◌∷◌, length, take}
+use Rattle.std.specs.Prelude.{◌≡◌, ℕ, Bool, false, zero, suc, ◌-◌, List, [], ◌∷◌, length, take, bytes_eq}
 use Rattle.std.specs.Option.{option_map_or}
 use Rattle.std.specs.FinMap as finite
 use Rattle.lisp_object.specs.Object.{Object, pair}
@@ -84,3 +84,9 @@ undone_since (m ∷ ms) r = all_undone m (undone_since ms r)
 abbrev pub rests_at : List (List Note) → NumberedRest → List NumberedRest
 rests_at [] r = []
 rests_at (m ∷ ms) r = undone_since (m ∷ ms) r ∷ rests_at ms r
+
+-- where this note is undone, the readtable of this name is gone, or an earlier one, whatever it was
+abbrev pub restores : Name → Note → Bool
+restores n (Made name) = bytes_eq name.items n
+restores n (Changed name (Over before)) = bytes_eq name.items n
+restores n _ = false

@@ -10,7 +10,7 @@ ghost use Rattle.plist_state.specs.Shown.{readtables_of};
 ghost use Rattle.plist_state.specs.Journal.{marks_of, ContinuesTables};
 
 use crate::ReadtableError;
-use crate::journal::{push_note, reserve_named};
+use crate::journal::{is_noted, push_note, reserve_named};
 use crate::note::{Note, TableChange};
 use crate::tables::{MAX_READTABLES, STANDARD, table};
 use readtable_core::Readtable;
@@ -38,7 +38,11 @@ pub(crate) fn copy(
     };
     let noted = reserve_named(alloc, marks, to)?;
     let to = Vec::from_slice(alloc, to)?;
+    let is_noted = is_noted(marks.as_slice(), noted.as_slice());
     let before = put_table(tables, to, copied)?;
+    if is_noted && before.is_some() {
+        return Ok(());
+    }
     push_note(marks, was_table(noted, before));
     Ok(())
 }

@@ -24,19 +24,30 @@
 //! - `properties`, `packages`, `readtables`, `base`: the calls that write
 //! - `marks`: `mark`, `mark_count`, `back_to`, `settle`, over `journal` (notes under marks) and `undo` (notes undone)
 //! - `note`: what is noted of a change
-//! - `numbers`: the numbers of symbols, as `rows` takes them
+//! - `numbers`: the number of a symbol, as `rows` takes it
 //! - `symbol`, `property`, `property_list`: `Symbol`, `Property`, `PropertyList`
 //! - `error`: `ReadtableError`
 //! - `stored`: what a world keeps besides its packages, over `rows` (property lists by number; `row_index`: the indexes of
 //!   long ones) and `tables` (readtables by name; `copies`: those that are copied)
 //!
-//! Proofs of crates above may cite these lemmas; they keep their names. On soundness (proofs/Soundness.antt):
-//! `sound_packages`, `sound_put`, `sound_removed`, `sound_in_package`, `sound_in_readtable`, `sound_base`, `sound_table`,
-//! `symbol_from`, `symbol_is`. On
-//! property lists by symbols (proofs/Lists.antt): `get-with_list`, `list-with_list`, `with_list_twice`, `with_list_same`. On
-//! the orders of symbols and names (proofs/Orders.antt): `symbol_total`, `symbol_exact`, `one_symbol`, `name_total`,
-//! `name_exact`, `one_name`. On the first world (proofs/FirstWorld.antt): `first_sound`. On marked states (proofs/Marking.antt):
-//! `length_marked`, `marked_push`, `marked_take`, `marked_get`.
+//! # Definitions for the crates above
+//!
+//! - specs/State.antt: `WorldState`, `Worlds`, `Readtables`, `initial`, `first_readtables`, `first_base`, `standard_name`, `user_name`
+//! - specs/Properties.antt: `Symbol`, `Plist`, `Properties`, `symbol_cmp`, `same_symbol`, `value_at`, `with_value`, `list_at`,
+//!   `with_list`
+//! - specs/Changes.antt: what each call makes of a state; specs/Pushed.antt: `pushed`, `with_pushed`, `holds_pair`
+//! - specs/Sound.antt: what holds of each state; specs/Readers.antt: the lists that a world gives
+//! - specs/Shown.antt: `symbol_of`, `property_of`; specs/Refused.antt: `number_of`; specs/Codes.antt: `state_code`
+//!
+//! # Laws for the crates above
+//!
+//! - proofs/Soundness.antt: what a change leaves is sound: `sound_packages`, `sound_put`, `sound_removed`, `sound_in_package`,
+//!   `sound_in_readtable`, `sound_base`; proofs/FirstWorld.antt: so is the first state: `first_sound`
+//! - proofs/KeptWorld.antt: the same of a change of the readtables: `sound_changed`, `sound_copied`, `sound_syntax`,
+//!   `named_case`, `named_macro`, `named_dispatching`, `named_dispatched`, `dispatch_there`
+//! - proofs/Lists.antt: a symbol is given a property list: `get-with_list`, `list-with_list`, `with_list_twice`, `kept`
+//! - proofs/Orders.antt: symbols and names are in one order: `symbol_total`, `symbol_exact`, `symbol_tied`, `one_symbol`,
+//!   `name_total`, `name_exact`, `name_tied`, `one_name`
 #![tactic(auto)]
 
 mod base;

@@ -1,4 +1,7 @@
 //! Changes, each with what it overwrote.
+ghost use Rattle.std.specs.Prelude.{◌≡◌};
+ghost use Rattle.plist_state.specs.Undoing.{restores};
+
 use crate::property::NumberedProperty;
 use lisp_object::Datum;
 use readtable_core::{Case, CharacterSlot, Readtable};
@@ -52,4 +55,20 @@ pub(crate) enum Note {
     InReadtable(Vec<u8>),
     /// Numbers are read in another base; before, it was this one.
     InBase(u8),
+}
+
+impl Note {
+    /// Whether the readtable of this name is gone, or an earlier one, where this is undone, whatever was made of it since.
+    pub(crate) fn restores(&self, name: &[u8]) -> bool
+        ensures { result ≡ restores name.now self.now }
+    {
+        match self {
+            Note::Made(made) => made.as_slice() == name,
+            Note::Changed {
+                name: changed,
+                change: TableChange::Over(_),
+            } => changed.as_slice() == name,
+            _ => false,
+        }
+    }
 }

@@ -1,4 +1,4 @@
-//! The numbers of symbols, under which their property lists are kept.
+//! The number of a symbol, under which its property list is kept.
 ghost use Rattle.std.specs.Prelude.{◌≡◌, Some};
 ghost use Rattle.package_table.specs.Numbers as numbers;
 ghost use Rattle.package_table.specs.Numbers.{numbered};
@@ -8,13 +8,6 @@ ghost use Rattle.plist_state.specs.Sound.{IsSymbol};
 use crate::Symbol;
 use package_table::Packages;
 
-/// The number of the symbol of this home and name, where there is one. Takes no memory.
-pub(crate) fn number_of(packages: &Packages, home: &[u8], name: &[u8]) -> Option<u32>
-    ensures { result ≡ numbers.number_of (numbered packages.now) home.now name.now }
-{
-    packages.number_of(home, name)
-}
-
 /// The number of a symbol that is there. Takes no memory.
 pub(crate) fn number(packages: &Packages, symbol: &Symbol) -> u32
     requires { IsSymbol packages.now.0 (symbol_of symbol.now) }
@@ -22,7 +15,7 @@ pub(crate) fn number(packages: &Packages, symbol: &Symbol) -> u32
         numbers.number_of (numbered packages.now) s.0 s.1 ≡ Some result }
 {
     packages.numbering();
-    match number_of(packages, symbol.home(), symbol.name()) {
+    match packages.number_of(symbol.home(), symbol.name()) {
         Some(number) => number,
         None => unreachable!(),
     }

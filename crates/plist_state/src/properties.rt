@@ -6,7 +6,7 @@ ghost use Rattle.plist_state.specs.Pushed.{holds_pair, pushed, with_pushed};
 ghost use Rattle.plist_state.specs.Shown.{symbol_of};
 ghost use Rattle.plist_state.specs.Sound.{IsSymbol, IsValue};
 
-use crate::numbers::{number, number_of};
+use crate::numbers::number;
 use crate::{Symbol, World, stored};
 use lisp_object::Datum;
 use std::alloc::AllocError;
@@ -90,7 +90,7 @@ impl World {
     {
         self.packages.numbering();
         let owner = number(&self.packages, symbol);
-        let Some(indicator) = number_of(&self.packages, indicator.home(), indicator.name()) else {
+        let Some(indicator) = self.packages.number_of(indicator.home(), indicator.name()) else {
             return Ok(false);
         };
         stored::remove(&mut self.stored, &mut self.marks, owner, indicator)

@@ -7,7 +7,6 @@ ghost use Rattle.plist_state.specs.Lists.{list_of, lists};
 ghost use Rattle.plist_state.specs.Readers.{readtable_names, borrowed_symbols, symbols_with_properties};
 ghost use Rattle.plist_state.specs.Shown.{lists_of, readtables_of};
 
-use crate::numbers::number_of;
 use crate::property::NumberedProperty;
 use crate::{World, rows};
 use lisp_object::{Bytes, Items};
@@ -36,7 +35,7 @@ fn has_properties(
     ensures { result
         ≡ is_some (list_of (numbered packages.now) (lists_of rows.now) (home.now, name.now)) }
 {
-    match number_of(packages, home, name) {
+    match packages.number_of(home, name) {
         Some(number) => rows::has_properties(rows, number),
         None => false,
     }

@@ -105,7 +105,7 @@ fn index_of(alloc: Global, row: &[NumberedProperty]) -> Result<Option<Index>, Al
     Ok(Some(index))
 }
 
-// Makes the index of a long row, where it has none.
+// Makes the index of a long row where it has none, and makes it anew where most of its indicators are gone from the row.
 fn make_index(
     alloc: Global,
     row: &[NumberedProperty],
@@ -116,7 +116,11 @@ fn make_index(
     ensures indexed { IsIndexedIn indexes.new.entries number row.now }
     ensures others { KeepsOthers indexes.old.entries indexes.new.entries number }
 {
-    if row.len() < LONG || indexes.contains_key(&number) {
+    let is_kept = match indexes.get(&number) {
+        Some(index) => index.len() / 2 <= row.len().max(LONG),
+        None => row.len() < LONG,
+    };
+    if is_kept {
         return Ok(());
     }
     let Some(index) = index_of(alloc, row)? else {

@@ -22,13 +22,6 @@ impl Symbol {
         Ok(Symbol { home, name })
     }
 
-    /// A symbol equal to this one.
-    pub fn copy(&self, alloc: Global) -> Result<Symbol, AllocError>
-        ensures { IfOk result (λ s. symbol_of s ≡ symbol_of self.now) }
-    {
-        Symbol::from_bytes(alloc, self.home.as_slice(), self.name.as_slice())
-    }
-
     /// The name of its home package.
     pub fn home(&self) -> &[u8]
         ensures { result.now ≡ (symbol_of self.now).0 }

@@ -6,8 +6,6 @@ ghost use Rattle.readtable_core.specs.Names.{is_dispatch_name};
 ghost use Rattle.readtable_core.specs.Tables.{Table, entry_at};
 ghost use Rattle.readtable_core.specs.Changes.{with_entry, dispatch_refusal};
 ghost use Rattle.plist_state.specs.declared.error.ReadtableError.TheVariants.{OutOfMemory};
-ghost use Rattle.plist_state.specs.declared.note.TableChange.TheVariants.{Character};
-ghost use Rattle.plist_state.specs.declared.note.Note.TheVariants.{Changed};
 ghost use Rattle.plist_state.specs.Changes.{writable, with_case, with_macro, with_dispatching, with_dispatch, with_syntax, refused_as, Gives};
 ghost use Rattle.plist_state.specs.Shown.{readtables_of};
 ghost use Rattle.plist_state.specs.Undoing.{table_before, tables_before};
@@ -95,14 +93,6 @@ fn copy_entry(
     table.entry(alloc, c)
 }
 
-// The note that this was at the character of the readtable of this name.
-fn was_at(name: Vec<u8>, c: u8, entry: CharacterSlot) -> Note
-    ensures { result ≡ Changed name (Character c entry) }
-{
-    let change = TableChange::Character { c, entry };
-    Note::Changed { name, change }
-}
-
 // The note of what is at a character of the readtable of this name, which is there. The newest mark has room for it.
 fn entry_note(
     alloc: Global,
@@ -119,7 +109,11 @@ fn entry_note(
 {
     let entry = copy_entry(alloc, tables, name, c)?;
     let noted = reserve_named(alloc, marks, name)?;
-    Ok(was_at(noted, c, entry))
+    let change = TableChange::Character { c, entry };
+    Ok(Note::Changed {
+        name: noted,
+        change,
+    })
 }
 
 /// Sets the case of a readtable.
@@ -287,7 +281,14 @@ pub(crate) fn set_syntax(
     let entry = copy_entry(alloc, tables, from, d)?;
     let noted = reserve_named(alloc, marks, to)?;
     let before = put_entry(tables, to, c, entry);
-    push_note(marks, was_at(noted, c, before));
+    let change = TableChange::Character { c, entry: before };
+    push_note(
+        marks,
+        Note::Changed {
+            name: noted,
+            change,
+        },
+    );
     Ok(())
 }
 

@@ -9,7 +9,6 @@ ghost use Rattle.plist_state.specs.Sound.{IsSoundWorld};
 ghost use Rattle.plist_state.specs.State.{initial};
 
 use crate::note::Note;
-use crate::numbers::number_of;
 use crate::stored::{Stored, first_stored};
 use crate::{PropertyList, Symbol, rows, tables};
 use lisp_object::Datum;
@@ -120,10 +119,10 @@ impl World {
         ensures proper { IfSome result (λ d. is_proper d.now ≡ true) }
     {
         self.packages.numbering();
-        let Some(owner) = number_of(&self.packages, symbol.home(), symbol.name()) else {
+        let Some(owner) = self.packages.number_of(symbol.home(), symbol.name()) else {
             return None;
         };
-        let Some(indicator) = number_of(&self.packages, indicator.home(), indicator.name()) else {
+        let Some(indicator) = self.packages.number_of(indicator.home(), indicator.name()) else {
             return None;
         };
         let stored = &self.stored;
@@ -141,7 +140,7 @@ impl World {
     pub fn plist_of(&self, home: &[u8], name: &[u8]) -> PropertyList<'_>
         ensures { result ≡ plist self.now.0 (home.now, name.now) }
     {
-        match number_of(&self.packages, home, name) {
+        match self.packages.number_of(home, name) {
             Some(number) => {
                 PropertyList::new(&self.packages, rows::row(&self.stored.properties, number))
             }

@@ -141,6 +141,7 @@ fn wanted_lines<D: Disk>(
     let wanted = Wanted {
         mode: session.mode,
         snapshot_every: session.every,
+        snapshot_ratio: 0,
         strict,
         group,
     };

@@ -90,6 +90,7 @@ fn watched(alloc: Global, input: &[u8]) -> Result<(Option<u64>, bool, bool), Tro
     let wanted = Wanted {
         mode: Mode::Current,
         snapshot_every: 0,
+        snapshot_ratio: 0,
         strict: false,
         group: false,
     };

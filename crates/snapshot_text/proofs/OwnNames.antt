@@ -1,5 +1,6 @@
 -- The names that a snapshot lists of a package are those of its own symbols that are not there from the first: data that hold
 -- these names, and what is there once they are made.
+--     own_are, own_among      each is such a symbol, and each such symbol is among them
 --     own_data      each of the data names a symbol at home in the package
 --     own_all      all own symbols are there, where those of the data are
 use Rattle.std.proofs.Common.{◌≡◌, suc, Bool, true, false, not, List, [], ◌∷◌, map, filter, None, Some, is_some, All, refl, sym, ap, subst, ◌∙◌, arith}
@@ -9,7 +10,7 @@ use Rattle.std.specs.List.{list_any, list_all}
 use Rattle.std.specs.FinMap as finite
 use Rattle.std.specs.FinMap.{get-entries, entries_sorted, is_sorted}
 use Rattle.std.proofs.lemmas.Bool.{false≢true, and_parts, or_right}
-use Rattle.std.proofs.lemmas.List.Elements.{All-nil, All-cons}
+use Rattle.std.proofs.lemmas.List.Elements.{All-nil, All-cons, All-weaker}
 use Rattle.lisp_object.specs.declared.datum.Datum.{Datum}
 use Rattle.lisp_object.specs.Object.{text}
 use Rattle.lisp_object.specs.Datum.{object_of, is_proper}
@@ -28,6 +29,7 @@ use Rattle.world_text.proofs.Ascii.{from_truth}
 use Rattle.world_text.proofs.PackageEntries.{eq, names_passing}
 use Rattle.world_text.proofs.SamePackages.{any_passing}
 use Rattle.snapshot_text.proofs.PartFinds.{present_entry, present_more}
+use Rattle.snapshot_text.proofs.PackageLists.{all_any, any_all}
 use Rattle.snapshot_text.proofs.PartSame.{first_part}
 
 -- ---- the names of a package's own symbols
@@ -55,6 +57,13 @@ there_own : (s : Table) (p n : Name) → IsPresent s p n p → list_any (eq n) (
 there_own s p n there =
     let e = present_entry s p n p there in
     own_listed s p n ∙ ap (λ o. option_map_or (at_home p) o false) e.1 ∙ ap (λ h. bytes_eq h p) e.2 ∙ equal_itself p
+
+pub own_are : (s : Table) (p : Name) → All (λ n. IsPresent s p n p) (own_names s p)
+own_are s p =
+    All-weaker (λ n. list_any (eq n) (own_names s p) ≡ true) (λ n. IsPresent s p n p) (λ n any. own_there s p n any) (own_names s p) (all_any (own_names s p))
+
+pub own_among : (s : Table) (p : Name) (P : Name → Type 0) → All P (own_names s p) → (n : Name) → IsPresent s p n p → P n
+own_among s p P all n there = any_all P (own_names s p) n (there_own s p n there) all
 
 any_passed : (n : Name) (g : Name → Bool) (xs : List Name) → list_any (eq n) (filter g xs) ≡ true → list_any (eq n) xs ≡ true
 any_passed n g [] h = absurd (false≢true h)

@@ -2,7 +2,8 @@
 --     imports_are, import_among      its imports
 --     externals_are, external_among      its external names
 --     uses_are, use_among      the packages that it uses
---     others_are, other_among      all packages but COMMON-LISP
+--     packages_are, package_among      all packages
+--     others_are, other_among      all but COMMON-LISP
 use Rattle.std.proofs.Common.{◌≡◌, ◌≢◌, Bool, true, false, not, List, [], ◌∷◌, filter, Some, None, refl, sym, ap, subst, ◌∙◌}
 use Rattle.std.specs.Prelude.{Option, All, cond, bytes_eq, option_map, option_and_then, ◌||◌, if◌then◌else◌}
 use Rattle.std.specs.List.{list_any}
@@ -47,7 +48,7 @@ found_all {X = X} P (e ∷ es) n x found all =
       | false ↦ λ _ later. found_all P es n x later (All-tail P e es all)
     ] refl found
 
-any_all : (P : Name → Type 0) (ns : List Name) (n : Name) → list_any (eq n) ns ≡ true → All P ns → P n
+pub any_all : (P : Name → Type 0) (ns : List Name) (n : Name) → list_any (eq n) ns ≡ true → All P ns → P n
 any_all P [] n any all = absurd (false≢true any)
 any_all P (m ∷ ns) n any all =
     elim (eq n m) as (λ b. eq n m ≡ b → (b || list_any (eq n) ns) ≡ true → P n) [
@@ -55,7 +56,7 @@ any_all P (m ∷ ns) n any all =
       | false ↦ λ _ later. any_all P ns n later (All-tail P m ns all)
     ] refl any
 
-all_any : (ns : List Name) → All (λ n. list_any (eq n) ns ≡ true) ns
+pub all_any : (ns : List Name) → All (λ n. list_any (eq n) ns ≡ true) ns
 all_any [] = All-nil (λ n. list_any (eq n) [] ≡ true)
 all_any (m ∷ ns) =
     All-cons (λ n. list_any (eq n) (m ∷ ns) ≡ true) m ns (or_left (eq m m) (list_any (eq m) ns) (same_tied m))
@@ -163,10 +164,17 @@ module _ (s : Table) (p : Name) where
 abbrev pub is_other : Name → Bool
 is_other p = not (bytes_eq p common_lisp)
 
+pub packages_are : (s : Table) → All (λ p. IsPackage s p) (package_names s)
+packages_are s =
+    All-weaker (λ p. list_any (eq p) (package_names s) ≡ true) (λ p. IsPackage s p) (λ p any. contains_key-keys s p ∙ any) (package_names s) (all_any (package_names s))
+
+pub package_among : (s : Table) (P : Name → Type 0) → All P (package_names s) → (p : Name) → IsPackage s p → P p
+package_among s P all p there = any_all P (package_names s) p (sym (contains_key-keys s p) ∙ there) all
+
 pub others_are : (s : Table) → All (λ p. IsPackage s p × (p ≢ common_lisp)) (filter is_other (package_names s))
 others_are s = λ k d lt.
     let both : (All (λ p. IsPackage s p) (filter is_other (package_names s))) × (All (λ p. is_other p ≡ true) (filter is_other (package_names s))) = (
-      All-filter is_other (λ p. IsPackage s p) (package_names s) (All-weaker (λ p. list_any (eq p) (package_names s) ≡ true) (λ p. IsPackage s p) (λ p any. contains_key-keys s p ∙ any) (package_names s) (all_any (package_names s))),
+      All-filter is_other (λ p. IsPackage s p) (package_names s) (packages_are s),
       filter_passes is_other (package_names s),
     ) in
     (both.0 k d lt, unequal_names _ common_lisp (turned _ (both.1 k d lt)))

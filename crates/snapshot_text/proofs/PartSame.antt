@@ -1,5 +1,5 @@
 -- Packages that are a part of each other are the same; and the first packages are a part of all sound ones.
---     same_parts, first_part
+--     same_parts, first_part, where_first
 use Rattle.std.proofs.Common.{◌≡◌, ◌⊎◌, Bool, true, false, cond, Option, None, Some, [], ◌∷◌, is_some, refl, sym, ap, subst, ◌∙◌, inl, inr}
 use Rattle.std.specs.Prelude.{IsTrue, codes, bytes_eq}
 use Rattle.std.specs.List.{list_any}
@@ -83,7 +83,7 @@ one_of_three false true d x y z k e = inr (inl (refl, sym (same_some y k e)))
 one_of_three false false true x y z k e = inr (inr refl)
 one_of_three false false false x y z k e = absurd (none_some k e)
 
-where_first : (p : Name) (k : Package) → finite.get initial p ≡ Some k → (p ≡ common_lisp) ⊎ (((p ≡ common_lisp_user) × (k ≡ user_package)) ⊎ (p ≡ keyword))
+pub where_first : (p : Name) (k : Package) → finite.get initial p ≡ Some k → (p ≡ common_lisp) ⊎ (((p ≡ common_lisp_user) × (k ≡ user_package)) ⊎ (p ≡ keyword))
 where_first p k e =
     elim (one_of_three (eq_by_cmp name_cmp p common_lisp) (eq_by_cmp name_cmp p common_lisp_user) (eq_by_cmp name_cmp p keyword) common_lisp_package user_package keyword_package k (sym (initial_at p) ∙ e)) [
       | inl is ↦ inl (tied_same p common_lisp is)

@@ -12,6 +12,13 @@
 //! - `package_parts` (over `own_parts`), `property_parts`, `table_parts`: a world made from data, by its own calls; `parts`:
 //!   texts, lists and numbers in data; `known`: which data may be stored
 //! - `error`: `SnapshotError`
+//!
+//! # Lemmas for the crates above
+//!
+//! - proofs/PackageLists.antt, proofs/OwnNames.antt: what the lists of packages and of their names say.
+//! - proofs/PartFinds.antt, proofs/PartMakes.antt, proofs/PartSteps.antt: packages that are a part of others, while they are made.
+//! - proofs/PartSame.antt, proofs/AllPackages.antt: where all is made, the packages are the same.
+//! - proofs/PropertyParts.antt: property lists, made one after the other.
 #![tactic(auto)]
 
 mod error;

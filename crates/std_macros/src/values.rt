@@ -111,7 +111,8 @@ fn headed_list(alloc: Global, name: &[u8], x: Datum) -> Result<Datum, AllocError
     ensures object { IfOk result (λ d. object_of d ≡ headed name.now (object_of x)) }
     ensures proper { is_proper x ≡ true → IfOk result (λ d. is_proper d ≡ true) }
 {
-    let mut items = Items::new(alloc);
+    let room = Vec::with_capacity(alloc, 2)?;
+    let mut items = Items::from_vec(room);
     items.push(symbol(alloc, name)?)?;
     items.push(x)?;
     Ok(Datum::List { items, tail: None })

@@ -1,5 +1,5 @@
 -- An input has one outcome, and a session that is cut short writes a front of it.
-use Rattle.std.proofs.Common.{◌≡◌, ◌⊎◌, ℕ, zero, suc, ◌+◌, ◌<◌, ◌≤◌, Bool, List, [], ◌++◌, Option, None, Some, inl, inr, refl, sym, ap, subst, ◌∙◌, arith, append-nil, append_assoc}
+use Rattle.std.proofs.Common.{◌≡◌, ◌⊎◌, ℕ, zero, suc, ◌+◌, ◌<◌, ◌≤◌, ◌≢◌, Bool, List, [], ◌∷◌, ◌++◌, drop, Option, None, Some, Err, inl, inr, refl, sym, ap, subst, ◌∙◌, arith, append-nil, append_assoc}
 use Rattle.std.specs.Option.{option_and_then, option_map}
 use Rattle.std.proofs.lemmas.Bool.{cases_eq, cases_lt}
 use Rattle.disk_trait.specs.Disk.{State}
@@ -13,12 +13,12 @@ use Rattle.prevalence_store.specs.declared.outcome.Ended.TheVariants.{End, Unrea
 use Rattle.prevalence_store.specs.declared.outcome.Ending.TheVariants as ending
 use Rattle.prevalence_store.specs.declared.outcome.Place.{Place}
 use Rattle.prevalence_store.specs.declared.outcome.Wanted.{Wanted}
-use Rattle.prevalence_store.specs.meaning.Acceptance.{read_in}
-use Rattle.prevalence_store.specs.meaning.Answers.{Progress, after_forms, last_line, one_form, one_form_more, onward}
-use Rattle.prevalence_store.specs.calls.Serve.{Ends, HasRead, IsAfter, IsUnwritten, Serves, ServesInput, ServesWanted, StaysRefused}
+use Rattle.prevalence_store.specs.meaning.Acceptance.{between, read_in}
+use Rattle.prevalence_store.specs.meaning.Answers.{Progress, after_forms, evaluated, last_line, one_form, one_form_more, onward}
+use Rattle.prevalence_store.specs.calls.Serve.{Ends, HasRead, IsAfter, IsUnwritten, Serves, ServesInput, ServesWanted, IsUnaccepted, StaysRefused, StaysStopped, pace_wanted}
 use Rattle.prevalence_store.specs.calls.Store.{StoreView}
 use Rattle.prevalence_store.specs.calls.Streams.{Writes}
-use Rattle.store_laws.specs.Outcomes.{BreaksOff, Completes, HasForms, IsByInput, IsEndBy, answers}
+use Rattle.store_laws.specs.Outcomes.{BreaksOff, Completes, EndsAtRefusal, HasForms, IsByInput, IsEndBy, StopsAtRefusal, answers}
 use Rattle.user_macros.specs.Functions.{Functions}
 
 module _ (functions : Functions) (world : WorldState) (mode : Mode) where
@@ -65,14 +65,23 @@ module _ (functions : Functions) (world : WorldState) (mode : Mode) where
     pub lines_are : q.lines ≡ p.lines ++ lines
     pub records_ : List LogRecord
     pub records_are : q.taken ≡ p.taken ++ records_
+    pub refusals : List ℕ
+    pub refusals_are : q.refused ≡ p.refused ++ refusals
 
   front_same : (p q : Progress) → p ≡ q → IsFrontOf p q
-  front_same p q same = subst (IsFrontOf p) same (record { lines = []; lines_are = sym (append-nil p.lines); records_ = []; records_are = sym (append-nil p.taken) })
+  front_same p q same = subst (IsFrontOf p) same (record {
+    lines = [];
+    lines_are = sym (append-nil p.lines);
+    records_ = [];
+    records_are = sym (append-nil p.taken);
+    refusals = [];
+    refusals_are = sym (append-nil p.refused);
+  })
 
   one_form_made : (p q : Progress) (made : Option Progress) → option_map (onward p) made ≡ Some q → IsFrontOf p q
   one_form_made p q (Some r) is =
       let same : onward p r ≡ q = cc in
-      subst (IsFrontOf p) same (record { lines = r.lines; lines_are = refl; records_ = r.taken; records_are = refl })
+      subst (IsFrontOf p) same (record { lines = r.lines; lines_are = refl; records_ = r.taken; records_are = refl; refusals = r.refused; refusals_are = refl })
   one_form_made p q None is = absurd (cc)
 
   front_both : (p q r : Progress) → IsFrontOf p q → IsFrontOf q r → IsFrontOf p r
@@ -81,6 +90,8 @@ module _ (functions : Functions) (world : WorldState) (mode : Mode) where
     lines_are = second.lines_are ∙ ap (λ l. l ++ second.lines) first.lines_are ∙ append_assoc p.lines first.lines second.lines;
     records_ = first.records_ ++ second.records_;
     records_are = second.records_are ∙ ap (λ l. l ++ second.records_) first.records_are ∙ append_assoc p.taken first.records_ second.records_;
+    refusals = first.refusals ++ second.refusals;
+    refusals_are = second.refusals_are ∙ ap (λ l. l ++ second.refusals) first.refusals_are ∙ append_assoc p.refused first.refusals second.refusals;
   }
 
   by_last : (p q : Progress) (before : Option Progress) → ((r : Progress) → before ≡ Some r → IsFrontOf p r) → option_and_then (one_form_more functions mode) before ≡ Some q → IsFrontOf p q
@@ -93,6 +104,43 @@ module _ (functions : Functions) (world : WorldState) (mode : Mode) where
     | inl same ↦ let here : after (suc m) text ≡ Some p = subst (λ k. after k text ≡ Some p) same few in front_same p q (cc)
     | inr other ↦ by_last p q (after m text) (λ r is. fewer_first text n m p r (omega arith) few is) many
   ]
+
+  -- ---- the first form that is refused
+
+  none_of : (xs ys : List ℕ) → xs ++ ys ≡ [] → xs ≡ []
+  none_of [] ys is = refl
+  none_of (x ∷ xs) ys is = absurd (cc)
+
+  -- no form before the first that is refused is
+  not_before : (text : List ℕ) (n m : ℕ) (far other : Progress) → EndsAtRefusal functions world mode text n far → EndsAtRefusal functions world mode text m other → m ≤ n
+  not_before text n m far other one two = elim (cases_lt n m) [
+    | inl fewer ↦
+        let grown = fewer_first text n two.accepted far two.before (omega (arith, fewer, two.one_more)) one.far_is two.before_is in
+        absurd (one.refused (none_of far.refused grown.refusals (sym grown.refusals_are ∙ two.none_refused)))
+    | inr within ↦ within
+  ]
+
+  pub one_refusal : (text : List ℕ) (n m : ℕ) (far other : Progress) → EndsAtRefusal functions world mode text n far → EndsAtRefusal functions world mode text m other → (n ≡ m) × (far ≡ other)
+  one_refusal text n m far other one two =
+      let first = not_before text n m far other one two in
+      let second = not_before text m n other far two one in
+      let same : n ≡ m = omega arith in
+      let here : after m text ≡ Some far = subst (λ k. after k text ≡ Some far) same one.far_is in
+      let there = two.far_is in
+      (same, cc)
+
+  -- the last of some forms is refused
+  refused_last : (text : List ℕ) (n m : ℕ) (far before : Progress) (number start : ℕ) → n ≡ m + 1 → after n text ≡ Some far → after m text ≡ Some before
+      → IsUnaccepted functions before.world mode before.rest number start → far.refused ≡ before.refused ++ number ∷ []
+  refused_last text n m far before number start one_more far_is before_is refuses =
+      let one : Progress = evaluated before.world mode (between start refuses.stop before.rest) (drop refuses.next before.rest) (Err number) in
+      let reads : one_form functions before.world mode before.rest (read_in functions before.world mode before.rest) ≡ Some one =
+      ap (one_form functions before.world mode before.rest) refuses.reads
+      ∙ (λ i. Some (evaluated before.world mode (between start refuses.stop before.rest) (drop refuses.next before.rest) (refuses.refused i))) in
+      let there : after (suc m) text ≡ Some (onward before one) = ap (option_and_then (one_form_more functions mode)) before_is ∙ ap (option_map (onward before)) reads in
+      let same : suc m ≡ n = omega (arith, one_more) in
+      let both : ◌≡◌ {A = Option Progress} (Some far) (Some (onward before one)) = sym far_is ∙ sym (ap (λ k. after k text) same) ∙ there in
+      ap (λ (o : Option Progress). elim o [ None ↦ [] | Some p ↦ p.refused ]) both
 
   -- the answers to fewer forms, and to what the reader refuses after them
   answers_first : (text : List ℕ) (n m : ℕ) (far p : Progress) → HasForms functions world mode text n far → after m text ≡ Some p
@@ -177,7 +225,7 @@ module _ (functions : Functions) {D R : Type 0} (state : D → State) (old new :
         let read = over.reads input refl in
         subst (λ text. CompletesOver wanted.mode held written text End) (all_read input over.text read.0 read.1 read.2.0) (ended_over wanted.mode held written over.text wanted.group over.serves)
     completed (Unreadable number place) wants by_input = by_rest read.2.0 where
-      over : ServesInput functions state wanted.group wanted.snapshot_every old new w wanted.mode (Some input) has held written (ending.Reader number)
+      over : ServesInput functions state wanted.group (pace_wanted wanted) old new w wanted.mode (Some input) has held written (ending.Reader number)
       over = wants.0
 
       read : (left : List ℕ) × (input ≡ over.text ++ left) × HasRead functions state old new w wanted.mode over.text held written (ending.Reader number) over.serves left has
@@ -188,11 +236,66 @@ module _ (functions : Functions) {D R : Type 0} (state : D → State) (old new :
           subst (λ text. CompletesOver wanted.mode held written text (Unreadable number place)) (all_read input over.text read.0 read.1 none)
           (refused_over wanted.mode held written over.text over.text wanted.group number place over.serves over.serves.far.rest over.serves.far_is over.serves.ends.at over.serves.ends.reads)
       by_rest (inr stays) =
-          let here = stays read.0 in
+          let here = stays.1 read.0 in
           subst (λ text. CompletesOver wanted.mode held written text (Unreadable number place)) (sym read.1)
-          (refused_over wanted.mode held written over.text (over.text ++ read.0) wanted.group number place over.serves (over.serves.far.rest ++ read.0) here.0 here.1.0 here.1.1)
+          (refused_over wanted.mode held written over.text (over.text ++ read.0) wanted.group number place over.serves (over.serves.far.rest ++ read.0) here.0 stays.0 here.1)
     completed (Unaccepted number place) wants by_input = absurd by_input
     completed (Store number) wants by_input = absurd by_input
+
+  -- ---- a strict session that ended at a refused form
+
+  abbrev StopsOver : Mode → (held written : Option (List ℕ)) → List ℕ → Type 0
+  StopsOver mode held written text = (forms : ℕ) × (far : Progress) × StopsAtRefusal functions state old new w mode text held written forms far
+
+  some_refused : (before : List ℕ) (number : ℕ) (refusals : List ℕ) → refusals ≡ before ++ number ∷ [] → refusals ≢ []
+  some_refused [] number refusals is none = absurd (cc)
+  some_refused (x ∷ xs) number refusals is none = absurd (cc)
+
+  module _ (wanted : Wanted) (input : List ℕ) (has held written : Option (List ℕ)) where
+    pub stopped : (number : ℕ) (place : Place) → ServesWanted functions state wanted old new w (Some input) has held written (Unaccepted number place) → StopsOver wanted.mode held written input
+    stopped number place (strict, text, stops, reads, stays) = by_rest (stays input refl) where
+      refused : stops.far.refused ≢ []
+      refused = some_refused stops.before.refused number stops.far.refused
+          (refused_last functions w wanted.mode text stops.forms stops.accepted stops.far stops.before number stops.start stops.one_more stops.advances.far_is stops.before_is stops.refuses)
+
+      read : (left : List ℕ) × (input ≡ text ++ left) × (has ≡ Some left)
+      read = reads input refl
+
+      by_rest : (input ≡ text) ⊎ StaysStopped functions state old new w wanted.mode text held written (pace_wanted wanted) 0 0 number place stops → StopsOver wanted.mode held written input
+      by_rest (inl same) = subst (StopsOver wanted.mode held written) (sym same) (
+        stops.forms,
+        stops.far,
+        record {
+          first = record {
+            far_is = stops.advances.far_is;
+            refused = refused;
+            accepted = stops.accepted;
+            one_more = stops.one_more;
+            before = stops.before;
+            before_is = stops.before_is;
+            none_refused = stops.none_refused;
+          };
+          output = stops.advances.lines;
+          after = stops.advances.after;
+        },
+      )
+      by_rest (inr still) = subst (StopsOver wanted.mode held written) (sym read.1) (
+        stops.forms,
+        record stops.far { rest = stops.far.rest ++ read.0 },
+        record {
+          first = record {
+            far_is = still.0 read.0;
+            refused = refused;
+            accepted = stops.accepted;
+            one_more = stops.one_more;
+            before = record stops.before { rest = stops.before.rest ++ read.0 };
+            before_is = still.1 read.0;
+            none_refused = stops.none_refused;
+          };
+          output = stops.advances.lines;
+          after = after_longer stops.far read.0 stops.advances.after;
+        },
+      )
 
   -- ---- a session that was cut short
 
@@ -286,9 +389,9 @@ module _ (functions : Functions) {D R : Type 0} (state : D → State) (old new :
           → last_line (read_in functions served.far.world mode served.far.rest) ≡ last_line (read_in functions served.far.world mode (served.far.rest ++ left))
       same_last (inl none) = ap (λ l. last_line (read_in functions served.far.world mode l)) (sym (ap (λ l. served.far.rest ++ l) none ∙ append-nil served.far.rest))
       same_last (inr stays) =
-          let here = (stays.1 []).1 in
-          let there = (stays.1 left).1 in
-          ap last_line (subst (λ l. read_in functions served.far.world mode l ≡ refused stays.0 here.0) (append-nil served.far.rest) here.1) ∙ ap last_line (sym there.1)
+          let here = (stays.1.1 []).1 in
+          let there = (stays.1.1 left).1 in
+          ap last_line (sym (ap (read_in functions served.far.world mode) (append-nil served.far.rest)) ∙ here ∙ sym there)
 
       front : IsWithin ⊎ IsInLast → (rest : List ℕ) × (answers functions mode far ≡ bytes ++ rest)
       front (inl (rest, is)) =
@@ -333,4 +436,21 @@ both_complete functions state other_state old new before later w mode other_mode
       one.2,
       subst (λ n. Completes functions other_state before later w mode input others_held others_written others_ended n one.1) equal.0
           (subst (λ p. Completes functions other_state before later w mode input others_held others_written others_ended other.0 p) equal.1 moved),
+    )
+
+-- two strict sessions that ended at a refused form of the same input
+pub both_stop : (functions : Functions) {D R E S : Type 0} (state : D → State) (other_state : E → State) (old new : StoreView D R) (before later : StoreView E S) (w : WorldState) (mode other_mode : Mode)
+    (input : List ℕ) (held written others_held others_written : Option (List ℕ)) → other_mode ≡ mode
+    → (forms : ℕ) × (far : Progress) × StopsAtRefusal functions state old new w mode input held written forms far
+    → (forms : ℕ) × (far : Progress) × StopsAtRefusal functions other_state before later w other_mode input others_held others_written forms far
+    → (forms : ℕ) × (far : Progress) × StopsAtRefusal functions state old new w mode input held written forms far
+    × StopsAtRefusal functions other_state before later w mode input others_held others_written forms far
+both_stop functions state other_state old new before later w mode other_mode input held written others_held others_written same one other =
+    let moved = subst (λ m. StopsAtRefusal functions other_state before later w m input others_held others_written other.0 other.1) same other.2 in
+    let equal = one_refusal functions w mode input other.0 one.0 other.1 one.1 moved.first one.2.first in (
+      one.0,
+      one.1,
+      one.2,
+      subst (λ n. StopsAtRefusal functions other_state before later w mode input others_held others_written n one.1) equal.0
+          (subst (λ p. StopsAtRefusal functions other_state before later w mode input others_held others_written other.0 p) equal.1 moved),
     )

@@ -1,6 +1,6 @@
 -- What a session over an input comes to: it is decided by the world in which the session begins, its mode and the input, whatever the
 -- disk, the pace of its snapshots, and whether it has groups.
-use Rattle.std.specs.Prelude.{◌≡◌, ℕ, ◌≤◌, List, ◌++◌, Option, None, Some}
+use Rattle.std.specs.Prelude.{◌≡◌, ◌≢◌, ℕ, ◌+◌, ◌≤◌, List, [], ◌++◌, Option, None, Some}
 use Rattle.disk_trait.specs.Disk.{State}
 use Rattle.gate_log.specs.Layout.{LogRecord}
 use Rattle.lisp_reading.specs.Reading.{Outcome as Reading, form, empty, refused}
@@ -20,6 +20,16 @@ use Rattle.user_macros.specs.Functions.{Functions}
 pub record HasForms (functions : Functions) (world : WorldState) (mode : Mode) (input : List ℕ) (forms : ℕ) (far : Progress) : Type 0 where
   pub far_is : after_forms functions forms world mode input ≡ Some far
   pub no_more : one_form functions far.world mode far.rest (read_in functions far.world mode far.rest) ≡ None
+
+-- The first form of the input whose evaluation is refused is the last of so many, and this came of them.
+pub record EndsAtRefusal (functions : Functions) (world : WorldState) (mode : Mode) (input : List ℕ) (forms : ℕ) (far : Progress) : Type 0 where
+  pub far_is : after_forms functions forms world mode input ≡ Some far
+  pub refused : far.refused ≢ []
+  pub accepted : ℕ
+  pub one_more : forms ≡ accepted + 1
+  pub before : Progress
+  pub before_is : after_forms functions accepted world mode input ≡ Some before
+  pub none_refused : before.refused ≡ []
 
 -- the answers to an input that has just these forms: the line of each, and that of a refusal of the reader
 abbrev pub answers : Functions → Mode → Progress → List ℕ
@@ -46,6 +56,13 @@ module _ (functions : Functions) {D R : Type 0} (state : D → State) (old new :
     pub all : HasForms functions world mode input forms far
     pub ends : IsEndBy (read_in functions far.world mode far.rest) ended
     pub output : Writes held written (answers functions mode far)
+    pub after : IsAfter functions state old new world far
+
+  -- A strict session over this input ended at the first form that is refused: it wrote the lines of the forms up to that one, and left
+  -- the store with the world and the records after them.
+  pub record StopsAtRefusal (forms : ℕ) (far : Progress) : Type 0 where
+    pub first : EndsAtRefusal functions world mode input forms far
+    pub output : Writes held written far.lines
     pub after : IsAfter functions state old new world far
 
   -- A session over this input, which has these forms, was cut short: it took the first so many of them, wrote a front of the answers

@@ -7,7 +7,7 @@
 //! - `one_outcome`: sessions over the same input, from the same world on, that come to the end of it write the same bytes and leave
 //!   the same world, whatever the disk, the pace of snapshots, groups or not; what a session wrote that was cut short is the front
 //!   of that (`specs/Outcomes.antt`)
-//! - `groups_change_nothing`: so a session with groups gives what one without them gives
+//! - `groups_change_nothing`: so a session with groups gives what one without them gives, also a strict one that ends at a refused form
 //! - `version_1_opens`: a store that is opened on files of version 1 has the world that they meant to version 1
 //!
 //! The lemmas in `proofs` are of this crate alone: `Events`, `Outcomes`.

@@ -30,9 +30,9 @@ abbrev pub ends_at : Outcome → ℕ → Bool
 ends_at (form x start end next) n = end == n
 ends_at _ n = false
 
--- whether a text is read whole, as one form: what is too long or too deep is not
+-- whether a form is read on a line of its own: what is too long or too deep is not
 unfoldable pub is_form : Table → List ℕ → Bool
-is_form t text = ends_at (reads (form_setting t) text) (length text)
+is_form t text = ends_at (reads (form_setting t) (line text)) (length text)
 
 module _ (t : Table) (x : Symbol) where
   -- the form of a property, if it is one

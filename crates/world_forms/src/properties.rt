@@ -9,7 +9,7 @@ ghost use Rattle.plist_state.specs.Readers.{borrowed_symbol, borrowed_symbols};
 ghost use Rattle.plist_state.specs.Shown.{property_of};
 ghost use Rattle.canon_printer.specs.Written.{Writes};
 ghost use Rattle.world_forms.specs.Tokens.{line, symbol_text, quoted_text, told_text};
-ghost use Rattle.world_forms.specs.Properties.{form_setting, ends_at, property_form, is_form, property_line, left_out_line, plist_lines, plist_left_out, property_lines, left_out_lines};
+ghost use Rattle.world_forms.specs.Properties.{form_setting, ends_at, property_form, property_line, left_out_line, plist_lines, plist_left_out, property_lines, left_out_lines};
 
 use crate::texts::{push_symbol, push_told, push_value};
 use canon_printer::print;
@@ -90,19 +90,19 @@ fn ends_at(read: &ReadOutcome, len: usize) -> bool
     }
 }
 
-/// Whether a text is read whole, as one form. What is too long or too deep for a form is not.
-#[tactic(auto, unfolding(crate::specs::Properties::is_form))]
+/// Whether a line is read as one form that ends at this place. What is too long or too deep for a form is not.
 fn is_form(
     alloc: Global,
     readtable: &Readtable,
     packages: &Packages,
-    text: &[u8],
+    line: &[u8],
+    end: usize,
 ) -> Result<bool, AllocError>
     requires { readtable.now ≡ standard }
-    ensures { IfOk result (λ is. is ≡ is_form packages.now.0 text.now) }
+    ensures { IfOk result (λ is. is ≡ ends_at (reads (form_setting packages.now.0) line.now) end) }
 {
-    let read = read_form(alloc, readtable, packages, text)?;
-    Ok(ends_at(&read, text.len()))
+    let read = read_form(alloc, readtable, packages, line)?;
+    Ok(ends_at(&read, end))
 }
 
 /// A symbol and an indicator of it.
@@ -139,7 +139,7 @@ fn push_names(
 }
 
 /// Adds the form that sets a property of a symbol, or the line of one that no form can set to `left_out`.
-#[tactic(auto, unfolding(crate::specs::Properties::property_line, crate::specs::Properties::left_out_line))]
+#[tactic(auto, unfolding(crate::specs::Properties::is_form, crate::specs::Properties::property_line, crate::specs::Properties::left_out_line))]
 fn push_property(
     alloc: Global,
     text: &mut Vec<u8>,
@@ -157,10 +157,11 @@ fn push_property(
         (left_out_line packages.now.0 (borrowed_symbol symbol.now) (property_of property.now))) }
 {
     let (home, name) = symbol;
-    let form = form_of(alloc, packages, home, name, property)?;
-    if is_form(alloc, readtable, packages, form.as_slice())? {
+    let mut form = form_of(alloc, packages, home, name, property)?;
+    let end = form.len();
+    form.push(b'\n')?;
+    if is_form(alloc, readtable, packages, form.as_slice(), end)? {
         text.extend_from_slice(form.as_slice())?;
-        text.push(b'\n')?;
         return Ok(());
     }
     push_names(left_out, home, name, property)

@@ -1,5 +1,7 @@
 -- The printed text of each atom that is one token: the marks that it spells, and what they mean.
-use Rattle.std.proofs.Common.{◌≡◌, ℕ, ◌<◌, ◌^◌, ℤ, Bool, true, false, not, ◌&&◌, List, [], ◌∷◌, ◌++◌, append_assoc, Some, Result, Ok, refl, sym, ap, ◌∙◌, arith}
+--     symbol_reads, integer_reads, ratio_reads      as it is printed
+--     unqualified, as_keyword, internal      a symbol, with its names as they are printed or between bars
+use Rattle.std.proofs.Common.{◌≡◌, ℕ, ◌<◌, ◌^◌, ℤ, Bool, true, false, not, ◌&&◌, List, [], ◌∷◌, ◌++◌, append_assoc, Some, Result, Ok, refl, sym, ap, subst, ◌∙◌, arith}
 use Rattle.std.specs.Prelude.{if◌then◌else◌, codes, FitsSigned}
 use Rattle.std.specs.List.{list_all}
 use Rattle.std.specs.Fmt.{signed_decimal}
@@ -12,7 +14,7 @@ use Rattle.std.proofs.lemmas.List.Elements.{All-nil, All-cons}
 use Rattle.lisp_object.specs.Object.{Object, integer, rational, symbol}
 use Rattle.lisp_object.specs.Lowest.{IsLowest}
 use Rattle.token_scan.specs.declared.mark.Mark.{Mark}
-use Rattle.token_scan.specs.declared.mark.Mark.TheVariants.{Plain}
+use Rattle.token_scan.specs.declared.mark.Mark.TheVariants.{Plain, Bar}
 use Rattle.token_meaning.specs.declared.token.TokenName.TheVariants.{Unqualified, Keyword, External, Internal}
 use Rattle.token_meaning.specs.Numerals.{is_empty}
 use Rattle.token_meaning.specs.Numbers.{is_point, number_of}
@@ -20,18 +22,31 @@ use Rattle.token_meaning.specs.Folding.{in_upper_case}
 use Rattle.token_meaning.specs.Meanings.{Meaning, number, name, is_plain as is_plain_mark, name_of, meaning_of}
 use Rattle.package_table.specs.Table.{Name, Table, IsSound, IsPresent, keyword}
 use Rattle.package_table.specs.Lookup.{is_symbol, is_external}
-use Rattle.canon_printer.specs.Names.{printed_name}
+use Rattle.package_table.specs.Resolving.{found_at, resolution, external_resolution, internal_resolution}
+use Rattle.canon_printer.specs.Names.{escaped, is_escaped_in_bars, printed_name}
 use Rattle.canon_printer.specs.Written.{printed_ratio}
 use Rattle.canon_printer.specs.Printed.{is_accessible, printed}
 use Rattle.canon_printer.proofs.Resolved.{accessible_resolved, home_there, external_resolved, internal_resolved}
 use Rattle.lisp_reading.specs.declared.told.Told.{Told}
 use Rattle.lisp_reading.specs.declared.told.Told.TheVariants.{Object as told_object}
 use Rattle.lisp_reading.specs.Naming.{symbol_at, symbol_in, told_of}
-use Rattle.world_text.proofs.Marked.{plain_marks, name_marks, printed_marks}
+use Rattle.world_text.proofs.Marked.{plain_marks, name_marks, quoted_marks, printed_marks}
 use Rattle.world_text.proofs.Characters.{in_number, is_kept, digit_kept, in_number_below}
-use Rattle.world_text.proofs.Spelling.{IsAscii, begins_token, Spelled, spelled_both, plain_spelled, name_spelled, kept_starts, starts_both, name_starts}
+use Rattle.world_text.proofs.Spelling.{IsAscii, barred_spelled, begins_token, Spelled, spelled_both, plain_spelled, name_spelled, kept_starts, starts_both, name_starts}
 use Rattle.world_text.proofs.Numbers.{integer_given, ratio_is_given, integer_in_number, ratio_in_number, some_no_point, in_number_ascii, integer_some, ratio_some}
-use Rattle.world_text.proofs.Names.{BeginsName, means_name, begins_both, IsNameMarks, is_name, alone, not_empty, keyworded, prefixed, twice_prefixed, plain_folded, plain_characters}
+use Rattle.world_text.proofs.Names.{BeginsName, means_name, begins_both, IsNameMarks, is_name, quoted_name, alone, not_empty, keyworded, prefixed, twice_prefixed, plain_folded, plain_characters}
+
+-- the text spells marks that stand for the name
+pub record IsNameText (own text : List ℕ) (marks : List Mark) : Type 0 where
+  pub spelled : Spelled text marks
+  pub starts : begins_token text ≡ true
+  pub stands : IsNameMarks own marks
+
+pub printed_text : (own : List ℕ) → IsAscii own → IsNameText own (printed_name own) (name_marks own)
+printed_text own ascii = record { spelled = name_spelled own ascii; starts = name_starts own ascii; stands = is_name own ascii }
+
+pub barred_text : (own : List ℕ) → IsAscii own → IsNameText own (codes "|" ++ escaped is_escaped_in_bars own ++ codes "|") (Bar ∷ (quoted_marks own ++ Bar ∷ []))
+barred_text own ascii = record { spelled = barred_spelled own ascii; starts = refl; stands = quoted_name own }
 
 module _ (t : Table) (current : Name) where
   -- what these marks mean, in capital letters
@@ -103,88 +118,90 @@ module _ (t : Table) (current : Name) where
   colons : Spelled (codes "::") (Plain 58 ∷ Plain 58 ∷ [])
   colons = spelled_both (codes ":") (codes ":") (Plain 58 ∷ []) (Plain 58 ∷ []) colon colon
 
-  -- ---- symbols
+  -- ---- symbols, by the text of a name
+
+  module _ (own : Name) (own_text : List ℕ) (own_marks : List Mark) (last : IsNameText own own_text own_marks) where
+    pub unqualified : (home : Name) → resolution t current own ≡ Ok (found_at home) → ReadsAs own_text own_marks (symbol home own)
+    unqualified home found = record {
+      spelled = last.spelled;
+      starts = last.starts;
+      some = not_empty own_marks last.stands.starts;
+      means = name_meant own_marks (name (Unqualified own)) (symbol home own) last.stands.folded last.stands.starts (alone own own_marks last.stands)
+          (ap (λ r. symbol_in own r) found);
+    }
+
+    pub as_keyword : ReadsAs (codes ":" ++ own_text) (Plain 58 ∷ own_marks) (symbol keyword own)
+    as_keyword = record {
+      spelled = spelled_both (codes ":") own_text (Plain 58 ∷ []) own_marks colon last.spelled;
+      starts = refl;
+      some = refl;
+      means = name_meant (Plain 58 ∷ own_marks) (name (Keyword own)) (symbol keyword own) (ap (λ (ms : List Mark). Plain 58 ∷ ms) last.stands.folded)
+          (record { mark = Plain 58; more = own_marks; is = refl; passes = refl }) (keyworded own own_marks last.stands) refl;
+    }
+
+    -- after the name of a package
+    module _ (prefix : Name) (front_text : List ℕ) (front : List Mark) (first : IsNameText prefix front_text front) where
+      front_marks : (home : Name) (colons : List Mark) (meaning : Meaning) → in_upper_case colons ≡ colons → name_of (front ++ (colons ++ own_marks)) ≡ Ok meaning
+          → told_of t current (Ok meaning) ≡ Ok (told_object (symbol home own)) → meant ((front ++ colons) ++ own_marks) ≡ Ok (told_object (symbol home own))
+      front_marks home colons meaning kept is found =
+          ap meant (append_assoc front colons own_marks)
+          ∙ name_meant (front ++ (colons ++ own_marks)) meaning (symbol home own)
+          (fold_both front (colons ++ own_marks) first.stands.folded (fold_both colons own_marks kept last.stands.folded))
+          (begins_both front (colons ++ own_marks) first.stands.starts) is found
+
+      front_some : (colons : List Mark) → is_empty ((front ++ colons) ++ own_marks) ≡ false
+      front_some colons =
+          not_empty ((front ++ colons) ++ own_marks) (begins_both (front ++ colons) own_marks (begins_both front colons first.stands.starts))
+
+      external : (home : Name) → external_resolution t prefix own ≡ Ok home → ReadsAs ((front_text ++ codes ":") ++ own_text) ((front ++ Plain 58 ∷ []) ++ own_marks) (symbol home own)
+      external home found = record {
+        spelled = spelled_both (front_text ++ codes ":") own_text (front ++ Plain 58 ∷ []) own_marks
+            (spelled_both front_text (codes ":") front (Plain 58 ∷ []) first.spelled colon) last.spelled;
+        starts = starts_both (front_text ++ codes ":") own_text (starts_both front_text (codes ":") first.starts);
+        some = front_some (Plain 58 ∷ []);
+        means = front_marks home (Plain 58 ∷ []) (name (External prefix own)) refl (prefixed prefix own front own_marks first.stands last.stands)
+            (ap (λ r. symbol_at own r) found);
+      }
+
+      pub internal : (home : Name) → internal_resolution t prefix own ≡ Ok (found_at home)
+          → ReadsAs ((front_text ++ codes "::") ++ own_text) ((front ++ Plain 58 ∷ Plain 58 ∷ []) ++ own_marks) (symbol home own)
+      internal home found = record {
+        spelled = spelled_both (front_text ++ codes "::") own_text (front ++ Plain 58 ∷ Plain 58 ∷ []) own_marks
+            (spelled_both front_text (codes "::") front (Plain 58 ∷ Plain 58 ∷ []) first.spelled colons) last.spelled;
+        starts = starts_both (front_text ++ codes "::") own_text (starts_both front_text (codes "::") first.starts);
+        some = front_some (Plain 58 ∷ Plain 58 ∷ []);
+        means = front_marks home (Plain 58 ∷ Plain 58 ∷ []) (name (Internal prefix own)) refl (twice_prefixed prefix own front own_marks first.stands last.stands)
+            (ap (λ r. symbol_in own r) found);
+      }
+
+  -- ---- symbols, as they are printed
 
   module _ (sound : IsSound t) (home own : Name) (present : IsPresent t home own home) where
-    home_ascii : IsAscii home
+    pub home_ascii : IsAscii home
     home_ascii = (sound.within.package_names home (home_there t home own sound present)).ascii
 
-    own_ascii : IsAscii own
+    pub own_ascii : IsAscii own
     own_ascii = (sound.within.symbol_names home own home present).ascii
 
-    its_home : IsNameMarks home (name_marks home)
-    its_home = is_name home home_ascii
+    abbrev its_home : IsNameText home (printed_name home) (name_marks home)
+    its_home = printed_text home home_ascii
 
-    its_name : IsNameMarks own (name_marks own)
-    its_name = is_name own own_ascii
-
-    home_text : Spelled (printed_name home) (name_marks home)
-    home_text = name_spelled home home_ascii
-
-    own_text : Spelled (printed_name own) (name_marks own)
-    own_text = name_spelled own own_ascii
-
-    bare : is_accessible t current home own ≡ true → ReadsAs (printed_name own) (name_marks own) (symbol home own)
-    bare e = record {
-      spelled = own_text;
-      starts = name_starts own own_ascii;
-      some = not_empty (name_marks own) its_name.starts;
-      means = name_meant (name_marks own) (name (Unqualified own)) (symbol home own) its_name.folded its_name.starts (alone own (name_marks own) its_name)
-          (ap (λ r. symbol_in own r) (accessible_resolved t current home own e));
-    }
-
-    as_keyword : bytes_eq home keyword ≡ true → ReadsAs (codes ":" ++ printed_name own) (Plain 58 ∷ name_marks own) (symbol home own)
-    as_keyword e =
-        let same : home ≡ keyword = (bytes_eq-Decides home keyword).0 e in
-        record {
-          spelled = spelled_both (codes ":") (printed_name own) (Plain 58 ∷ []) (name_marks own) colon own_text;
-          starts = refl;
-          some = refl;
-          means = name_meant (Plain 58 ∷ name_marks own) (name (Keyword own)) (symbol home own) (ap (λ (ms : List Mark). Plain 58 ∷ ms) its_name.folded)
-              (record { mark = Plain 58; more = name_marks own; is = refl; passes = refl }) (keyworded own (name_marks own) its_name)
-              (λ i. Ok (told_object (symbol (sym same i) own)));
-        }
-
-    front_marks : (colons : List Mark) (meaning : Meaning) → in_upper_case colons ≡ colons → name_of (name_marks home ++ (colons ++ name_marks own)) ≡ Ok meaning
-        → told_of t current (Ok meaning) ≡ Ok (told_object (symbol home own)) → meant ((name_marks home ++ colons) ++ name_marks own) ≡ Ok (told_object (symbol home own))
-    front_marks colons meaning kept is found =
-        ap meant (append_assoc (name_marks home) colons (name_marks own))
-        ∙ name_meant (name_marks home ++ (colons ++ name_marks own)) meaning (symbol home own)
-        (fold_both (name_marks home) (colons ++ name_marks own) its_home.folded (fold_both colons (name_marks own) kept its_name.folded))
-        (begins_both (name_marks home) (colons ++ name_marks own) its_home.starts) is found
-
-    front_some : (colons : List Mark) → is_empty ((name_marks home ++ colons) ++ name_marks own) ≡ false
-    front_some colons =
-        not_empty ((name_marks home ++ colons) ++ name_marks own) (begins_both (name_marks home ++ colons) (name_marks own) (begins_both (name_marks home) colons its_home.starts))
-
-    as_external : is_external t home own ≡ true → ReadsAs ((printed_name home ++ codes ":") ++ printed_name own) ((name_marks home ++ Plain 58 ∷ []) ++ name_marks own) (symbol home own)
-    as_external e = record {
-      spelled = spelled_both (printed_name home ++ codes ":") (printed_name own) (name_marks home ++ Plain 58 ∷ []) (name_marks own)
-          (spelled_both (printed_name home) (codes ":") (name_marks home) (Plain 58 ∷ []) home_text colon) own_text;
-      starts = starts_both (printed_name home ++ codes ":") (printed_name own) (starts_both (printed_name home) (codes ":") (name_starts home home_ascii));
-      some = front_some (Plain 58 ∷ []);
-      means = front_marks (Plain 58 ∷ []) (name (External home own)) refl (prefixed home own (name_marks home) (name_marks own) its_home its_name)
-          (ap (λ r. symbol_at own r) (external_resolved t home own sound present e));
-    }
-
-    as_internal : ReadsAs ((printed_name home ++ codes "::") ++ printed_name own) ((name_marks home ++ Plain 58 ∷ Plain 58 ∷ []) ++ name_marks own) (symbol home own)
-    as_internal = record {
-      spelled = spelled_both (printed_name home ++ codes "::") (printed_name own) (name_marks home ++ Plain 58 ∷ Plain 58 ∷ []) (name_marks own)
-          (spelled_both (printed_name home) (codes "::") (name_marks home) (Plain 58 ∷ Plain 58 ∷ []) home_text colons) own_text;
-      starts = starts_both (printed_name home ++ codes "::") (printed_name own) (starts_both (printed_name home) (codes "::") (name_starts home home_ascii));
-      some = front_some (Plain 58 ∷ Plain 58 ∷ []);
-      means = front_marks (Plain 58 ∷ Plain 58 ∷ []) (name (Internal home own)) refl (twice_prefixed home own (name_marks home) (name_marks own) its_home its_name)
-          (ap (λ r. symbol_in own r) (internal_resolved t home own sound present));
-    }
+    abbrev its_name : IsNameText own (printed_name own) (name_marks own)
+    its_name = printed_text own own_ascii
 
     by_case : (a k e : Bool) → is_accessible t current home own ≡ a → bytes_eq home keyword ≡ k → (is_symbol t home own && is_external t home own) ≡ e
         → ReadsAs ((if a then [] else (if k then codes ":" else (if e then printed_name home ++ codes ":" else printed_name home ++ codes "::"))) ++ printed_name own)
         ((if a then [] else (if k then Plain 58 ∷ [] else (if e then name_marks home ++ Plain 58 ∷ [] else name_marks home ++ Plain 58 ∷ Plain 58 ∷ []))) ++ name_marks own)
         (symbol home own)
-    by_case true k e f g h = bare f
-    by_case false true e f g h = as_keyword g
-    by_case false false true f g h = as_external (and_parts (is_symbol t home own) (is_external t home own) h).1
-    by_case false false false f g h = as_internal
+    by_case true k e f g h = unqualified own (printed_name own) (name_marks own) its_name home (accessible_resolved t current home own f)
+    by_case false true e f g h =
+        subst (λ (p : Name). ReadsAs (codes ":" ++ printed_name own) (Plain 58 ∷ name_marks own) (symbol p own)) (sym ((bytes_eq-Decides home keyword).0 g))
+        (as_keyword own (printed_name own) (name_marks own) its_name)
+    by_case false false true f g h =
+        external own (printed_name own) (name_marks own) its_name home (printed_name home) (name_marks home) its_home home
+        (external_resolved t home own sound present (and_parts (is_symbol t home own) (is_external t home own) h).1)
+    by_case false false false f g h =
+        internal own (printed_name own) (name_marks own) its_name home (printed_name home) (name_marks home) its_home home (internal_resolved t home own sound present)
 
     pub symbol_reads : ReadsAs (printed t current (symbol home own)) (printed_marks t current (symbol home own)) (symbol home own)
     symbol_reads = by_case (is_accessible t current home own) (bytes_eq home keyword) (is_symbol t home own && is_external t home own) refl refl refl

@@ -17,7 +17,7 @@ use Rattle.token_scan.specs.Tokens.{ScannedBytes}
 use Rattle.token_meaning.specs.Numerals.{is_empty}
 use Rattle.package_table.specs.Table.{Name, Table as Packages}
 use Rattle.std_macros.specs.declared.kind.Standard.{Standard}
-use Rattle.std_macros.specs.declared.kind.Standard.TheVariants.{List as AList, String, Char, Vector, Uninterned}
+use Rattle.std_macros.specs.declared.kind.Standard.TheVariants.{List as AList, String, Char, Vector, Uninterned, Quote}
 use Rattle.lisp_reading.specs.declared.limits.Limits.{Limits}
 use Rattle.lisp_reading.specs.declared.found.Found.{Found}
 use Rattle.lisp_reading.specs.declared.found.Found.TheVariants.{Nothing as nothing, One as one, LoneDot as lone_dot}
@@ -91,6 +91,10 @@ module _ (limits : Limits) (packages : Packages) (current : Name) (functions : F
   unfolding run standard
   space_begun d at cs fits = alone_begun d at 32 cs fits refl
 
+  pub newline_begun : (d at : ℕ) (cs : List ℕ) → at < limits.text → begun d at (10 ∷ cs) ≡ Ok (nothing false, at + 1, cs)
+  unfolding run standard
+  newline_begun d at cs fits = alone_begun d at 10 cs fits refl
+
   -- the call of a standard function, and of one after `#`
   abbrev pub plain_call : ℕ → Standard → InvokedCall
   plain_call c kind = record { function = AStandard kind; character = c; sub = None; number = None }
@@ -102,6 +106,11 @@ module _ (limits : Limits) (packages : Packages) (current : Name) (functions : F
       → begun d at (40 ∷ cs) ≡ run standard limits (called under (limits.nesting - d) (inner under d) (plain_call 40 AList)) (at + 1) cs
   unfolding standard
   list_begun d at cs fits = alone_begun d at 40 cs fits refl
+
+  pub quote_begun : (d at : ℕ) (cs : List ℕ) → at < limits.text
+      → begun d at (39 ∷ cs) ≡ run standard limits (called under (limits.nesting - d) (inner under d) (plain_call 39 Quote)) (at + 1) cs
+  unfolding standard
+  quote_begun d at cs fits = alone_begun d at 39 cs fits refl
 
   pub text_begun : (d at : ℕ) (cs : List ℕ) → at < limits.text
       → begun d at (34 ∷ cs) ≡ run standard limits (called under (limits.nesting - d) (inner under d) (plain_call 34 String)) (at + 1) cs

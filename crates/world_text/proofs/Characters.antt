@@ -38,10 +38,10 @@ implied false b e f = absurd cc
 always : ℕ → Bool
 always c = true
 
-abbrev implies : (ℕ → Bool) → (ℕ → Bool) → ℕ → Bool
+abbrev pub implies : (ℕ → Bool) → (ℕ → Bool) → ℕ → Bool
 implies p q c = not (p c) || q c
 
-by_table : (p q : ℕ → Bool) → agree_below (implies p q) (λ c. true) 128 ≡ true → (c : ℕ) → c < 128 → p c ≡ true → q c ≡ true
+pub by_table : (p q : ℕ → Bool) → agree_below (implies p q) (λ c. true) 128 ≡ true → (c : ℕ) → c < 128 → p c ≡ true → q c ≡ true
 by_table p q table c below e = implied (p c) (q c) (agree_below_at (implies p q) (λ c. true) 128 c table below) e
 
 pub plain_kept : (c : ℕ) → c < 128 → goes_on_plain c ≡ true → (is_kept c && not (c == 58)) ≡ true

@@ -104,7 +104,7 @@ quoted_characters : (text : List ℕ) → characters (quoted_marks text ++ Bar �
 quoted_characters [] = refl
 quoted_characters (c ∷ cs) = ap (λ (ds : List ℕ). c ∷ ds) (quoted_characters cs)
 
-quoted_name : (text : List ℕ) → IsNameMarks text (Bar ∷ (quoted_marks text ++ Bar ∷ []))
+pub quoted_name : (text : List ℕ) → IsNameMarks text (Bar ∷ (quoted_marks text ++ Bar ∷ []))
 quoted_name text = record {
   unmarked = quoted_unmarked text;
   starts = record { mark = Bar; more = quoted_marks text ++ Bar ∷ []; is = refl; passes = refl };

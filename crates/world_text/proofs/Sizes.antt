@@ -28,7 +28,7 @@ quoted_count : (cs : List ℕ) → character_count (quoted_marks cs) ≡ length 
 quoted_count [] = refl
 quoted_count (c ∷ cs) = omega (arith, quoted_counts c (quoted_marks cs), quoted_count cs)
 
-barred_count : (cs : List ℕ) → character_count (Bar ∷ (quoted_marks cs ++ Bar ∷ [])) ≡ length cs
+pub barred_count : (cs : List ℕ) → character_count (Bar ∷ (quoted_marks cs ++ Bar ∷ [])) ≡ length cs
 barred_count cs =
     let none : character_count (Bar ∷ []) ≡ 0 = refl in
     omega (arith, bar_counts (quoted_marks cs ++ Bar ∷ []), count_both (quoted_marks cs) (Bar ∷ []), quoted_count cs)

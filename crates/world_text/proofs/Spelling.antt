@@ -115,7 +115,7 @@ barred (c ∷ cs) ascii =
       | false ↦ λ e. between (typed standard c) (met_text more) quoted (rw (kind_at c below) (kept_in_bars c below (not_from_false _ e))) later
     ] refl
 
-barred_spelled : (text : List ℕ) → IsAscii text → Spelled (codes "|" ++ escaped_text is_escaped_in_bars text ++ codes "|") (Bar ∷ (quoted_marks text ++ Bar ∷ []))
+pub barred_spelled : (text : List ℕ) → IsAscii text → Spelled (codes "|" ++ escaped_text is_escaped_in_bars text ++ codes "|") (Bar ∷ (quoted_marks text ++ Bar ∷ []))
 barred_spelled text ascii = record { spells = bar false (typed standard 124) _ _ bar_kind (barred text ascii) }
 
 -- ---- names

@@ -1,4 +1,6 @@
 -- Each object is read back from its printed text.
+--     object_read_back      the outermost object
+--     object_read, token_read, text_good, character_good      one object within another, and after the parts of a list: list_opened
 use Rattle.std.proofs.Common.{◌≡◌, ℕ, zero, suc, ◌+◌, ◌-◌, ◌<◌, ◌≤◌, Bool, true, false, not, List, [], ◌∷◌, ◌++◌, length, append_assoc, Ok, refl, sym, ap, subst, ◌∙◌, arith}
 use Rattle.std.specs.Prelude.{◌==◌, if◌then◌else◌, codes}
 use Rattle.std.specs.List.{list_any}
@@ -55,15 +57,15 @@ starts_open c e =
       | false ↦ λ _. refl
     ] refl
 
-token_open : (text rest : List ℕ) → begins_token text ≡ true → is_open (text ++ rest) ≡ true
+pub token_open : (text rest : List ℕ) → begins_token text ≡ true → is_open (text ++ rest) ≡ true
 token_open [] rest e = absurd cc
 token_open (c ∷ cs) rest e = starts_open c e
 
-ends_space : (rest : List ℕ) → may_end (met_text (32 ∷ rest)) ≡ true
+pub ends_space : (rest : List ℕ) → may_end (met_text (32 ∷ rest)) ≡ true
 unfolding standard
 ends_space rest = refl
 
-ends_close : (rest : List ℕ) → may_end (met_text (41 ∷ rest)) ≡ true
+pub ends_close : (rest : List ℕ) → may_end (met_text (41 ∷ rest)) ≡ true
 unfolding standard
 ends_close rest = refl
 
@@ -74,30 +76,30 @@ character_is (c ∷ d ∷ ds) = refl
 
 module _ (limits : Limits) (packages : Packages) (current : Name) (functions : Functions)
     (sound : IsSound packages) (room : 0 < limits.token) where
-  abbrev s : Setting
+  abbrev pub s : Setting
   s = under limits packages current functions
 
-  abbrev attempted : ℕ → ℕ → List ℕ → Read Found
+  abbrev pub attempted : ℕ → ℕ → List ℕ → Read Found
   attempted = begun limits packages current functions
 
-  abbrev prefix : Name → Name → List ℕ
+  abbrev pub prefix : Name → Name → List ℕ
   prefix = printed_prefix packages current
 
   -- a sound object, its symbols in the packages, its tokens within the limit
-  abbrev Good : Object → Type 0
+  abbrev pub Good : Object → Type 0
   Good x = o.IsSound x × HasAllSymbols packages x × AreTokensWithin packages current limits.token x
 
-  abbrev Attempted : Object → List ℕ → Type 0
+  abbrev pub Attempted : Object → List ℕ → Type 0
   Attempted x text = (d at : ℕ) (rest : List ℕ) → object_depth x ≤ d → at + length text ≤ limits.text → may_end (met_text rest) ≡ true
       → attempted d at (text ++ rest) ≡ Ok (one (ends_with_token x) x, at + length text, rest)
 
   -- the offset may be written in another way
-  placed : (token : Bool) (x : Object) (there offset : ℕ) (rest : List ℕ) (r : Read Found) → r ≡ Ok (one token x, there, rest) → there ≡ offset → r ≡ Ok (one token x, offset, rest)
+  pub placed : (token : Bool) (x : Object) (there offset : ℕ) (rest : List ℕ) (r : Read Found) → r ≡ Ok (one token x, there, rest) → there ≡ offset → r ≡ Ok (one token x, offset, rest)
   placed token x there offset rest r e p = e ∙ (λ i. Ok (one token x, p i, rest))
 
   -- ---- atoms
 
-  token_read : (text : List ℕ) (marks : List Mark) (x : Object) → ReadsAs packages current text marks x → character_count marks ≤ limits.token
+  pub token_read : (text : List ℕ) (marks : List Mark) (x : Object) → ReadsAs packages current text marks x → character_count marks ≤ limits.token
       → (d at : ℕ) (rest : List ℕ) → at + length text ≤ limits.text → may_end (met_text rest) ≡ true → attempted d at (text ++ rest) ≡ Ok (one true x, at + length text, rest)
   unfolding standard
   token_read text marks x h few d at rest fits ends = by_text text h.starts (at + length text) fits (token_of text marks limits.token at rest h.spelled few ends)
@@ -106,7 +108,7 @@ module _ (limits : Limits) (packages : Packages) (current : Name) (functions : F
       by_text [] starts next fits e = absurd cc
       by_text (c ∷ cs) starts next fits e = token_begun limits packages current functions d at c (cs ++ rest) marks next rest x starts e fits h.some h.means
 
-  character_good : (c : ℕ) → c < 128 → length (character_name c) ≤ limits.token → Attempted (o.character c) (printed_character c)
+  pub character_good : (c : ℕ) → c < 128 → length (character_name c) ≤ limits.token → Attempted (o.character c) (printed_character c)
   unfolding run
   character_good c below few d at rest deep fits ends =
       let name = character_name c in
@@ -144,7 +146,7 @@ module _ (limits : Limits) (packages : Packages) (current : Name) (functions : F
       ∙ ap (λ (v : Value). run standard limits (finished true v) next rest) (own_value marks (own_name marks (not_empty marks (is_name own ascii).starts) read.1) own read.2))
       offset
 
-  text_good : (bytes : List ℕ) → IsAscii bytes → Attempted (o.text bytes) (printed_text bytes)
+  pub text_good : (bytes : List ℕ) → IsAscii bytes → Attempted (o.text bytes) (printed_text bytes)
   unfolding run
   text_good bytes ascii d at rest deep fits ends =
       let body = escaped is_escaped_in_text bytes in
@@ -180,7 +182,7 @@ module _ (limits : Limits) (packages : Packages) (current : Name) (functions : F
   open_atom (o.pair a b) h e rest = absurd cc
   open_atom (o.vector xs) h e rest = absurd cc
 
-  object_open : (x : Object) → Good x → (rest : List ℕ) → is_open (written prefix x ++ rest) ≡ true
+  pub object_open : (x : Object) → Good x → (rest : List ℕ) → is_open (written prefix x ++ rest) ≡ true
   object_open (o.pair a b) h rest = refl
   object_open (o.vector xs) h rest = refl
   object_open (o.text bytes) h rest = refl
@@ -204,13 +206,13 @@ module _ (limits : Limits) (packages : Packages) (current : Name) (functions : F
 
   -- ---- lists and vectors
 
-  abbrev tail_of : ℕ → Bool → List Object → Plan Found
+  abbrev pub tail_of : ℕ → Bool → List Object → Plan Found
   tail_of = tail limits packages current functions
 
   abbrev others_of : ℕ → Bool → List Object → Plan Found
   others_of = others limits packages current functions
 
-  list_opened : (d at : ℕ) (text : List ℕ) (mark : Bool) (a : Object) (next : ℕ) (rest : List ℕ) → at < limits.text → is_open text ≡ true
+  pub list_opened : (d at : ℕ) (text : List ℕ) (mark : Bool) (a : Object) (next : ℕ) (rest : List ℕ) → at < limits.text → is_open text ≡ true
       → attempted d (at + 1) text ≡ Ok (one mark a, next, rest) → attempted (suc d) at (40 ∷ text) ≡ run standard limits (tail_of d mark (a ∷ [])) next rest
   unfolding inner
   list_opened d at text mark a next rest fits opens e =
@@ -262,7 +264,7 @@ module _ (limits : Limits) (packages : Packages) (current : Name) (functions : F
   joined xs a b = pairs-append xs (a ∷ []) b
 
   mutual
-    object_read : (x : Object) → Good x → Attempted x (written prefix x)
+    pub object_read : (x : Object) → Good x → Attempted x (written prefix x)
     object_read (o.pair a b) good zero at rest deep fits ends = absurd (omega arith)
     object_read (o.pair a b) good (suc d) at rest deep fits ends =
         let wa = written prefix a in

@@ -16,6 +16,8 @@
 //!
 //! - proofs/Whole.antt, proofs/Spelling.antt, proofs/PlainObjects.antt: each object is read back from its printed
 //!   text.
+//! - proofs/Atoms.antt, proofs/Begun.antt, proofs/Lists.antt, proofs/Sizes.antt: tokens, and how objects and lists are read, for
+//!   objects that stand in a text of another kind.
 //! - proofs/LinesRead.antt, proofs/WithinLimits.antt: the lines of a sound state are read, and are within the
 //!   limits of a snapshot.
 //! - proofs/OneLine.antt, proofs/SameText.antt, proofs/SamePackages.antt, proofs/RowsByKey.antt: a text is that of

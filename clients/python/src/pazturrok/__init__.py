@@ -3,7 +3,8 @@
     with Store("store") as store:
         store.execute("(SETF (GET 'APPLE 'PRICE) 7)")
 
-A Store starts the program over a folder; an EmbeddedStore has the store in this process, by the library.
+A Store starts the program over a folder; a MessageStore sends it messages that are carried out once, whatever
+becomes of the program; an EmbeddedStore has the store in this process, by the library.
 README.md beside pyproject.toml says how they are used, docs/run/protocol.md what goes to and fro.
 """
 
@@ -12,6 +13,7 @@ from .errors import (
     BrokenStoreError,
     ClosedStoreError,
     FaultError,
+    LostAnswerError,
     MalformedAnswerError,
     NoLibraryError,
     RefusedError,
@@ -20,6 +22,7 @@ from .errors import (
     TimeLimitError,
     UnsendableError,
 )
+from .messages import MessageStore
 from .printer import printed
 from .store import Store
 from .values import NIL, Character, DottedList, Symbol, T, Value, keyword, quote
@@ -32,7 +35,9 @@ __all__ = [
     "DottedList",
     "EmbeddedStore",
     "FaultError",
+    "LostAnswerError",
     "MalformedAnswerError",
+    "MessageStore",
     "NoLibraryError",
     "RefusedError",
     "StoppedError",

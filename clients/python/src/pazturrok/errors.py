@@ -91,6 +91,14 @@ class TimeLimitError(UnansweredError, TimeoutError):
         self.seconds = seconds
 
 
+class LostAnswerError(StoreError):
+    """The message was carried out, once; the program ended before its answer was read, and it is not sent again."""
+
+    def __init__(self, number: int) -> None:
+        super().__init__(f"message {number} was carried out, and its answer was lost")
+        self.number = number
+
+
 class BrokenStoreError(StoreError):
     """An earlier form was left before its answer was read whole. Nothing was sent.
 

@@ -9,6 +9,7 @@ import subprocess
 import tempfile
 import time
 from collections.abc import Callable, Sequence
+from typing import Protocol
 
 from .answers import AnswerSplitter
 from .errors import MalformedAnswerError, StoppedError, TimeLimitError
@@ -19,10 +20,21 @@ END_LIMIT = 10.0
 PIECE = 65536
 
 
+class Splitter(Protocol):
+    """Splits what a program writes into answers, as it comes."""
+
+    @property
+    def is_empty(self) -> bool:
+        """Whether no byte has come since the last answer."""
+
+    def feed(self, data: bytes) -> list[str]:
+        """The answers that these bytes make whole."""
+
+
 class Program:
     """A program that runs, or that has ended."""
 
-    def __init__(self, words: Sequence[str]) -> None:
+    def __init__(self, words: Sequence[str], splitter: Splitter | None = None) -> None:
         self._errors = tempfile.TemporaryFile()  # noqa: SIM115
         try:
             self.process = subprocess.Popen(
@@ -35,7 +47,7 @@ class Program:
         self._to, self._from = self.process.stdin, self.process.stdout
         for pipe in (self._to, self._from):
             os.set_blocking(pipe.fileno(), False)
-        self._splitter = AnswerSplitter()
+        self._splitter = splitter or AnswerSplitter()
 
     def exchange(
         self, texts: Sequence[str], answers: list[str], is_last: Callable[[str], bool], seconds: float | None

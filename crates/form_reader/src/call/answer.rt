@@ -1,5 +1,5 @@
 //! Which data a function of a user may answer.
-ghost use Rattle.std.specs.Prelude.{◌≡◌, ◌&&◌, ◌+◌, ◌≤◌, nat_le, length, All, IsTrue};
+ghost use Rattle.std.specs.Prelude.{◌≡◌, ◌&&◌, ◌+◌, ◌≤◌, nat_le, length, All, IsTrue, IfSome, MatchOption};
 ghost use Rattle.std.specs.List.{list_all, sum_by};
 ghost use Rattle.lisp_object.specs.Ascii.{is_ascii};
 ghost use Rattle.lisp_object.specs.Object.{is_nil, object_depth};
@@ -116,12 +116,55 @@ fn all_fit(packages: &Packages, room: u64, left: &mut u64, items: &Items<Datum>)
         → sum_by size items.now ≤ left.old → IsTrue result }
 {
     let items = items.as_slice();
+    let mut last = None;
     for item in items {
-        if !fits(packages, room, left, item) {
+        if !next_fits(packages, room, left, last, item) {
             return false;
         }
+        last = Some(item);
     }
     true
+}
+
+/// Whether a datum fits that comes after `last`, which does, where so many parts are left.
+#[cycle(fitting)]
+fn next_fits(
+    packages: &Packages,
+    room: u64,
+    left: &mut u64,
+    last: Option<&Datum>,
+    datum: &Datum,
+) -> bool
+    requires { IfSome last (λ d. Fits packages.now.0 room d.now) }
+    ensures fits { IsTrue result → Fits packages.now.0 room datum.now × (left.new + size datum.now ≡ left.old) }
+    ensures others { Fits packages.now.0 room datum.now → size datum.now ≤ left.old → IsTrue result }
+{
+    // A symbol that a vector repeats is looked up once.
+    if is_symbol_again(last, datum) {
+        return atom_fits(left, true);
+    }
+    fits(packages, room, left, datum)
+}
+
+/// Whether a datum is the symbol that was last.
+fn is_symbol_again(last: Option<&Datum>, datum: &Datum) -> bool
+    ensures same { IsTrue result → MatchOption last.entry ⊥ (λ d. d.now ≡ datum.now) }
+    ensures size { IsTrue result → size datum.now ≡ 1 }
+{
+    let Some(last) = last else {
+        return false;
+    };
+    let Datum::Symbol {
+        package: last_home,
+        name: last_name,
+    } = last
+    else {
+        return false;
+    };
+    let Datum::Symbol { package, name } = datum else {
+        return false;
+    };
+    package.as_slice() == last_home.as_slice() && name.as_slice() == last_name.as_slice()
 }
 
 #[cycle(fitting)]

@@ -61,6 +61,7 @@ module _ (functions : Functions) {D R : Type 0} (state : D → State) (sound : (
     generation = two.generation ∙ one.generation;
     record_count = let sum = length-append xs ys in let a = one.record_count in let b = two.record_count in omega arith;
     size = let sum = sum_by-append (λ (entry : LogRecord). 6 + length entry.text) xs ys in let a = one.size in let b = two.size in omega arith;
+    first_size = two.first_size ∙ one.first_size;
     fits = let a = one.fits in let b = two.fits in omega arith;
     described = λ k claims held.
         subst (λ entries. Describes new (record k { entries = entries }) (state new.disk).reads) (append_assoc k.entries xs ys)
@@ -87,6 +88,7 @@ module _ (functions : Functions) {D R : Type 0} (state : D → State) (sound : (
     generation = let a = one.generation in let b = two.generation in omega arith;
     record_count = two.record_count;
     size = two.size;
+    first_size = two.first_size;
     fits = let fits = two.fits in omega arith;
     described = λ k claims held. two.described (with_records k xs) (subst IsTrue (sym honest) claims) (one.described k claims held);
   }
@@ -106,6 +108,7 @@ module _ (functions : Functions) {D R : Type 0} (state : D → State) (sound : (
     generation = two.generation ∙ one.generation;
     record_count = let sum = length-append one.later ys in let a = one.record_count in let b = two.record_count in omega arith;
     size = let sum = sum_by-append (λ (entry : LogRecord). 6 + length entry.text) one.later ys in let a = one.size in let b = two.size in omega arith;
+    first_size = two.first_size ∙ one.first_size;
     fits = let a = one.fits in let b = two.fits in omega arith;
     described = λ k claims held. two.described (contents_after k one.snapshots one.first one.later) (subst IsTrue (sym honest) claims) (one.described k claims held);
   }
@@ -124,6 +127,7 @@ module _ (functions : Functions) {D R : Type 0} (state : D → State) (sound : (
     generation = let a = one.generation in let b = two.generation in omega arith;
     record_count = two.record_count;
     size = two.size;
+    first_size = two.first_size;
     fits = let fits = two.fits in omega arith;
     described = λ k claims held.
         let later : (k.generation + one.snapshots) + two.snapshots ≡ k.generation + (two.snapshots + one.snapshots) = omega arith in

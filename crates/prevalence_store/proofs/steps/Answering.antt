@@ -214,13 +214,16 @@ module _ (functions : Functions) {D R : Type 0} (state : D → State) where
 
       refused_both : (forms : ℕ) (far : Progress) (code : ℕ) → StaysRefused functions p.world mode p.rest forms far code
           → StaysRefused functions w mode text (forms + first.forms) (onward p far) code
-      refused_both forms far code is = λ more. (
-        forms_onward functions forms first.forms (forms + first.forms) w mode (text ++ more) (longer p more) (longer far more) refl (first.stays more) (is more).0,
-        (is more).1,
+      refused_both forms far code is = (
+        is.0,
+        λ more. (
+          forms_onward functions forms first.forms (forms + first.forms) w mode (text ++ more) (longer p more) (longer far more) refl (first.stays more) (is.1 more).0,
+          (is.1 more).1,
+        ),
       )
 
       serves_both : (ended : Ended) → HasEndedAt functions state wanted later mid new p.world mode p.rest b c ended → HasEndedAt functions state wanted course old new w mode text a c ended
-      unfolding serve_both
+      unfolding serve_both stops_both
       serves_both ways.End second = absurd second
       serves_both (ways.Unreadable number place) (is, accepted, at) = (
         record {
@@ -231,7 +234,14 @@ module _ (functions : Functions) {D R : Type 0} (state : D → State) where
         all_of is.serves.forms is.serves.lines is.serves.far is.serves.answered accepted,
         (at.0, at.1, place_both is.serves.forms is.serves.far.rest at.0 place at.2, start_both is.serves.far.rest _ place.start at.3, at.4),
       )
-      serves_both (ways.Unaccepted number place) (is, second) = (is, stops_both number place second is)
+      serves_both (ways.Unaccepted number place) (is, second, stays) = (
+        is,
+        stops_both number place second is,
+        (
+          λ more. forms_onward functions second.forms first.forms (second.forms + first.forms) w mode (text ++ more) (longer p more) (longer second.far more) refl (first.stays more) (stays.0 more),
+          λ more. forms_onward functions second.accepted first.forms (second.accepted + first.forms) w mode (text ++ more) (longer p more) (longer second.before more) refl (first.stays more) (stays.1 more),
+        ),
+      )
       serves_both (ways.Store number) (is, accepted) = (
         record {
           serves = serve_both functions state sound old mid new w mode text a b c first.forms p first.advances honest wanted.group (Store number) is.serves;

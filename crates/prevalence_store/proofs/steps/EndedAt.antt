@@ -18,9 +18,9 @@ use Rattle.prevalence_store.specs.declared.session.answer.Answered.{Answered}
 use Rattle.prevalence_store.specs.declared.session.answer.Answered.TheVariants.{Accepted, Refused}
 use Rattle.prevalence_store.specs.declared.session.input.Pending.{Pending}
 use Rattle.prevalence_store.specs.meaning.Acceptance.{read_in, setting_in}
-use Rattle.prevalence_store.specs.meaning.Answers.{Progress, begun}
+use Rattle.prevalence_store.specs.meaning.Answers.{Progress, after_forms, begun}
 use Rattle.prevalence_store.specs.calls.Pace.{Paces, fill_of}
-use Rattle.prevalence_store.specs.calls.Serve.{IsRefusedFrom, IsUnaccepted, ServesInPace, StopsStrict}
+use Rattle.prevalence_store.specs.calls.Serve.{IsRefusedFrom, IsUnaccepted, ServesInPace, StaysAnswered, StopsStrict}
 use Rattle.prevalence_store.specs.calls.Store.{StoreView}
 use Rattle.prevalence_store.specs.steps.Answer.{AnswersFault, AnswersForm, AnswersRead, BeginsWith, PassesForm, StopsInForm, TellsForm}
 use Rattle.prevalence_store.specs.steps.Course.{Course, pass}
@@ -69,7 +69,7 @@ module _ (functions : Functions) {D R : Type 0} (state : D → State) where
       record {
         serves = fault_answered functions state sound old new w mode (text ++ more) a b known wanted.group number refuses.at (refuses.reads more) same (Reader code) is;
         paced = fault_paced functions state sound old new w mode (text ++ more) a b known wanted.group number refuses.at (refuses.reads more) same (Reader code) is course.pace;
-        stays = λ others. (refl, (refuses.at, still others ∙ ap (λ n. refused n refuses.at) (sym is.0)));
+        stays = (refuses.at, λ others. (refl, still others ∙ ap (λ n. refused n refuses.at) (sym is.0)));
       },
       λ is_strict. (refl, λ more. absurd (omega (arith, more))),
       (
@@ -85,7 +85,7 @@ module _ (functions : Functions) {D R : Type 0} (state : D → State) where
       record {
         serves = fault_answered functions state sound old new w mode (text ++ more) a b known wanted.group number refuses.at (refuses.reads more) same (Store code) (inl full);
         paced = fault_paced functions state sound old new w mode (text ++ more) a b known wanted.group number refuses.at (refuses.reads more) same (Store code) (inl full) course.pace;
-        stays = λ output all. (number, λ others. (refl, (refuses.at, still others)));
+        stays = λ output all. (number, (refuses.at, λ others. (refl, still others)));
       },
       λ is_strict. (refl, λ more. absurd (omega (arith, more))),
     )
@@ -93,7 +93,7 @@ module _ (functions : Functions) {D R : Type 0} (state : D → State) where
       record {
         serves = fault_answered functions state sound old new w mode (text ++ more) a b known wanted.group number refuses.at (refuses.reads more) same (Store code) (inr memory);
         paced = fault_paced functions state sound old new w mode (text ++ more) a b known wanted.group number refuses.at (refuses.reads more) same (Store code) (inr memory) course.pace;
-        stays = λ output all. (number, λ others. (refl, (refuses.at, still others)));
+        stays = λ output all. (number, (refuses.at, λ others. (refl, still others)));
       },
       λ is_strict. (refl, λ more. absurd (omega (arith, more))),
     )
@@ -185,11 +185,14 @@ module _ (functions : Functions) {D R : Type 0} (state : D → State) where
 
   -- the session ended in the form that the text begins with
   pub read_ended : (wanted : Wanted) (course later : Course) (old new : StoreView D R) (w : WorldState) (text : List ℕ) (a b : Option (List ℕ)) (start next : ℕ) (ended : Ended)
-      → AnswersRead functions state course later old new w wanted text a b start next (Err ended) → start ≤ length text → HasEndedAt functions state wanted course old new w wanted.mode text a b ended
-  read_ended wanted course later old new w text a b start next ways.End is within = absurd is
-  read_ended wanted course later old new w text a b start next (ways.Unreadable number place) is within = absurd is
-  read_ended wanted course later old new w text a b start next (ways.Unaccepted number place) is within = (is.0, strict_stops wanted course later old new w text a b start next number place is within)
-  read_ended wanted course later old new w text a b start next (ways.Store number) is within = ends_at_once wanted course old new w wanted.mode text a b number is
+      → AnswersRead functions state course later old new w wanted text a b start next (Err ended) → start ≤ length text
+      → ((far : Progress) → after_forms functions 1 w wanted.mode text ≡ Some far → StaysAnswered functions w wanted.mode text 1 far) → HasEndedAt functions state wanted course old new w wanted.mode text a b ended
+  unfolding strict_stops
+  read_ended wanted course later old new w text a b start next ways.End is within stays = absurd is
+  read_ended wanted course later old new w text a b start next (ways.Unreadable number place) is within stays = absurd is
+  read_ended wanted course later old new w text a b start next (ways.Unaccepted number place) is within stays =
+      (is.0, strict_stops wanted course later old new w text a b start next number place is within, (stays is.1.far is.1.advances.far_is, λ more. refl))
+  read_ended wanted course later old new w text a b start next (ways.Store number) is within stays = ends_at_once wanted course old new w wanted.mode text a b number is
 
   pub read_at_end : (wanted : Wanted) (course later : Course) (old new : StoreView D R) (w : WorldState) (text : List ℕ) (a b : Option (List ℕ)) (start next : ℕ) (ended : Ended)
       → AnswersRead functions state course later old new w wanted text a b start next (Err ended) → start ≤ length text → EndsAt functions state wanted course old new w wanted.mode text a b ended

@@ -94,6 +94,7 @@ module _ (functions : Functions) where
             generation = refl;
             record_count = omega arith;
             size = omega arith;
+            first_size = refl;
             fits = omega arith;
             described = λ k claims told. subst (λ entries. Describes old (record k { entries = entries }) (state old.disk).reads) (sym (append-nil k.entries)) told;
             other = λ honest. alone_still (opposite_of old.half) (state old.disk) (sound old.disk honest);

@@ -89,6 +89,7 @@ module _ (functions : Functions) where
           generation = logs.generation;
           record_count = logs.record_count;
           size = let size = logs.size in omega arith;
+          first_size = logs.first_size;
           fits = let fits = logs.fits in omega arith;
           described = logs.described;
           other = logs.other;
@@ -107,7 +108,7 @@ module _ (functions : Functions) where
     leaves true given logs =
         let size = logs.size in
         let fits = logs.fits in
-        inr (refl, (logged mode own, refl, (omega arith, λ i. record { generation = logs.generation i; record_count = logs.record_count i; size = logs.size i })))
+        inr (refl, (logged mode own, refl, (omega arith, λ i. record { generation = logs.generation i; record_count = logs.record_count i; size = logs.size i; first_size = logs.first_size i })))
     leaves false given same = inl (refl, refl, ap (λ (s : StoreView D R). fill_of s) same.0)
 
     refused_leaves : new ≡ old → LeavesRecord (LogsAtOnce old.limit (fill_of old) (fill_of new)) [] (fill_of old) (fill_of new) false
@@ -197,7 +198,7 @@ module _ (functions : Functions) where
                 in_form = λ some. (far, one_is (Ok (done_of e given.0)) given.1, (part.1, part.3, sym same_line ∙ part.2));
                 after = after_stores e given.0 given.1 given.2;
               }))))))),
-          inr (inl (refl, inl refl, (e.wrote, leaves e.wrote given.0 given.2))),
+          inr (inl (refl, refl, (e.wrote, leaves e.wrote given.0 given.2))),
         )
     line_unwritten (Err (Refused number)) line of is_line writes =
         let same = of.unchanged refl in
@@ -212,7 +213,7 @@ module _ (functions : Functions) where
                 in_form = λ some. (far, one_is (Err number) (of.cause w known), (part.1, part.3, sym is_line.line_of ∙ part.2));
                 after = after_none functions state sound old new w mode text held written known (drop next text) (refusal_line number) (number ∷ []) same;
               }))))))),
-          inr (inl (refl, inl refl, (false, refused_leaves same))),
+          inr (inl (refl, refl, (false, refused_leaves same))),
         )
     line_unwritten (Err Full) line of is_line writes = absurd is_line.line_of
     line_unwritten (Err DeviceFault) line of is_line writes = absurd is_line.line_of
@@ -262,7 +263,7 @@ module _ (functions : Functions) where
                     all_or_none_of_one functions (state old.disk) (state new.disk) w (logged mode own)
                     (of.survives w here claims keeps).any_moment;
               })),
-          inr (inr (stop, refl, refl, λ i. record { generation = failed.generation i; record_count = failed.record_count i; size = failed.size i })),
+          inr (inr (stop, refl, refl, λ i. record { generation = failed.generation i; record_count = failed.record_count i; size = failed.size i; first_size = failed.first_size i })),
         )
 
     over_in : (failure : Failure) (number : ℕ) → is_refusal failure ≡ false → TakesForm functions state old new mode own x (Err failure) → number ≡ failure_number failure → number ≡ LOG_FULL → IsOver functions old w mode text

@@ -21,15 +21,15 @@ use Rattle.prevalence_store.specs.meaning.Acceptance.{after, between, read_in}
 use Rattle.prevalence_store.specs.meaning.Answers.{Progress, after_forms, begun, evaluated, last_line, one_form, onward}
 use Rattle.prevalence_store.specs.calls.ExecuteAll.{LogsAll}
 use Rattle.prevalence_store.specs.calls.Pace.{Paces, fill_of}
-use Rattle.prevalence_store.specs.calls.Serve.{IsAfter}
+use Rattle.prevalence_store.specs.calls.Serve.{IsAfter, room_of}
 use Rattle.prevalence_store.specs.calls.Store.{StoreView}
 use Rattle.prevalence_store.specs.calls.Streams.{Writes, WritesPart}
 use Rattle.prevalence_store.specs.steps.Course.{Course}
 use Rattle.prevalence_store.specs.steps.Gather.{AnswersGroup, FailsForms, IsGathered, TakesForms}
-use Rattle.prevalence_store.specs.steps.Schedule.{CountsAll, IsBeforeDue}
+use Rattle.prevalence_store.specs.steps.Schedule.{CountsAll, IsBeforeDue, IsBeforeGrown}
 use Rattle.prevalence_store.specs.steps.Serve.{HasEndedAt}
 use Rattle.prevalence_store.proofs.calls.Progressing.{step_back}
-use Rattle.prevalence_store.proofs.steps.Counting.{all_paced, counted_all, room_is}
+use Rattle.prevalence_store.proofs.steps.Counting.{all_paced, before_grown, counted_all, room_is}
 use Rattle.prevalence_store.proofs.steps.Endings.{after_none, part_of, writes_nothing}
 use Rattle.prevalence_store.proofs.steps.FormAnswers.{some_first, some_last}
 use Rattle.prevalence_store.proofs.steps.Gathering.{count_entries}
@@ -162,6 +162,7 @@ module _ (functions : Functions) where
         generation = logs.generation;
         record_count = logs.record_count;
         size = logs.size ∙ ap (λ n. old.size + n) (room_is far.taken);
+        first_size = logs.first_size;
         fits = fits_most far.taken logs.size logs.fits;
         described = logs.described;
         other = logs.other;
@@ -170,10 +171,12 @@ module _ (functions : Functions) where
     }
 
     all_in_pace : (far : Progress) → LogsAll state old new far.taken far.world → after functions w far.taken ≡ Some far.world → (course later : Course) → CountsAll (length far.taken) course.pace later.pace
-        → Paces functions old.limit w far.taken course.pace later.pace (fill_of old) (fill_of new)
-    all_in_pace far logs again course later counts =
+        → (room : ℕ) → IsBeforeGrown course.pace.ratio (fill_of old) room → room_of far.taken ≤ room → Paces functions old.limit w far.taken course.pace later.pace (fill_of old) (fill_of new)
+    all_in_pace far logs again course later counts room before within =
+        let size = logs.size ∙ ap (λ n. old.size + n) (room_is far.taken) in
         all_paced functions old.limit w far.world far.taken course.pace later.pace (fill_of old) (fill_of new) again counts
-        (λ some. omega (arith, logs.fits some, logs.size, room_is far.taken)) logs.generation logs.record_count (logs.size ∙ ap (λ n. old.size + n) (room_is far.taken))
+        (before_grown course.pace.ratio room (fill_of old) (fill_of new) far.taken before within size logs.first_size)
+        (λ some. omega (arith, logs.fits some, size)) logs.generation logs.record_count size logs.first_size
 
   -- ---- how a session goes on, or has ended
 
@@ -181,14 +184,14 @@ module _ (functions : Functions) where
       (held written : Option (List ℕ)) (known : old.world ≡ Some w) where
     -- the forms were answered
     pub group_answered : (gathered : Gathered) (next count : ℕ) → TakesForms functions wanted state old new w text gathered → Writes held written gathered.lines.items → drop next text ≡ rest
-        → gathered.bytes ≡ next + count → CountsAll (length gathered.batch.texts.items) course.pace later.pace → later.forms ≡ course.forms + gathered.forms → later.bytes ≡ course.bytes + gathered.bytes
+        → gathered.bytes ≡ next + count → CountsAll (length gathered.batch.records.items) course.pace later.pace → (room : ℕ) → IsBeforeGrown course.pace.ratio (fill_of old) room → gathered.record_bytes ≤ room → later.forms ≡ course.forms + gathered.forms → later.bytes ≡ course.bytes + gathered.bytes
         → AnswersGroup functions wanted state course later old new w text rest held written (grouped.Answered count)
-    group_answered gathered next count took writes left many counts forms bytes pending none =
+    group_answered gathered next count took writes left many counts room before within forms bytes pending none =
         let is = took.gathers in
         let far : Progress = is.far in
         let far_is : after_forms functions gathered.forms w wanted.mode text ≡ Some far =
         ap (after_forms functions gathered.forms w wanted.mode) (sym (append-nil text)) ∙ is.stays [] ∙ ap (λ t. Some (record far { rest = t })) (append-nil far.rest) in
-        let entries : length gathered.batch.texts.items ≡ length far.taken = sym (count_entries wanted.mode gathered) ∙ ap length is.taken in
+        let entries : length gathered.batch.records.items ≡ length far.taken = sym (count_entries gathered) ∙ ap length is.taken in
         record {
           forms = gathered.forms;
           far = far;
@@ -198,7 +201,8 @@ module _ (functions : Functions) where
             after = all_after state old new w far took.logs is.again;
             survives = took.survives;
           };
-          paced = all_in_pace state old new w far took.logs is.again course later (subst (λ n. CountsAll n course.pace later.pace) entries counts);
+          paced = all_in_pace state old new w far took.logs is.again course later (subst (λ n. CountsAll n course.pace later.pace) entries counts)
+              room before (omega (arith, is.record_bytes, within));
           comes = record {
             forms_are = omega (arith, forms);
             bytes_are = omega (arith, bytes, ap length is.rest, length-drop gathered.bytes text, is.within);
@@ -247,7 +251,7 @@ module _ (functions : Functions) where
             paced = inr (inr (inr (record {
               device = refl;
               some_open = fault.some_forms;
-              before = inl (course.pace, (refl, λ i. record { generation = fault.failed.generation i; record_count = fault.failed.record_count i; size = fault.failed.size i }));
+              before = inl (course.pace, (refl, λ i. record { generation = fault.failed.generation i; record_count = fault.failed.record_count i; size = fault.failed.size i; first_size = fault.failed.first_size i }));
             })));
             stays = λ output. absurd (omega arith);
           },
@@ -256,8 +260,9 @@ module _ (functions : Functions) where
 
     -- the writer failed in their lines
     pub group_unwritten : wanted.group ≡ true → (gathered : Gathered) → 0 < gathered.forms → TakesForms functions wanted state old new w text gathered → WritesPart held written gathered.lines.items
-        → IsBeforeDue course.pace (length gathered.batch.texts.items) → AnswersGroup functions wanted state course later old new w text rest held written (grouped.Ended (ways.Store OUTPUT))
-    group_unwritten grouped gathered some took writes before more = by_part (part_of held written far.lines (some_lines gathered.forms some far_is) (subst (WritesPart held written) is.lines writes)) where
+        → IsBeforeDue course.pace (length gathered.batch.records.items) → (room : ℕ) → IsBeforeGrown course.pace.ratio (fill_of old) room → gathered.record_bytes ≤ room
+        → AnswersGroup functions wanted state course later old new w text rest held written (grouped.Ended (ways.Store OUTPUT))
+    group_unwritten grouped gathered some took writes before room small within more = by_part (part_of held written far.lines (some_lines gathered.forms some far_is) (subst (WritesPart held written) is.lines writes)) where
       is : IsGathered functions wanted w text took.left gathered
       is = took.gathers
 
@@ -281,7 +286,7 @@ module _ (functions : Functions) where
       by_part (front, unwritten, parts, some_left, wrote) =
           let at = broken gathered.forms w wanted.mode (text ++ more) far front unwritten far_is parts some_left in
           let last : List ℕ = last_line (read_in functions far.world wanted.mode far.rest) in
-          let counted = counted_all (length far.taken) course.pace (subst (IsBeforeDue course.pace) (sym (count_entries wanted.mode gathered) ∙ ap length is.taken) before) in (
+          let counted = counted_all (length far.taken) course.pace (subst (IsBeforeDue course.pace) (sym (count_entries gathered) ∙ ap length is.taken) before) in (
             record {
               serves = record {
                 forms = gathered.forms;
@@ -306,7 +311,11 @@ module _ (functions : Functions) where
                 }))))));
               };
               paced = inl (record {
-                paced = (counted.0, all_in_pace state old new w far took.logs is.again course (record course { pace = counted.0 }) counted.1);
+                paced = (
+                  counted.0,
+                  all_in_pace state old new w far took.logs is.again course (record course { pace = counted.0 }) counted.1
+                      room small (omega (arith, is.record_bytes, within)),
+                );
                 other = λ full. absurd (omega arith);
                 fault = λ device. absurd (omega arith);
               });

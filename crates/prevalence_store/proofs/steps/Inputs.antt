@@ -1,5 +1,5 @@
 -- What a session has read of its input.
-use Rattle.std.proofs.Common.{◌≡◌, ℕ, false, List, [], ◌++◌, Option, None, Some, refl, sym, ap, subst, ◌∙◌, inl, inr, append_assoc, arith}
+use Rattle.std.proofs.Common.{◌≡◌, ℕ, false, List, [], ◌++◌, Option, None, Some, refl, sym, ap, subst, ◌∙◌, inl, inr, append_assoc, arith, append-nil}
 use Rattle.std.specs.Io.KnownBytes.{Consumes, IsAtEnd, Keeps}
 use Rattle.disk_trait.specs.Disk.{State}
 use Rattle.lisp_object.specs.declared.refusal.TheConstants.{INPUT}
@@ -10,7 +10,7 @@ use Rattle.prevalence_store.specs.declared.outcome.Wanted.{Wanted}
 use Rattle.prevalence_store.specs.declared.outcome.Ending.{Ending}
 use Rattle.prevalence_store.specs.declared.outcome.Ending.TheVariants.{Store}
 use Rattle.user_macros.specs.Functions.{Functions}
-use Rattle.prevalence_store.specs.calls.Serve.{ServesInput, ServesWanted}
+use Rattle.prevalence_store.specs.calls.Serve.{ServesInput, ServesWanted, pace_wanted}
 use Rattle.prevalence_store.specs.calls.Store.{StoreView}
 use Rattle.prevalence_store.specs.steps.Course.{Course, first_course}
 use Rattle.prevalence_store.specs.steps.Serve.{EndsAt, HasEndedAt, ServesStrict, ending_of}
@@ -50,7 +50,7 @@ left_both had old new text piece before took all is =
 
 module _ (functions : Functions) {D R : Type 0} (state : D → State) (wanted : Wanted) (old new : StoreView D R) (w : WorldState) (held written : Option (List ℕ)) (had before has : Option (List ℕ)) (text : List ℕ) where
   abbrev first : Course
-  first = first_course wanted.snapshot_every
+  first = first_course (pace_wanted wanted)
 
   -- a read failed
   pub unread_input : ServesStrict functions state wanted first old new w wanted.mode text held written (Store INPUT) → HasLeft had before text → Keeps before has
@@ -87,7 +87,8 @@ module _ (functions : Functions) {D R : Type 0} (state : D → State) (wanted : 
       accepted,
       at,
     )
-    by_ending (ways.Unaccepted number place) (strict, stops) = (strict, text, stops, λ all is. let none = none_left all is in ([], none.0, none.1))
+    by_ending (ways.Unaccepted number place) (strict, stops) =
+        (strict, text, stops, λ all is. let none = none_left all is in ([], none.0, none.1), λ all is. inl ((none_left all is).0 ∙ append-nil text))
     by_ending (ways.Store number) (served, paced, accepted) = (
       record { text = text; serves = served; paced = paced; reads = λ all is. let none = none_left all is in ([], none.0, (λ output all_lines. inl refl, none.1)) },
       accepted,
@@ -107,7 +108,7 @@ module _ (functions : Functions) {D R : Type 0} (state : D → State) (wanted : 
     accepted,
     at,
   )
-  decided_input (ways.Unaccepted number place) (strict, stops) left = (strict, text, stops, λ all is. let one = left all is in (one.0, one.1.1, one.1.0))
+  decided_input (ways.Unaccepted number place) (strict, stops, stays) left = (strict, text, stops, λ all is. let one = left all is in (one.0, one.1.1, one.1.0), λ all is. inr stays)
   decided_input (ways.Store number) (is, accepted) left = (
     record {
       text = text;
@@ -120,9 +121,9 @@ module _ (functions : Functions) {D R : Type 0} (state : D → State) (wanted : 
 
 -- a session that is not strict, as it is served
 pub as_served : (functions : Functions) {D R : Type 0} (state : D → State) (wanted : Wanted) (old new : StoreView D R) (w : WorldState) (held written : Option (List ℕ)) (had has : Option (List ℕ)) (ended : Ended) (ending : Ending)
-    → ServesWanted functions state wanted old new w had has held written ended → wanted.strict ≡ false → ending_of ended ≡ ending → ServesInput functions state wanted.group wanted.snapshot_every old new w wanted.mode had has held written ending
-as_served functions state wanted old new w held written had has ways.End ending served strict is = subst (λ e. ServesInput functions state wanted.group wanted.snapshot_every old new w wanted.mode had has held written e) is served.0
+    → ServesWanted functions state wanted old new w had has held written ended → wanted.strict ≡ false → ending_of ended ≡ ending → ServesInput functions state wanted.group (pace_wanted wanted) old new w wanted.mode had has held written ending
+as_served functions state wanted old new w held written had has ways.End ending served strict is = subst (λ e. ServesInput functions state wanted.group (pace_wanted wanted) old new w wanted.mode had has held written e) is served.0
 as_served functions state wanted old new w held written had has (ways.Unreadable number place) ending served strict is =
-    subst (λ e. ServesInput functions state wanted.group wanted.snapshot_every old new w wanted.mode had has held written e) is served.0
+    subst (λ e. ServesInput functions state wanted.group (pace_wanted wanted) old new w wanted.mode had has held written e) is served.0
 as_served functions state wanted old new w held written had has (ways.Unaccepted number place) ending served strict is = let is_strict = served.0 in absurd (cc)
-as_served functions state wanted old new w held written had has (ways.Store number) ending served strict is = subst (λ e. ServesInput functions state wanted.group wanted.snapshot_every old new w wanted.mode had has held written e) is served.0
+as_served functions state wanted old new w held written had has (ways.Store number) ending served strict is = subst (λ e. ServesInput functions state wanted.group (pace_wanted wanted) old new w wanted.mode had has held written e) is served.0

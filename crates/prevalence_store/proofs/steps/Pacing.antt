@@ -128,30 +128,20 @@ module _ (functions : Functions) (limit : ℕ) where
             })))
 
       -- the form was taken
-      taken_ends : (forms lines : ℕ) (answered far : Progress) (wrote : Bool) → (number ≡ OUTPUT) ⊎ (number ≡ NO_MEMORY)
+      taken_ends : (forms lines : ℕ) (answered far : Progress) (wrote : Bool) → number ≡ OUTPUT
           → LeavesRecord (λ entry. LogsWithRoom limit w entry start now) far.taken start now wrote
           → EndsInPace functions limit w pace start mode forms far lines answered now (Store number)
-      taken_ends forms lines answered far wrote why (inl none) = inl (record {
+      taken_ends forms lines answered far wrote output (inl none) = inl (record {
         paced = (pace, none_paced w pace far.taken start now none.1 none.2);
-        other = λ full. by_why why full;
-        fault = λ device. absurd (by_device why device);
-      }) where
-        by_why : (number ≡ OUTPUT) ⊎ (number ≡ NO_MEMORY) → number ≡ LOG_FULL → ⊥
-        by_why (inl output) full = absurd (omega arith)
-        by_why (inr memory) full = absurd (omega arith)
-
-        by_device : (number ≡ OUTPUT) ⊎ (number ≡ NO_MEMORY) → number ≡ DEVICE → ⊥
-        by_device (inl output) device = absurd (omega arith)
-        by_device (inr memory) device = absurd (omega arith)
-      taken_ends forms lines answered far wrote why (inr logged) =
+        other = λ full. absurd (omega arith);
+        fault = λ device. absurd (omega arith);
+      })
+      taken_ends forms lines answered far wrote output (inr logged) =
           let one = logged.1 in
           inr (inl (record {
             unfollowed = record { earlier = []; last = one.0; parts = one.1; first = w; first_is = refl; later = pace; before = start; paced = (refl, refl); logs = one.2 };
-            why = by_why why;
-          })) where
-            by_why : (number ≡ OUTPUT) ⊎ (number ≡ NO_MEMORY) → (number ≡ OUTPUT) ⊎ ((number ≡ NO_MEMORY) ⊎ ((number ≡ DEVICE) × IsDue pace))
-            by_why (inl output) = inl output
-            by_why (inr memory) = inr (inl memory)
+            why = inl output;
+          }))
 
       -- the device failed in it
       record_ends : (forms lines : ℕ) (answered far : Progress) → HasReadied w mode text start middle → number ≡ DEVICE → lines < forms → answered ≡ begun w text → now ≡ middle
@@ -167,7 +157,7 @@ module _ (functions : Functions) (limit : ℕ) where
       pub try_ends : (forms lines more_forms more_lines : ℕ) (answered far : Progress) → HasReadied w mode text start middle → after_forms functions forms w mode text ≡ Some far
           → (forms ≡ lines + 1 → more_lines < more_forms)
           → ((number ≡ NO_MEMORY) × (far ≡ begun w text) × (now ≡ middle))
-          ⊎ (((forms ≡ 1) × ((number ≡ OUTPUT) ⊎ (number ≡ NO_MEMORY)) × ((wrote : Bool) × LeavesRecord (LogsAtOnce limit middle now) far.taken middle now wrote))
+          ⊎ (((forms ≡ 1) × (number ≡ OUTPUT) × ((wrote : Bool) × LeavesRecord (LogsAtOnce limit middle now) far.taken middle now wrote))
           ⊎ ((number ≡ DEVICE) × (forms ≡ lines + 1) × (answered ≡ begun w text) × (now ≡ middle)))
           → EndsInPace functions limit w pace start mode more_forms far more_lines answered now (Store number)
       try_ends forms lines more_forms more_lines answered far ready far_is still_open (inl none) = nothing_ends more_forms more_lines answered far ready none.0 none.1 none.2

@@ -130,6 +130,15 @@ module _ (functions : Functions) (w : WorldState) (mode : Mode) (pending : Pendi
       ∙ ap (λ p. Some p) (longer_evaluated w mode (between has.start has.stop text) (drop has.next text) more given)
       ∙ ap (λ p. Some (longer p more)) (sym (far_is_one far is))
 
+  -- nor does more after it make a difference
+  pub text_stays : (more : List ℕ) (far : Progress) → after_forms functions 1 w mode (text ++ more) ≡ Some far → (others : List ℕ) → after_forms functions 1 w mode ((text ++ more) ++ others) ≡ Some (longer far others)
+  text_stays more far is others =
+      let base : Progress = evaluated w mode (between has.start has.stop text) (drop has.next text) given in
+      let whole : after_forms functions 1 w mode text ≡ Some base = one_form_of text reads_here in
+      let same : far ≡ longer base more = let here = one_stays base whole more in cc in
+      ap (after_forms functions 1 w mode) (append_assoc text more others) ∙ one_stays base whole (more ++ others)
+      ∙ ap (λ r. Some (record base { rest = r })) (sym (append_assoc base.rest more others)) ∙ ap (λ p. Some (longer p others)) (sym same)
+
   one_rest : (far : Progress) → after_forms functions 1 w mode text ≡ Some far → far.rest ≡ drop has.next text
   one_rest far is = ap (λ (p : Progress). p.rest) (far_is_one far is) ∙ rest_evaluated w mode (between has.start has.stop text) (drop has.next text) given
 

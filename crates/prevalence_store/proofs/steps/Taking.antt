@@ -1,6 +1,5 @@
 -- What became of a form, of texts and of the forms of a group, by what logging their records did to the store.
 use Rattle.std.proofs.Common.{◌≡◌, ℕ, ◌+◌, ◌<◌, Bool, true, false, List, [], ◌∷◌, ◌++◌, length, map, Some, Result, Ok, Err, IfOk, OnOk, OnErr, Bor, refl, sym, ap, subst, ◌∙◌, arith}
-use Rattle.std.specs.Global.{Vec}
 use Rattle.std.specs.List.{AllByRecursion, flat_map}
 use Rattle.disk_trait.specs.Disk.{State, IsHonest, IsSound}
 use Rattle.gate_log.specs.Layout.{IsLogRecord, LogRecord, open_record}
@@ -12,6 +11,7 @@ use Rattle.lisp_operators.specs.declared.evaluated.Evaluated.{Evaluated}
 use Rattle.lisp_reading.specs.Reading.{form}
 use Rattle.plist_state.specs.State.{WorldState}
 use Rattle.prevalence_store.specs.declared.batch.Batch.{Batch}
+use Rattle.prevalence_store.specs.declared.batch.BatchRecord.{BatchRecord}
 use Rattle.prevalence_store.specs.declared.failure.Failure.{Failure}
 use Rattle.prevalence_store.specs.declared.failure.Failure.TheVariants.{Refused, Full, DeviceFault, OutOfMemory}
 use Rattle.prevalence_store.specs.declared.mode.Mode.{Mode}
@@ -19,12 +19,13 @@ use Rattle.prevalence_store.specs.declared.outcome.Outcome.{Outcome}
 use Rattle.prevalence_store.specs.declared.outcome.Wanted.{Wanted}
 use Rattle.prevalence_store.specs.declared.session.answer.Reply.{Reply}
 use Rattle.prevalence_store.specs.declared.session.gather.Gathered.{Gathered}
+use Rattle.prevalence_store.specs.declared.session.gather.GroupLimit.{GroupLimit}
 use Rattle.prevalence_store.specs.meaning.Acceptance.{after, logged, read_in, records_of}
 use Rattle.prevalence_store.specs.calls.Execute.{Stores, SurvivesAs, taken_in}
 use Rattle.prevalence_store.specs.calls.ExecuteAll.{LogsAll, Turns, in_turn, told_by}
 use Rattle.prevalence_store.specs.calls.Store.{StoreView}
 use Rattle.prevalence_store.specs.steps.Answer.{IsLeft, IsReplyTo, TakesReply}
-use Rattle.prevalence_store.specs.steps.Batch.{IsNotAdded, StoresBatch, TakesBatch, TakesForm, entries_in, entries_of_texts}
+use Rattle.prevalence_store.specs.steps.Batch.{IsNotAdded, StoresBatch, TakesBatch, TakesForm, entries_in, entries_of}
 use Rattle.prevalence_store.specs.steps.Failure.{IsCause, is_device}
 use Rattle.prevalence_store.specs.steps.Gather.{IsCounted, IsGathered, TakesGroup}
 use Rattle.prevalence_store.specs.steps.Group.{TakesAll}
@@ -38,8 +39,8 @@ one_size : (mode : Mode) (text : List ℕ) → length (flat_map open_record (log
 one_size mode text = let none : 0 + (6 + length text) ≡ 6 + length text = omega arith in room_is (logged mode text ∷ []) ∙ none
 
 -- a form that was added to a batch of none
-pub alone : (mode : Mode) (begun new : Batch) (taken : List LogRecord) → begun.texts.items ≡ [] → entries_in mode new ≡ entries_in mode begun ++ taken → entries_in mode new ≡ taken
-alone mode begun new taken none is = is ∙ ap (λ (ts : List (Vec ℕ)). entries_of_texts mode ts ++ taken) none
+pub alone : (begun new : Batch) (taken : List LogRecord) → begun.records.items ≡ [] → entries_in new ≡ entries_in begun ++ taken → entries_in new ≡ taken
+alone begun new taken none is = is ∙ ap (λ (forms : List BatchRecord). entries_of forms ++ taken) none
 
 -- what follows of a result
 pub ok_on : {T E : Type 0} (result : Result T E) {P Q : Type 0} → (P → Q) → OnOk result P → OnOk result Q
@@ -51,9 +52,9 @@ err_on (Ok value) f is = tt
 err_on (Err error) f is = f is
 
 -- forms that were given back
-pub counted_again : (next many most : ℕ) (gathered : Gathered) (result : Result Gathered Failure) → IfOk result (λ given. given ≡ gathered) → IsCounted next many most gathered → IfOk result (IsCounted next many most)
-counted_again next many most gathered (Ok given) same counts = subst (IsCounted next many most) (sym same) counts
-counted_again next many most gathered (Err failure) same counts = tt
+pub counted_again : (next many : ℕ) (limit : GroupLimit) (gathered : Gathered) (result : Result Gathered Failure) → IfOk result (λ given. given ≡ gathered) → IsCounted next many limit gathered → IfOk result (IsCounted next many limit)
+counted_again next many limit gathered (Ok given) same counts = subst (IsCounted next many limit) (sym same) counts
+counted_again next many limit gathered (Err failure) same counts = tt
 
 -- the cause of a form that was not added, in words of the store
 pub cause_not_added : (given : Evaluation Object) (size limit n : ℕ) (failure : Failure) → IsNotAdded given failure → IsCause given size limit n failure
@@ -74,14 +75,14 @@ module _ (functions : Functions) where
   entries_to mode own (Err failure) = []
 
   -- it is in the batch, makes the world that the form left, and fits the log
-  pub reply_made : (mode : Mode) (w v : WorldState) (own : List ℕ) (x : Object) (begun new : Batch) (reply : Reply) (answer : Result Evaluated Failure) → IsReplyTo functions.names x own w v begun new reply answer
-      → begun.texts.items ≡ [] → read_in functions w mode own ≡ form x 0 (length own) (length own)
-      → (entries_in mode new ≡ entries_to mode own answer) × (after functions w (entries_to mode own answer) ≡ Some v) × AllByRecursion IsLogRecord (entries_to mode own answer)
+  pub reply_made : (mode : Mode) (w v : WorldState) (own : List ℕ) (x : Object) (begun new : Batch) (reply : Reply) (answer : Result Evaluated Failure) → IsReplyTo functions.names mode x own w v begun new reply answer
+      → begun.records.items ≡ [] → read_in functions w mode own ≡ form x 0 (length own) (length own)
+      → (entries_in new ≡ entries_to mode own answer) × (after functions w (entries_to mode own answer) ≡ Some v) × AllByRecursion IsLogRecord (entries_to mode own answer)
   reply_made mode w v own x begun new reply (Ok e) is none whole =
       let made = one_record mode w v own x e whole is.0 in
-      (alone mode begun new (records_of e.wrote mode own) none (is.2 mode), made.0, made.1)
+      (alone begun new (records_of e.wrote mode own) none is.2, made.0, made.1)
   reply_made mode w v own x begun new reply (Err (Refused number)) is none whole =
-      (ap (λ (b : Batch). entries_in mode b) is.2 ∙ ap (λ (ts : List (Vec ℕ)). entries_of_texts mode ts) none, ap (λ s. Some s) (sym is.1), tt)
+      (ap (λ (b : Batch). entries_in b) is.2 ∙ ap entries_of none, ap (λ s. Some s) (sym is.1), tt)
   reply_made mode w v own x begun new reply (Err Full) is none whole = absurd is
   reply_made mode w v own x begun new reply (Err DeviceFault) is none whole = absurd is
   reply_made mode w v own x begun new reply (Err OutOfMemory) is none whole = absurd is
@@ -98,6 +99,7 @@ module _ (functions : Functions) where
         generation = all.generation;
         record_count = all.record_count;
         size = all.size ∙ ap (λ n. old.size + n) (one_size mode text);
+        first_size = all.first_size;
         fits = all.fits (omega arith);
         limit = all.limit;
         macros = all.macros;
@@ -165,7 +167,7 @@ module _ (functions : Functions) where
 
         -- with the reply to it
         module _ (w v : WorldState) (known : old.world ≡ Some w) (begun batch : Batch) (reply : Reply) where
-          pub reply_taken : (answer : Result Evaluated Failure) → IsReplyTo functions.names x text w v begun batch reply answer → StoresBatch functions state old new w v (entries_to mode text answer)
+          pub reply_taken : (answer : Result Evaluated Failure) → IsReplyTo functions.names mode x text w v begun batch reply answer → StoresBatch functions state old new w v (entries_to mode text answer)
               → TakesReply functions state old new mode text x reply
           reply_taken (Ok e) is stores = record {
             answer = Ok e;
@@ -191,7 +193,7 @@ module _ (functions : Functions) where
           none_left DeviceFault took = let stopped = took.stopped refl in absurd (omega (arith, stopped.some))
           none_left (Refused number) took = absurd (cc)
 
-          pub reply_left : (answer : Result Evaluated Failure) → IsReplyTo functions.names x text w v begun batch reply answer → (failure : Failure) {T : Type 0}
+          pub reply_left : (answer : Result Evaluated Failure) → IsReplyTo functions.names mode x text w v begun batch reply answer → (failure : Failure) {T : Type 0}
               → TakesBatch functions state old new w v (entries_to mode text answer) {T = T} (Err failure) → IsLeft functions state old new mode text x failure
           reply_left (Ok e) is failure took = record { takes = takes_failure w v known e is.0 failure took; no_refusal = took.no_refusal }
           reply_left (Err (Refused number)) is failure took = record { takes = none_left failure took; no_refusal = took.no_refusal }
@@ -230,7 +232,7 @@ module _ (functions : Functions) where
       pub group_stored : (gathered : Gathered) (is : IsGathered functions wanted w text v gathered) → StoresBatch functions state old new w is.far.world is.far.taken
           → TakesGroup functions wanted state old new w text (Ok gathered)
       group_stored gathered is stores = record {
-        together = record { left = v; gathers = is; logs = stores.logs; survives = stores.survives };
+        together = record { left = v; gathers = is; logs = stores.logs; survives = stores.survives; all_or_none = stores.all_or_none };
         unchanged = tt;
         stopped = tt;
       }

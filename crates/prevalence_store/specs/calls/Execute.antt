@@ -50,6 +50,7 @@ module _ {D R : Type 0} (state : D → State) (old new : StoreView D R) where
     pub generation : new.generation ≡ old.generation
     pub record_count : new.record_count ≡ old.record_count + 1
     pub size : new.size ≡ old.size + (6 + length text)
+    pub first_size : new.first_size ≡ old.first_size
     pub fits : new.size ≤ old.limit
     pub limit : new.limit ≡ old.limit
     pub macros : new.macros ≡ old.macros
@@ -71,6 +72,7 @@ module _ {D R : Type 0} (state : D → State) (old new : StoreView D R) where
     pub generation : new.generation ≡ old.generation
     pub record_count : new.record_count ≡ old.record_count
     pub size : new.size ≡ old.size
+    pub first_size : new.first_size ≡ old.first_size
     pub limit : new.limit ≡ old.limit
     pub macros : new.macros ≡ old.macros
     -- this half was left alone

@@ -1,5 +1,6 @@
--- When a session takes snapshots: after each so many forms that were logged; and for a record that has no room.
-use Rattle.std.specs.Prelude.{◌≡◌, ◌≢◌, ◌⊎◌, ℕ, ◌+◌, ◌<◌, ◌≤◌, List, [], ◌∷◌, ◌++◌, length, Some}
+-- When a session takes snapshots: after each so many forms that were logged; once the half in use has grown so many times; and for a
+-- record that has no room.
+use Rattle.std.specs.Prelude.{◌≡◌, ◌≢◌, ◌⊎◌, ℕ, ◌+◌, ◌*◌, ◌<◌, ◌≤◌, List, [], ◌∷◌, ◌++◌, length, Some}
 use Rattle.gate_log.specs.Layout.{LogRecord}
 use Rattle.lisp_object.specs.declared.refusal.TheConstants.{DEVICE, LOG_FULL, OUTPUT, NO_MEMORY}
 use Rattle.plist_state.specs.State.{WorldState}
@@ -13,41 +14,53 @@ use Rattle.prevalence_store.specs.meaning.Answers.{Progress, one_form}
 use Rattle.prevalence_store.specs.calls.Store.{StoreView}
 use Rattle.prevalence_store.specs.calls.Snapshot.{IsTooLargeFor}
 
--- A snapshot comes after every so many forms that were logged, never if that is 0; and the next one after so many as are left.
+-- A snapshot comes after every so many forms that were logged, never if that is 0, and the next one after so many as are left; and
+-- once the half in use has grown so many times, never if that is 0.
 pub record Pace : Type 0 where
   pub every : ℕ
   pub left : ℕ
+  pub ratio : ℕ
 
 -- as a session begins
-abbrev pub first_pace : ℕ → Pace
-first_pace every = record { every = every; left = every }
-
--- a snapshot is due after the form that is logged now
-abbrev pub IsDue : Pace → Type 0
-IsDue pace = (pace.left ≤ 1) × (0 < pace.every)
+abbrev pub first_pace : (every ratio : ℕ) → Pace
+first_pace every ratio = record { every = every; left = every; ratio = ratio }
 
 -- that form was counted
 pub record Counts (pace later : Pace) : Type 0 where
   pub every : later.every ≡ pace.every
+  pub ratio : later.ratio ≡ pace.ratio
   pub fewer : 1 < pace.left → later.left + 1 ≡ pace.left
   pub again : pace.left ≤ 1 → later.left ≡ pace.every
 
--- Of the half in use: its generation, how many records it holds, and how many bytes it takes.
+-- Of the half in use: its generation, how many records it holds, and how many bytes it takes and took before its first record.
 pub record Fill : Type 0 where
   pub generation : ℕ
   pub record_count : ℕ
   pub size : ℕ
+  pub first_size : ℕ
 
 abbrev pub fill_of : {D R : Type 0} → StoreView D R → Fill
-fill_of store = record { generation = store.generation; record_count = store.record_count; size = store.size }
+fill_of store = record { generation = store.generation; record_count = store.record_count; size = store.size; first_size = store.first_size }
+
+-- it has at least 1 MiB, and so many times the bytes that it had before its first record
+abbrev pub HasGrown : ℕ → (size first_size : ℕ) → Type 0
+HasGrown ratio size first_size = (0 < ratio) × (1048576 ≤ size) × (ratio * first_size ≤ size)
+
+-- a snapshot is due after the form that is logged now, by the number of forms
+abbrev pub IsDueByCount : Pace → Type 0
+IsDueByCount pace = (pace.left ≤ 1) × (0 < pace.every)
+
+-- a snapshot is due after the form that is logged now, with which the half has come to this
+abbrev pub IsDue : Pace → Fill → Type 0
+IsDue pace fill = IsDueByCount pace ⊎ HasGrown pace.ratio fill.size fill.first_size
 
 -- with a record more
 abbrev pub longer_by : LogRecord → Fill → Fill
-longer_by entry fill = record { generation = fill.generation; record_count = fill.record_count + 1; size = fill.size + (6 + length entry.text) }
+longer_by entry fill = record { generation = fill.generation; record_count = fill.record_count + 1; size = fill.size + (6 + length entry.text); first_size = fill.first_size }
 
 -- the next half, with the text of this world
 abbrev pub begun_with : WorldState → Fill → Fill
-begun_with world fill = record { generation = fill.generation + 1; record_count = 0; size = 16 + length (snapshot world) }
+begun_with world fill = record { generation = fill.generation + 1; record_count = 0; size = 16 + length (snapshot world); first_size = 16 + length (snapshot world) }
 
 -- The form that this text begins with is accepted in this world, and a half of this size would pass its limit by its record.
 pub record IsOverIn (functions : Functions) (limit size : ℕ) (world : WorldState) (mode : Mode) (text : List ℕ) : Type 0 where
@@ -69,9 +82,9 @@ pub record LogsWithRoom (limit : ℕ) (world : WorldState) (entry : LogRecord) (
 -- What follows it, in the world that it left: a snapshot if one is due and there is a half for it, and else nothing.
 abbrev pub IsFollowed : ℕ → Pace → WorldState → Fill → Fill → Type 0
 IsFollowed limit pace world fill now =
-    ((IsDue pace → ⊥) × (now ≡ fill))
-    ⊎ ((IsDue pace × IsTooLargeFor limit fill.generation world × (now ≡ fill))
-    ⊎ (IsDue pace × (IsTooLargeFor limit fill.generation world → ⊥) × (now ≡ begun_with world fill)))
+    ((IsDue pace fill → ⊥) × (now ≡ fill))
+    ⊎ ((IsDue pace fill × IsTooLargeFor limit fill.generation world × (now ≡ fill))
+    ⊎ (IsDue pace fill × (IsTooLargeFor limit fill.generation world → ⊥) × (now ≡ begun_with world fill)))
 
 module _ (functions : Functions) (limit : ℕ) where
   -- a form with this record, and what follows it: it was taken in this world, and left the other
@@ -126,7 +139,7 @@ module _ (functions : Functions) (limit : ℕ) where
       -- the session ended in the answer to the last of them, or in the snapshot that is due after it
       pub record EndsInLast (number : ℕ) : Type 0 where
         pub unfollowed : IsUnfollowed far.taken now
-        pub why : (number ≡ OUTPUT) ⊎ ((number ≡ NO_MEMORY) ⊎ ((number ≡ DEVICE) × IsDue unfollowed.later))
+        pub why : (number ≡ OUTPUT) ⊎ ((number ≡ NO_MEMORY) ⊎ ((number ≡ DEVICE) × IsDue unfollowed.later now))
 
       -- the next form has no room in the half that was begun for it, or memory ran out
       pub record EndsInNewHalf (number : ℕ) : Type 0 where

@@ -51,6 +51,7 @@ module _ {D R : Type 0} (state : D → State) (old new : StoreView D R) where
     pub generation : new.generation ≡ old.generation
     pub record_count : new.record_count ≡ old.record_count + length taken
     pub size : new.size ≡ old.size + room_of taken
+    pub first_size : new.first_size ≡ old.first_size
     -- each record had room
     pub fits : new.size ≤ max old.size old.limit
     pub described : (k : Contents) → IsHonest (state old.disk) → Describes old k (state old.disk).reads
@@ -75,6 +76,7 @@ module _ {D R : Type 0} (state : D → State) (old new : StoreView D R) where
     pub generation : new.generation ≡ old.generation + snapshots
     pub record_count : new.record_count ≡ length later
     pub size : new.size ≡ 16 + length (snapshot first) + room_of later
+    pub first_size : new.first_size ≡ 16 + length (snapshot first)
     -- the text and each record had room
     pub fits : new.size ≤ old.limit
     pub described : (k : Contents) → IsHonest (state old.disk) → Describes old k (state old.disk).reads
@@ -224,12 +226,17 @@ module _ (functions : Functions) {D R : Type 0} (state : D → State) (old new :
       pub survives : SurvivesAs functions state old new world far.taken (length answered.taken)
       pub ends : Ends forms far lines answered part group ending
 
--- After these forms the reader refuses what is left of the text with this number, and with more after it too; and the forms are
--- the same then.
+-- The same forms come first in each text that goes on.
+abbrev pub StaysAnswered : Functions → WorldState → Mode → (text : List ℕ) (forms : ℕ) (far : Progress) → Type 0
+StaysAnswered functions world mode text forms far =
+    (more : List ℕ) → after_forms functions forms world mode (text ++ more) ≡ Some (record far { rest = far.rest ++ more })
+
+-- After these forms the reader refuses what is left of the text with this number, and with more after it too, at the same place; and the
+-- forms are the same then.
 abbrev pub StaysRefused : Functions → WorldState → Mode → (text : List ℕ) (forms : ℕ) (far : Progress) (number : ℕ) → Type 0
-StaysRefused functions world mode text forms far number = (more : List ℕ)
+StaysRefused functions world mode text forms far number = (at : ℕ) × ((more : List ℕ)
     → (after_forms functions forms world mode (text ++ more) ≡ Some (record far { rest = far.rest ++ more }))
-    × ((at : ℕ) × (read_in functions far.world mode (far.rest ++ more) ≡ refused number at))
+    × (read_in functions far.world mode (far.rest ++ more) ≡ refused number at))
 
 -- How much a session has read when it ends: at the end of the input all of it; at a refusal of the reader, also if the output
 -- failed in the line of it, all of it, or so much that what follows makes no difference; else what the reader has left is what
@@ -249,12 +256,12 @@ abbrev pub ServesInPace : (functions : Functions) {D R : Type 0} {group : Bool} 
 ServesInPace functions state pace old new world mode text held written ending served =
     EndsInPace functions old.limit world pace (fill_of old) mode served.forms served.far served.lines served.answered (fill_of new) ending
 
--- A session over what a reader gives, with a snapshot after every so many forms that were logged, with groups or without: what the reader
--- had is what was read and what is left.
-pub record ServesInput (functions : Functions) {D R : Type 0} (state : D → State) (group : Bool) (every : ℕ) (old new : StoreView D R) (world : WorldState) (mode : Mode) (had has held written : Option (List ℕ)) (ending : Ending) : Type 0 where
+-- A session over what a reader gives, with snapshots at this pace, with groups or without: what the reader had is what was read and what
+-- is left.
+pub record ServesInput (functions : Functions) {D R : Type 0} (state : D → State) (group : Bool) (pace : Pace) (old new : StoreView D R) (world : WorldState) (mode : Mode) (had has held written : Option (List ℕ)) (ending : Ending) : Type 0 where
   pub text : List ℕ
   pub serves : Serves functions state old new world mode text held written group ending
-  pub paced : ServesInPace functions state (first_pace every) old new world mode text held written ending serves
+  pub paced : ServesInPace functions state pace old new world mode text held written ending serves
   pub reads : (all : List ℕ) → had ≡ Some all
       → (left : List ℕ) × (all ≡ text ++ left) × HasRead functions state old new world mode text held written ending serves left has
 
@@ -310,6 +317,11 @@ module _ (functions : Functions) {D R : Type 0} (state : D → State) (old new :
     pub is_place : IsPlace forms_before bytes_before accepted text before.rest start place
     pub begins : place.start ≡ place.at
 
+  -- the forms are the same in each text that goes on
+  abbrev pub StaysStopped : (forms_before bytes_before number : ℕ) (place : Place) → StopsStrict forms_before bytes_before number place → Type 0
+  StaysStopped forms_before bytes_before number place stops =
+      StaysAnswered functions world mode text stops.forms stops.far × StaysAnswered functions world mode text stops.accepted stops.before
+
   -- The reader refused what was left, at this place, and what it refused begins just where the place says.
   abbrev pub RefusesAt : {group : Bool} (forms_before bytes_before number : ℕ) → Serves functions state old new world mode text held written group (Reader number) → Place → Type 0
   RefusesAt forms_before bytes_before number served place =
@@ -321,20 +333,25 @@ module _ (functions : Functions) {D R : Type 0} (state : D → State) (old new :
 abbrev pub AreAccepted : (forms lines : ℕ) (far answered : Progress) → Type 0
 AreAccepted forms lines far answered = (answered.refused ≡ []) × (lines + 1 < forms → far.refused ≡ [])
 
+abbrev pub pace_wanted : Wanted → Pace
+pace_wanted wanted = first_pace wanted.snapshot_every wanted.snapshot_ratio
+
 -- A session over what a reader gives, as it is wanted: as `ServesInput`, with the place of a refusal of the reader counted in the input;
 -- and if it is strict all forms whose lines were written whole were accepted, but the one at which it ended.
 abbrev pub ServesWanted : (functions : Functions) {D R : Type 0} (state : D → State) (wanted : Wanted) (old new : StoreView D R) (world : WorldState) (had has held written : Option (List ℕ)) → Ended → Type 0
 ServesWanted functions state wanted old new world had has held written ways.End =
-    (served : ServesInput functions state wanted.group wanted.snapshot_every old new world wanted.mode had has held written End)
+    (served : ServesInput functions state wanted.group (pace_wanted wanted) old new world wanted.mode had has held written End)
     × (wanted.strict ≡ true → AreAccepted served.serves.forms served.serves.lines served.serves.far served.serves.answered)
 ServesWanted functions state wanted old new world had has held written (ways.Unreadable number place) =
-    (served : ServesInput functions state wanted.group wanted.snapshot_every old new world wanted.mode had has held written (Reader number))
+    (served : ServesInput functions state wanted.group (pace_wanted wanted) old new world wanted.mode had has held written (Reader number))
     × (wanted.strict ≡ true → AreAccepted served.serves.forms served.serves.lines served.serves.far served.serves.answered)
-    × RefusesAt functions state old new world wanted.mode served.text held written (first_pace wanted.snapshot_every) 0 0 number served.serves place
+    × RefusesAt functions state old new world wanted.mode served.text held written (pace_wanted wanted) 0 0 number served.serves place
 ServesWanted functions state wanted old new world had has held written (ways.Unaccepted number place) =
     (wanted.strict ≡ true) × (text : List ℕ)
-    × StopsStrict functions state old new world wanted.mode text held written (first_pace wanted.snapshot_every) 0 0 number place
+    × (stops : StopsStrict functions state old new world wanted.mode text held written (pace_wanted wanted) 0 0 number place)
     × ((all : List ℕ) → had ≡ Some all → (left : List ℕ) × (all ≡ text ++ left) × (has ≡ Some left))
+    -- the input is at its end, or what follows makes no difference
+    × ((all : List ℕ) → had ≡ Some all → (all ≡ text) ⊎ StaysStopped functions state old new world wanted.mode text held written (pace_wanted wanted) 0 0 number place stops)
 ServesWanted functions state wanted old new world had has held written (ways.Store number) =
-    (served : ServesInput functions state wanted.group wanted.snapshot_every old new world wanted.mode had has held written (Store number))
+    (served : ServesInput functions state wanted.group (pace_wanted wanted) old new world wanted.mode had has held written (Store number))
     × (wanted.strict ≡ true → AreAccepted served.serves.forms served.serves.lines served.serves.far served.serves.answered)

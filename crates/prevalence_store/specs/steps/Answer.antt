@@ -1,5 +1,5 @@
 -- What the answer to a form, and to a refusal of the reader, is to a session.
-use Rattle.std.specs.Prelude.{◌≡◌, ◌≢◌, ◌⊎◌, ℕ, ◌+◌, ◌≤◌, Bool, true, false, List, [], ◌∷◌, ◌++◌, length, Option, Some, IsSome, Ok, Err, Result}
+use Rattle.std.specs.Prelude.{◌≡◌, ◌≢◌, ◌⊎◌, ℕ, ◌+◌, ◌≤◌, Bool, true, false, List, [], ◌∷◌, ◌++◌, length, Option, None, Some, IsSome, Ok, Err, Result}
 use Rattle.disk_trait.specs.Disk.{State}
 use Rattle.gate_log.specs.Layout.{LogRecord}
 use Rattle.lisp_object.specs.Object.{Object, IsSound}
@@ -73,18 +73,24 @@ abbrev pub was_logged : Answered → Bool
 was_logged (Accepted logged) = logged
 was_logged (Refused number) = false
 
+-- the number of the refusal, if it ends a session that may be strict
+abbrev pub refusal_that_ends : (strict : Bool) → Answered → Option ℕ
+refusal_that_ends strict (Accepted logged) = None
+refusal_that_ends true (Refused number) = Some number
+refusal_that_ends false (Refused number) = None
+
 -- what a reply is to a form that was added to a batch in one world, and left the other, by what became of it
-abbrev pub IsReplyTo : (names : List (List ℕ)) → Object → List ℕ → (before after : WorldState) → (old new : Batch) → Reply → Result Evaluated Failure → Type 0
-IsReplyTo names object own before after old new reply (Ok e) =
+abbrev pub IsReplyTo : (names : List (List ℕ)) → Mode → Object → List ℕ → (before after : WorldState) → (old new : Batch) → Reply → Result Evaluated Failure → Type 0
+IsReplyTo names mode object own before after old new reply (Ok e) =
     (accept names before object ≡ Ok (done e after)) × IsArgument after.packages e.value
-    × ((mode : Mode) → entries_in mode new ≡ entries_in mode old ++ records_of e.wrote mode own)
+    × (entries_in new ≡ entries_in old ++ records_of e.wrote mode own)
     × (reply.line.items ≡ value_line after (object_of e.value)) × (reply.answered ≡ Accepted e.wrote)
-IsReplyTo names object own before after old new reply (Err (failure.Refused number)) =
+IsReplyTo names mode object own before after old new reply (Err (failure.Refused number)) =
     (accept names before object ≡ Err number) × (after ≡ before) × (new ≡ old)
     × (reply.line.items ≡ refusal_line number) × (reply.answered ≡ Refused number)
-IsReplyTo names object own before after old new reply (Err failure.Full) = ⊥
-IsReplyTo names object own before after old new reply (Err failure.DeviceFault) = ⊥
-IsReplyTo names object own before after old new reply (Err failure.OutOfMemory) = ⊥
+IsReplyTo names mode object own before after old new reply (Err failure.Full) = ⊥
+IsReplyTo names mode object own before after old new reply (Err failure.DeviceFault) = ⊥
+IsReplyTo names mode object own before after old new reply (Err failure.OutOfMemory) = ⊥
 
 module _ (functions : Functions) {D R : Type 0} (state : D → State) (old new : StoreView D R) (mode : Mode) (own : List ℕ) (object : Object) where
   -- a form was taken, and this is the reply to it
@@ -116,7 +122,7 @@ module _ (functions : Functions) {D R : Type 0} (state : D → State) (old new :
   abbrev pub EndsTry : (text : List ℕ) (held written : Option (List ℕ)) (number : ℕ) → StopsInForm text held written number → Type 0
   EndsTry text held written number stops =
       ((number ≡ NO_MEMORY) × (stops.serves.far ≡ begun world text) × (fill_of new ≡ fill_of old))
-      ⊎ (((stops.serves.forms ≡ 1) × ((number ≡ OUTPUT) ⊎ (number ≡ NO_MEMORY))
+      ⊎ (((stops.serves.forms ≡ 1) × (number ≡ OUTPUT)
       × ((wrote : Bool) × LeavesRecord (LogsAtOnce old.limit (fill_of old) (fill_of new)) stops.serves.far.taken (fill_of old) (fill_of new) wrote))
       ⊎ ((number ≡ DEVICE) × (stops.serves.forms ≡ stops.serves.lines + 1) × (stops.serves.answered ≡ begun world text) × (fill_of new ≡ fill_of old)))
 

@@ -1,7 +1,7 @@
 -- How far a session has come.
 use Rattle.std.specs.Prelude.{◌≡◌, ℕ, ◌+◌, List, length}
 use Rattle.prevalence_store.specs.declared.session.course.Course.{Course as CourseOf}
-use Rattle.prevalence_store.specs.calls.Pace.{Pace, first_pace}
+use Rattle.prevalence_store.specs.calls.Pace.{Pace}
 use Rattle.prevalence_store.specs.steps.Schedule.{pace_of}
 
 -- the pace of its snapshots, how many forms were answered, and how many bytes of the input they took
@@ -14,8 +14,8 @@ abbrev pub course_of : CourseOf → Course
 course_of course = record { pace = pace_of course.schedule; forms = course.forms; bytes = course.bytes }
 
 -- as a session begins
-abbrev pub first_course : ℕ → Course
-first_course every = record { pace = first_pace every; forms = 0; bytes = 0 }
+abbrev pub first_course : Pace → Course
+first_course pace = record { pace = pace; forms = 0; bytes = 0 }
 
 -- a form more, which took so many bytes
 abbrev pub pass : ℕ → Course → Course

@@ -14,7 +14,7 @@ use Rattle.prevalence_store.specs.meaning.Answers.{Progress, after_forms}
 use Rattle.prevalence_store.specs.calls.Pace.{Pace, Paces, fill_of}
 use Rattle.prevalence_store.specs.steps.Input.{IsPending}
 use Rattle.prevalence_store.specs.steps.Course.{Comes, Course}
-use Rattle.prevalence_store.specs.calls.Serve.{Advances, AreAccepted, RefusesAt, Serves, ServesInPace, StaysRefused, StopsStrict}
+use Rattle.prevalence_store.specs.calls.Serve.{Advances, AreAccepted, RefusesAt, Serves, ServesInPace, StaysRefused, StaysStopped, StopsStrict}
 use Rattle.prevalence_store.specs.calls.Store.{StoreView}
 use Rattle.plist_state.specs.State.{WorldState}
 use Rattle.user_macros.specs.Functions.{Functions}
@@ -87,7 +87,8 @@ module _ (functions : Functions) {D R : Type 0} (state : D → State) (wanted : 
       × (wanted.strict ≡ true → AreAccepted is.serves.forms is.serves.lines is.serves.far is.serves.answered)
       × RefusesAt functions state old new world mode text held written course.pace course.forms course.bytes number is.serves place
   HasEndedAt (ways.Unaccepted number place) =
-      (wanted.strict ≡ true) × StopsStrict functions state old new world mode text held written course.pace course.forms course.bytes number place
+      (wanted.strict ≡ true) × (stops : StopsStrict functions state old new world mode text held written course.pace course.forms course.bytes number place)
+      × StaysStopped functions state old new world mode text held written course.pace course.forms course.bytes number place stops
   HasEndedAt (ways.Store number) =
       (is : HasEnded functions state course.pace old new world mode text held written wanted.group (Store number))
       × (wanted.strict ≡ true → AreAccepted is.serves.forms is.serves.lines is.serves.far is.serves.answered)

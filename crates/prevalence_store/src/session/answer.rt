@@ -6,7 +6,7 @@ ghost use Rattle.lisp_object.specs.declared.refusal.TheConstants.{LOG_FULL};
 ghost use Rattle.lisp_operators.specs.declared.evaluated.Evaluated.{Evaluated};
 ghost use Rattle.plist_state.specs.State.{WorldState};
 ghost use Rattle.prevalence_store.specs.declared.failure.Failure.{Failure};
-ghost use Rattle.prevalence_store.specs.steps.Answer.{AnswersFault, AnswersForm, AnswersRead, BeginsWith, FitsForm, IsFormOf, IsReplyTo, TriesForm, was_logged};
+ghost use Rattle.prevalence_store.specs.steps.Answer.{AnswersFault, AnswersForm, AnswersRead, BeginsWith, FitsForm, IsFormOf, IsReplyTo, TriesForm, refusal_that_ends, was_logged};
 ghost use Rattle.prevalence_store.specs.steps.Batch.{IsMarkedFirst};
 ghost use Rattle.prevalence_store.specs.steps.Course.{course_of};
 ghost use Rattle.prevalence_store.specs.steps.Schedule.{pace_of};
@@ -24,7 +24,7 @@ use disk_trait::Disk;
 use form_eval::ReadForm;
 use lisp_object::refusal::{LOG_FULL, NO_MEMORY, OUTPUT};
 use plist_state::World;
-use std::alloc::{AllocError, Global};
+use std::alloc::AllocError;
 use std::io::Write;
 use user_macros::MacroFunctions;
 
@@ -52,6 +52,16 @@ impl Answered {
         match self {
             Answered::Accepted { logged } => logged,
             Answered::Refused(_) => false,
+        }
+    }
+
+    /// The number of the refusal, if it ends a session that may be strict.
+    pub(crate) fn refusal_that_ends(self, strict: bool) -> Option<u16>
+        ensures { result ≡ refusal_that_ends strict self }
+    {
+        match self {
+            Answered::Refused(number) if strict => Some(number),
+            _ => None,
         }
     }
 }
@@ -208,20 +218,21 @@ impl<D: Disk, R: MacroFunctions> Store<D, R> {
 
 /// Adds a form to a batch, and makes the line that answers it.
 pub(crate) fn reply_to<R: MacroFunctions>(
-    alloc: Global,
     world: &mut World,
     macros: &R,
+    mode: Mode,
     batch: &mut Batch,
     form: &ReadForm,
     own: &[u8],
 ) -> Result<Reply, AllocError>
     requires form { MayEvaluate world.old.0.packages form.now }
-    ensures replies { IfOk result (λ reply. (answer : Result Evaluated Failure) × IsReplyTo R.Meaning.functions.names (object_of form.now.datum)
+    ensures replies { IfOk result (λ reply. (answer : Result Evaluated Failure) × IsReplyTo R.Meaning.functions.names mode (object_of form.now.datum)
         own.now world.old.0 world.new.0 batch.old batch.new reply answer) }
     ensures marks { (first : WorldState) → IsMarkedFirst first world.old.1
         → IsMarkedFirst first world.new.1 }
 {
-    match batch.add(alloc, world, macros, form, own) {
+    let alloc = batch.alloc;
+    match batch.add(world, macros, mode, form, own) {
         Ok(evaluated) => {
             let line = line_of_value(alloc, world, &evaluated)?;
             let logged = evaluated.wrote;

@@ -1,8 +1,9 @@
 // How far a session has come.
 ghost use Rattle.std.specs.Prelude.{◌≡◌, ◌+◌, ◌<◌, ◌≤◌, ◌^◌};
 ghost use Rattle.prevalence_store.specs.steps.Course.{course_of, first_course, pass, pass_all};
+ghost use Rattle.prevalence_store.specs.calls.Serve.{pace_wanted};
 
-use crate::outcome::Place;
+use crate::outcome::{Place, Wanted};
 use crate::session::schedule::Schedule;
 
 /// When the next snapshot is due, how many forms were answered, and how many bytes of the input they took.
@@ -14,12 +15,12 @@ pub(crate) struct Course {
 }
 
 impl Course {
-    /// Before the first form, with a snapshot after every so many.
-    pub(crate) fn new(every: u64) -> Course
-        ensures { course_of result ≡ first_course every }
+    /// Before the first form, with snapshots as they are wanted.
+    pub(crate) fn new(wanted: Wanted) -> Course
+        ensures { course_of result ≡ first_course (pace_wanted wanted) }
     {
         Course {
-            schedule: Schedule::new(every),
+            schedule: Schedule::new(wanted.snapshot_every, wanted.snapshot_ratio),
             forms: 0,
             bytes: 0,
         }

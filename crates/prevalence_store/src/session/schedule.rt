@@ -1,7 +1,7 @@
 // When a session takes snapshots, and how.
-ghost use Rattle.std.specs.Prelude.{◌≡◌, ◌↔◌, Some, IsSome, IsTrue};
+ghost use Rattle.std.specs.Prelude.{◌≡◌, ◌↔◌, ◌<◌, ◌≤◌, ◌+◌, ◌^◌, ℕ, None, Some, IfSome, IsSome, IsTrue};
 ghost use Rattle.plist_state.specs.State.{WorldState};
-ghost use Rattle.prevalence_store.specs.calls.Pace.{Counts, IsDue, first_pace};
+ghost use Rattle.prevalence_store.specs.calls.Pace.{Counts, HasGrown, IsDueByCount, first_pace};
 ghost use Rattle.prevalence_store.specs.steps.Schedule.{CountsAll, IsBeforeDue, Renewing, RenewsAfterForm, pace_of};
 
 use crate::outcome::Outcome;
@@ -10,19 +10,28 @@ use disk_trait::Disk;
 use lisp_object::refusal::SNAPSHOT_TOO_LARGE;
 use user_macros::MacroFunctions;
 
-/// A snapshot after every so many forms that were logged, and how many are left until the next one.
+/// The least size of a half that has grown enough for a snapshot.
+const LEAST_GROWN: u64 = 1 << 20;
+
+/// A snapshot after every so many forms that were logged, and how many are left until the next one; and one once the half in use has
+/// grown so many times.
 #[derive(Drop)]
 pub(crate) struct Schedule {
     every: u64,
     left: u64,
+    pub(crate) ratio: u64,
 }
 
 impl Schedule {
-    /// A snapshot after every so many forms; never if that is 0.
-    pub(crate) fn new(every: u64) -> Schedule
-        ensures { pace_of result ≡ first_pace every }
+    /// A snapshot after every so many forms, and once the half has grown so many times; never if these are 0.
+    pub(crate) fn new(every: u64, ratio: u64) -> Schedule
+        ensures { pace_of result ≡ first_pace every ratio }
     {
-        Schedule { every, left: every }
+        Schedule {
+            every,
+            left: every,
+            ratio,
+        }
     }
 
     /// How many forms may be logged before a snapshot is due.
@@ -49,9 +58,9 @@ impl Schedule {
         }
     }
 
-    /// Counts a form that was logged, and says whether a snapshot is due.
+    /// Counts a form that was logged, and says whether a snapshot is due by the number of forms.
     pub(crate) fn count(&mut self) -> bool
-        ensures due { IsTrue result ↔ IsDue (pace_of self.old) }
+        ensures due { IsTrue result ↔ IsDueByCount (pace_of self.old) }
         ensures counts { Counts (pace_of self.old) (pace_of self.new) }
     {
         if self.left > 1 {
@@ -60,6 +69,32 @@ impl Schedule {
         }
         self.left = self.every;
         self.every > 0
+    }
+}
+
+/// The least size of a half that has grown so many times; none where no half may have it.
+pub(crate) fn grown_size(ratio: u64, first_size: u64) -> Option<u64>
+    ensures some { IfSome result (λ least. (size : ℕ)
+        → HasGrown ratio size first_size ↔ (least ≤ size)) }
+    ensures none { result ≡ None → (size : ℕ) → size < 2 ^ 64
+        → HasGrown ratio size first_size → ⊥ }
+{
+    if ratio == 0 {
+        return None;
+    }
+    match ratio.checked_mul(first_size) {
+        Some(grown) => Some(grown.max(LEAST_GROWN)),
+        None => None,
+    }
+}
+
+/// How many bytes more a half of this size may take before it has grown so many times.
+pub(crate) fn bytes_before_grown(ratio: u64, size: u64, first_size: u64) -> u64
+    ensures { 0 < result → HasGrown ratio (size + result) first_size → ⊥ }
+{
+    match grown_size(ratio, first_size) {
+        Some(least) => least.saturating_sub(size).saturating_sub(1),
+        None => u64::MAX - size,
     }
 }
 
@@ -76,7 +111,9 @@ impl<D: Disk, R: MacroFunctions> Store<D, R> {
         if !wrote {
             return None;
         }
-        if !schedule.count() {
+        // a form is counted also where the half has grown
+        let counted = schedule.count();
+        if !counted && !self.has_grown(schedule.ratio) {
             return None;
         }
         match self.renew() {

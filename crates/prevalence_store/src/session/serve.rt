@@ -5,6 +5,7 @@ ghost use Rattle.std.specs.Io.KnownBytes.{ReadConsumes};
 ghost use Rattle.lisp_object.specs.declared.refusal.TheConstants.{REOPEN};
 ghost use Rattle.plist_state.specs.State.{WorldState};
 ghost use Rattle.form_reader.specs.Reader.{fed};
+ghost use Rattle.prevalence_store.specs.calls.Pace.{first_pace};
 ghost use Rattle.prevalence_store.specs.calls.Serve.{ServesInput, ServesWanted};
 ghost use Rattle.prevalence_store.specs.steps.Input.{AreAllThere, AwaitsMore, IsPending, IsSoundFed, IsWithin, Feeds, FeedsPart, Finishes};
 ghost use Rattle.prevalence_store.specs.steps.Course.{course_of};
@@ -59,7 +60,7 @@ impl<D: Disk, R: MacroFunctions> Store<D, R> {
             → (result ≡ Ending.Store REOPEN) × (self.new ≡ self.old)
             × (reader.new ≡ reader.old) × (writer.new ≡ writer.old) }
         ensures serves { (world : WorldState) → self.old.world ≡ Some world
-            → ServesInput R.Meaning.functions D.state false snapshot_every self.old self.new world mode
+            → ServesInput R.Meaning.functions D.state false (first_pace snapshot_every 0) self.old self.new world mode
             (I.remaining reader.old) (I.remaining reader.new) (W.contents writer.old) (W.contents writer.new) result }
         ensures honest { (D.state self.new.disk).honest ≡ (D.state self.old.disk).honest }
         ensures macros { self.new.macros ≡ self.old.macros }
@@ -67,6 +68,7 @@ impl<D: Disk, R: MacroFunctions> Store<D, R> {
         let wanted = Wanted {
             mode,
             snapshot_every,
+            snapshot_ratio: 0,
             strict: false,
             group: false,
         };
@@ -82,12 +84,15 @@ impl<D: Disk, R: MacroFunctions> Store<D, R> {
     /// first form whose evaluation is refused ends the session once it is answered. What the session has read after that form is
     /// let go.
     ///
+    /// If `snapshot_ratio` is not 0, a snapshot is due also after a form that was logged, once the half in use has at least 1 MiB, and so many
+    /// times the bytes that it had before its first record. It changes nothing in the count of `snapshot_every`.
+    ///
     /// If it has groups, it is read in pieces of at most 65,536 bytes, and the forms that are whole in one of them are evaluated one after the other, and those that
     /// write are appended to the log together, for the device calls of one; their lines are written then, before the next
     /// read. What is written and what the files hold at the end is what a session without groups gives. A group ends before a
-    /// form that is not whole or is refused by the reader, before one that is refused if the session is strict, before the form after
-    /// which a snapshot may be due, and once 65,536 bytes of lines are held back. Where the half has no room for a group, or
-    /// memory runs out in it, its first form is answered by itself.
+    /// form that is not whole or is refused by the reader, before one that is refused if the session is strict, before one for whose
+    /// record the half has no room, before the form after which a snapshot may be due, and once 65,536 bytes of lines are held back. Where
+    /// its first form cannot be in it, or memory runs out in it, that form is answered by itself.
     pub fn serve_wanted<I: Read, W: Write>(
         &mut self,
         reader: &mut I,
@@ -109,7 +114,7 @@ impl<D: Disk, R: MacroFunctions> Store<D, R> {
             return Ended::Store(REOPEN);
         }
         let mut pending = Pending::new(self.alloc);
-        let mut course = Course::new(wanted.snapshot_every);
+        let mut course = Course::new(wanted);
         let mut buffer = [0u8; 65536];
         let mut reads = 0;
         'reads: while reads < MOST_READS {

@@ -10,6 +10,7 @@ ghost use Rattle.user_macros.specs.Functions.{are_registered};
 
 use crate::outcome::{Ended, Wanted};
 use crate::session::course::Course;
+use crate::session::gather::GroupLimit;
 use crate::session::input::PlacedForm;
 use crate::store::Store;
 use disk_trait::Disk;
@@ -65,12 +66,14 @@ impl<D: Disk, R: MacroFunctions> Store<D, R> {
         ensures honest { (D.state self.new.disk).honest ≡ (D.state self.old.disk).honest }
         ensures macros { self.new.macros ≡ self.old.macros }
     {
-        let most = course.schedule.before_due();
-        if !wanted.group || most == 0 {
+        let forms = course.schedule.before_due();
+        if !wanted.group || forms == 0 {
             return Grouped::Left;
         }
+        let bytes = self.room_before_grown(course.schedule.ratio);
+        let limit = GroupLimit { forms, bytes };
         self.keeps_its_world();
-        let gathered = match self.take_group(wanted, most, first, rest) {
+        let gathered = match self.take_group(wanted, limit, first, rest) {
             Ok(gathered) => gathered,
             Err(failure) => {
                 if failure.is_device() {
@@ -82,7 +85,7 @@ impl<D: Disk, R: MacroFunctions> Store<D, R> {
         // what is answered is stored: the lines come after the records
         match self.write_lines(writer, gathered.lines.as_slice()) {
             Ok(()) => {
-                course.schedule.pass(gathered.batch.texts.len() as u64);
+                course.schedule.pass(gathered.batch.records.len() as u64);
                 course.pass_all(gathered.forms, gathered.bytes);
                 Grouped::Answered(gathered.bytes - first.next)
             }

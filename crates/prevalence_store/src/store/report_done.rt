@@ -19,10 +19,10 @@ impl<D: Disk, R: MacroFunctions> Store<D, R> {
 }
 
 impl<D: DefersCalls, R: MacroFunctions> Store<D, R> {
-    /// Tells the disk that all calls were done which it deferred. The store is as it was, and so is what the disk holds. To the theorem
-    /// it is a call that takes no form.
-    pub fn report_done(&mut self)
-        ensures disk { D.reports self.old.disk self.new.disk }
+    /// Tells the disk that the calls were done which it handed out as so many bytes. The store is as it was, and so is what the disk
+    /// holds. To the theorem it is a call that takes no form.
+    pub fn report_done(&mut self, count: usize)
+        ensures disk { D.reports count self.old.disk self.new.disk }
         ensures store { self.new ≡ record self.old { disk = self.new.disk } }
         ensures tells { Told false (D.state self.old.disk) (D.state self.new.disk) }
         ensures survives { (world : WorldState) → self.old.world ≡ Some world
@@ -30,6 +30,6 @@ impl<D: DefersCalls, R: MacroFunctions> Store<D, R> {
             → Keeps R.Meaning.functions (D.state self.old.disk) world
             → Survives R.Meaning.functions (D.state self.old.disk) (D.state self.new.disk) world [] 0 self.new.world }
     {
-        self.log.halves.report_done();
+        self.log.halves.report_done(count);
     }
 }

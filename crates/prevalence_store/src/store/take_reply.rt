@@ -35,8 +35,8 @@ impl<D: Disk, R: MacroFunctions> Store<D, R> {
             return Err(Failure::OutOfMemory);
         };
         let world = &mut self.world;
-        match reply_to(self.alloc, world, &self.macros, &mut batch, form, text) {
-            Ok(reply) => match batch.log(self.alloc, mode, &mut self.log, &mut self.world) {
+        match reply_to(world, &self.macros, mode, &mut batch, form, text) {
+            Ok(reply) => match batch.log(&mut self.log, &mut self.world) {
                 Ok(()) => Ok(reply),
                 Err(failure) => Err(failure),
             },

@@ -1,5 +1,6 @@
 use Rattle.std.proofs.Common.{◌∙◌, ◌<◌, ◌≤◌, ℕ, List, length, get_or, sym, ap, subst}
 use Rattle.package_table.specs.Meaning.{finds_another, shown_positions, shown_symbol}
+use Rattle.package_table.proofs.Mapped.{named}
 use Rattle.package_table.proofs.Names.{none_some}
 use Rattle.package_table.proofs.ByName.{package_is}
 use Rattle.package_table.proofs.Listed.{any_hit, any_missed, any_end}
@@ -18,8 +19,11 @@ shown_symbol-requires c high =
     subst (λ (xs : List ℕ). get_or xs c.loop-position.position-index 0 < length c.args.sets.now.externals) (sym c.shown_positions-position-items.ensures)
     (shown_place_fits c.args.sets.now c.in-Some-find_package.used c.loop-position.position-index (subst (λ (xs : List ℕ). c.loop-position.position-index < length xs) c.shown_positions-position-items.ensures c.loop-position-test.true) high)
 
-pub finds_another-requires : goal.finds_another-requires
-finds_another-requires c =
+pub finds_another-requires-clause-owner : goal.finds_another-requires-clause-owner
+finds_another-requires-clause-owner c = (named c.args.owner.now c.args.sets.now.packages c.in-Some.owner (sym c.in-Some.ensures)).0
+
+pub finds_another-requires-clause-symbol : goal.finds_another-requires-clause-symbol
+finds_another-requires-clause-symbol c =
     subst (λ (i : ℕ). i < length c.args.sets.now.symbols) (sym (c.shown_symbol.ensures ∙ ap (λ (xs : List ℕ). shown_symbol c.args.sets.now c.in-Some-find_package.used (get_or xs c.loop-position.position-index 0)) c.shown_positions-position-items.ensures))
     (shown_symbol_fits c.args.sets.now c.goodness.ensures c.in-Some-find_package.used c.loop-position.position-index (subst (λ (xs : List ℕ). c.loop-position.position-index < length xs) c.shown_positions-position-items.ensures c.loop-position-test.true))
 

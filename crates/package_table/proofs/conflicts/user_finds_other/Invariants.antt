@@ -1,10 +1,11 @@
-use Rattle.std.proofs.Common.{◌≡◌, ◌<◌, ℕ, false}
+use Rattle.std.proofs.Common.{◌≡◌, ◌<◌, ◌&&◌, ℕ, false}
+use Rattle.std.specs.FinMap as finite
 use Rattle.package_sets.specs.Kept.{name_at}
-use Rattle.package_table.specs.Reached.{reaches}
+use Rattle.package_table.specs.Changes.{finds_other}
 use Rattle.package_table.specs.Meaning.{numbered_of, package_in}
 use Rattle.package_table.proofs.conflicts.user_finds_other.Given as goal
 
--- from none of the packages passed a user finds another symbol
-abbrev pub invariant-loop-holder : goal.invariant-loop-holder
-invariant-loop-holder l =
-    (q : ℕ) → q < l.holder → reaches (numbered_of l.sets).0 (name_at l.sets.packages l.owner) l.home (name_at l.sets.names l.name) (name_at l.sets.packages q, package_in l.sets q) ≡ false
+-- none of the packages passed is a user that finds another symbol
+abbrev pub invariant-loop-user : goal.invariant-loop-user
+invariant-loop-user l =
+    (q : ℕ) → q < l.user → (finite.contains_key (package_in l.sets q).uses (name_at l.sets.packages l.owner) && finds_other (numbered_of l.sets).0 (name_at l.sets.packages q) l.home (name_at l.sets.names l.name)) ≡ false

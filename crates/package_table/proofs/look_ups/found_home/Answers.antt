@@ -2,11 +2,15 @@ use Rattle.std.proofs.Common.{◌∙◌, Some, option_map, sym, ap}
 use Rattle.package_sets.specs.Kept.{name_at}
 use Rattle.package_table.specs.Meaning.{home_in}
 use Rattle.package_table.proofs.FoundBy.{position_of, found_by, found_no_name}
+use Rattle.package_table.proofs.Mapped.{named}
 use Rattle.package_table.proofs.Puts.{this_known}
 use Rattle.package_table.proofs.look_ups.found_home.Goals as goal
 
 pub returns-in_default : goal.returns-in_default
 returns-in_default c = sym (found_no_name c.args.sets.now c.goodness.ensures (name_at c.args.sets.now.packages c.args.owner) c.args.name.now (sym c.in_default.ensures))
+
+pub found_number-requires-clause-name : goal.found_number-requires-clause-name
+found_number-requires-clause-name c = (named c.args.name.now c.args.sets.now.names c.in-Some.name (sym c.in-Some.ensures)).0
 
 pub home_name-requires : goal.home_name-requires
 home_name-requires c =

@@ -6,6 +6,7 @@ use Rattle.package_sets.specs.Good.{IsGood}
 use Rattle.package_table.specs.Numbers.{Numbered}
 use Rattle.package_table.specs.Meaning.{numbered_of, number_in}
 use Rattle.package_table.specs.Adds.{AddsNoSymbol}
+use Rattle.package_table.proofs.Mapped.{named}
 use Rattle.package_table.proofs.Names.{none_some}
 use Rattle.package_table.proofs.Adding.{external_adds}
 use Rattle.package_table.proofs.FoundBy.{found_no_name}
@@ -19,6 +20,12 @@ unreachable-requires c = let is = package_is c.args.sets.now c.goodness.ensures 
 pub unreachable-requires-in_default-find_name : goal.unreachable-requires-in_default-find_name
 unreachable-requires-in_default-find_name c =
     false≢true (sym (ap (λ o. option_map_or (λ g. bytes_eq g c.args.home.now) o false) (found_no_name c.args.sets.now c.goodness.ensures c.args.owner.now c.args.name.now (sym c.in_default-find_name.ensures))) ∙ c.requires.finds)
+
+pub found_number-requires-clause-owner : goal.found_number-requires-clause-owner
+found_number-requires-clause-owner c = (named c.args.owner.now c.args.sets.now.packages c.in-Some.owner (sym c.in-Some.ensures)).0
+
+pub found_number-requires-clause-name : goal.found_number-requires-clause-name
+found_number-requires-clause-name c = (named c.args.name.now c.args.sets.now.names c.in-Some-find_name.name (sym c.in-Some-find_name.ensures)).0
 
 pub unreachable-requires-in_default-found_number : goal.unreachable-requires-in_default-found_number
 unreachable-requires-in_default-found_number c =

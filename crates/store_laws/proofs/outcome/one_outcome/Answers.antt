@@ -1,4 +1,4 @@
-use Rattle.store_laws.proofs.Outcomes.{both_complete, completed, front_of_all, one_count}
+use Rattle.store_laws.proofs.Outcomes.{both_complete, both_stop, completed, front_of_all, one_count, stopped}
 use Rattle.store_laws.proofs.outcome.one_outcome.Goals as goal
 
 pub returns-clause-one_count : goal.returns-clause-one_count
@@ -18,3 +18,13 @@ returns-clause-same g c = λ functions wanted other old new before later world i
 pub returns-clause-front : goal.returns-clause-front
 returns-clause-front g c = λ functions wanted old new world input held written number forms far all served.
     front_of_all functions g.D.Disk.state old new world wanted input held written number forms far all served
+
+pub returns-clause-stopped : goal.returns-clause-stopped
+returns-clause-stopped g c = λ functions wanted old new world input has held written number place served.
+    stopped functions g.D.Disk.state old new world wanted input has held written number place served
+
+pub returns-clause-both_stopped : goal.returns-clause-both_stopped
+returns-clause-both_stopped g c = λ functions wanted other old new before later world input has held written number place others_has others_held others_written code others_place mode served others_served.
+    both_stop functions g.D.Disk.state g.E.Disk.state old new before later world wanted.mode other.mode input held written others_held others_written mode
+    (stopped functions g.D.Disk.state old new world wanted input has held written number place served)
+    (stopped functions g.E.Disk.state before later world other input others_has others_held others_written code others_place others_served)

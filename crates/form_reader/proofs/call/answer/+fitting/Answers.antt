@@ -11,7 +11,7 @@ use Rattle.form_reader.proofs.call.answer.+fitting.Goals as goal
 
 pub all_fit-loop-item-preserved : goal.all_fit-loop-item-preserved
 all_fit-loop-item-preserved t c =
-    let here = c.fits.ensures.fits c.if-not-fits.false in
+    let here = c.next_fits.ensures.fits c.if-not-next_fits.false in
     record {
       fit = All-more (Fits c.args.packages.now.0 c.args.room) c.as_slice-items.result.now c.loop-item.item-index c.item-item.result c.loop-item-test.true
           c.loop-item.invariant.fit (subst (Fits c.args.packages.now.0 c.args.room) c.item-item.is here.0);
@@ -22,6 +22,7 @@ all_fit-loop-item-preserved t c =
         here.1,
         c.loop-item.invariant.left,
       );
+      last = here.0;
     }
 
 -- ---- lists

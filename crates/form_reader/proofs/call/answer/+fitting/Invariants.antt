@@ -1,27 +1,31 @@
 use Rattle.std.proofs.Common.{◌≡◌, ◌+◌, ◌*◌, take}
-use Rattle.std.specs.Prelude.{All, sum_by}
+use Rattle.std.specs.Prelude.{All, sum_by, IfSome}
 use Rattle.lisp_object.specs.Datum.{size}
 use Rattle.form_reader.specs.Fits.{Fits}
 use Rattle.form_reader.proofs.call.answer.+fitting.Given as goal
 
 -- a part of a datum has one less room
 abbrev pub decreases-fits : goal.decreases-fits
-decreases-fits l = 3 * l.room + 2
+decreases-fits l = 4 * l.room + 2
 
 abbrev pub decreases-list_fits : goal.decreases-list_fits
-decreases-list_fits l = 3 * l.room + 1
+decreases-list_fits l = 4 * l.room + 1
 
 abbrev pub decreases-vector_fits : goal.decreases-vector_fits
-decreases-vector_fits l = 3 * l.room + 1
+decreases-vector_fits l = 4 * l.room + 1
+
+abbrev pub decreases-next_fits : goal.decreases-next_fits
+decreases-next_fits l = 4 * l.room + 3
 
 abbrev pub decreases-all_fit : goal.decreases-all_fit
-decreases-all_fit l = 3 * l.room + 3
+decreases-all_fit l = 4 * l.room + 4
 
 abbrev pub decreases-end_fits : goal.decreases-end_fits
-decreases-end_fits l = 3 * l.room + 3
+decreases-end_fits l = 4 * l.room + 4
 
 abbrev pub invariant-all_fit-loop-item : goal.invariant-all_fit-loop-item
 invariant-all_fit-loop-item l = record {
   fit : All (Fits l.packages.0 l.room) (take l.item-index l.items);
   left : l.left + sum_by size (take l.item-index l.items) ≡ l.fn.left;
+  last : IfSome l.last (λ d. Fits l.packages.0 l.room d.now);
 }

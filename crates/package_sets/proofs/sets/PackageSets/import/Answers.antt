@@ -5,6 +5,11 @@ use Rattle.package_sets.specs.Shown.{kept_of}
 use Rattle.package_sets.proofs.Growing.{good_import}
 use Rattle.package_sets.proofs.sets.PackageSets.import.Goals as goal
 
+pub push-requires : goal.push-requires
+push-requires c =
+    let none = ap (λ (k : Kept). position (pair_eq (c.args.owner, (pair_at k.symbols c.args.symbol).1)) k.imports) c.self.view_is ∙ c.requires.absent in
+    ap (λ (n : ℕ). position (pair_eq (c.args.owner, n)) c.self.inside.imports) (ap (λ (p : ℕ × ℕ). p.1) c.at-name.ensures) ∙ none
+
 pub invariant_of-self-2 : goal.invariant_of-self-2
 invariant_of-self-2 c =
     let k : Kept = kept_of c.self.inside in
@@ -18,4 +23,7 @@ invariant_of-self-2 c =
     c.push_reserved.ensures.items ∙ ap (λ (l : List ℕ). l ++ c.args.symbol ∷ []) c.in_ok-reserve.ensures.items in
     let is : ◌≡◌ {A = Kept} (record k { imports = k.imports ++ (c.args.owner, (pair_at k.symbols c.args.symbol).1) ∷ []; imported = k.imported ++ c.args.symbol ∷ [] }) (record k { imports = c.push.new.self; imported = c.push_reserved.new.self.items }) =
     λ i. record k { imports = sym imports i; imported = sym imported i } in
-    subst IsGood is (good_import k c.self.invariant c.args.owner c.args.symbol owner symbol none)
+    record {
+      good = subst IsGood is (good_import k c.self.invariant.good c.args.owner c.args.symbol owner symbol none);
+      chained = c.self.invariant.chained;
+    }

@@ -1,8 +1,10 @@
-use Rattle.std.proofs.Common.{◌≡◌, ◌<◌, ◌++◌, ◌∷◌, [], ℕ, length, position, sym, ap, subst, ◌∙◌}
+use Rattle.std.proofs.Common.{◌≡◌, ◌<◌, ◌++◌, ◌∷◌, [], ℕ, List, length, position, sym, ap, subst, ◌∙◌}
 use Rattle.package_sets.specs.Kept.{Kept, pair_eq}
 use Rattle.package_sets.specs.Good.{IsGood}
 use Rattle.package_sets.specs.Changes.{symbol_named, number_in, with_name}
 use Rattle.package_sets.specs.Shown.{kept_of}
+use Rattle.package_sets.specs.Chained.{external_name, AreChained}
+use Rattle.package_sets.proofs.Chaining.{chained_symbol}
 use Rattle.package_sets.proofs.Growing.{absent_symbol, good_symbol}
 use Rattle.package_sets.proofs.sets.PackageSets.intern.Goals as goal
 
@@ -11,7 +13,7 @@ push-requires c =
     let k : Kept = kept_of c.self.inside in
     let none = ap (λ (k : Kept). symbol_named k c.args.home c.args.name.now) c.self.view_is ∙ c.requires.absent in
     ap (λ (n : ℕ). position (pair_eq (c.args.home, n)) k.symbols) c.in_ok-name.ensures.number
-    ∙ absent_symbol k c.self.invariant c.args.home c.args.name.now none
+    ∙ absent_symbol k c.self.invariant.good c.args.home c.args.name.now none
 
 pub invariant_of-self-in_default : goal.invariant_of-self-in_default
 invariant_of-self-in_default c =
@@ -23,4 +25,8 @@ invariant_of-self-in_default c =
     let names : c.intern.new.self ≡ with_name k.names c.args.name.now = c.in_ok-name.ensures.ok in
     let is : ◌≡◌ {A = Kept} (record k { names = with_name k.names c.args.name.now; symbols = k.symbols ++ (c.args.home, number_in k.names c.args.name.now) ∷ [] }) (record k { names = c.intern.new.self; symbols = c.push.new.self }) =
     λ i. record k { names = sym names i; symbols = sym symbols i } in
-    subst IsGood is (good_symbol k c.self.invariant c.args.home c.args.name.now home none)
+    record {
+      good = subst IsGood is (good_symbol k c.self.invariant.good c.args.home c.args.name.now home none);
+      chained = subst (λ (ps : List (ℕ × ℕ)). AreChained (external_name ps k.externals) (length k.externals) c.self.inside.chains) (sym symbols)
+          (chained_symbol k.symbols k.externals (length k.packages) c.self.invariant.good.within.externals (c.args.home, number_in k.names c.args.name.now) c.self.inside.chains c.self.invariant.chained);
+    }

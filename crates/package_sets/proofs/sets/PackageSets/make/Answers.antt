@@ -10,4 +10,7 @@ pub invariant_of-self-2 : goal.invariant_of-self-2
 invariant_of-self-2 c =
     let k : Kept = kept_of c.self.inside in
     let none = ap (λ (k : Kept). position (bytes_eq c.args.name.now) k.packages) c.self.view_is ∙ c.requires in
-    subst (λ (ps : List Name). IsGood (record k { packages = ps })) (sym c.in_ok-push.ensures.ok) (good_package k c.self.invariant c.args.name.now none)
+    record {
+      good = subst (λ (ps : List Name). IsGood (record k { packages = ps })) (sym c.in_ok-push.ensures.ok) (good_package k c.self.invariant.good c.args.name.now none);
+      chained = c.self.invariant.chained;
+    }

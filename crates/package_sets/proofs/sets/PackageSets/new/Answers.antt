@@ -1,6 +1,7 @@
-use Rattle.std.proofs.Common.{◌≡◌, sym, subst}
+use Rattle.std.proofs.Common.{◌≡◌, ℕ, List, [], length, sym, subst}
 use Rattle.package_sets.specs.Kept.{Kept, nothing}
 use Rattle.package_sets.specs.Good.{IsGood}
+use Rattle.package_sets.specs.Chained.{external_name, AreChained}
 use Rattle.package_sets.proofs.Growing.{good_nothing}
 use Rattle.package_sets.proofs.sets.PackageSets.new.Goals as goal
 
@@ -13,7 +14,7 @@ invariant_of-result c =
       imports = c.new-4.result;
       imported = c.new-5.result.items;
       externals = c.new-6.result;
-      uses = c.new-7.result;
+      uses = c.new-8.result;
     }) = λ i. record {
       names = sym c.new.ensures i;
       packages = sym c.new-2.ensures i;
@@ -21,6 +22,9 @@ invariant_of-result c =
       imports = sym c.new-4.ensures i;
       imported = sym c.new-5.ensures.items i;
       externals = sym c.new-6.ensures i;
-      uses = sym c.new-7.ensures i;
+      uses = sym c.new-8.ensures i;
     } in
-    subst IsGood is good_nothing
+    record {
+      good = subst IsGood is good_nothing;
+      chained = subst (λ (ps : List (ℕ × ℕ)). AreChained (external_name c.new-3.result ps) (length ps) c.new-7.result) (sym c.new-6.ensures) (c.new-7.ensures (external_name c.new-3.result []));
+    }

@@ -11,5 +11,8 @@ invariant_of-self-2 c =
     let owner = subst (λ (k : Kept). c.args.owner < length k.packages) (sym c.self.view_is) c.requires.owner in
     let used = subst (λ (k : Kept). c.args.used < length k.packages) (sym c.self.view_is) c.requires.used in
     let none = ap (λ (k : Kept). position (pair_eq (c.args.owner, c.args.used)) k.uses) c.self.view_is ∙ c.requires.absent in
-    subst (λ (ps : List (ℕ × ℕ)). IsGood (record k { uses = ps })) (sym c.in_ok-push.ensures.ok)
-    (good_use k c.self.invariant c.args.owner c.args.used owner used c.requires.apart none)
+    record {
+      good = subst (λ (ps : List (ℕ × ℕ)). IsGood (record k { uses = ps })) (sym c.in_ok-push.ensures.ok)
+          (good_use k c.self.invariant.good c.args.owner c.args.used owner used c.requires.apart none);
+      chained = c.self.invariant.chained;
+    }

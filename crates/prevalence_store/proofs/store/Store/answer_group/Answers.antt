@@ -57,8 +57,9 @@ returns-in-Ok-write_lines-clause-answers g c = λ w known text begins pending.
     group_answered functions g.D.Disk.state g.met.D.Disk.sound c.args.wanted course later c.args.self.now c.take_group.new.self w text c.args.rest.now held written known
     gathered next (gathered.bytes - next) (c.in-Ok.ensures.takes w known text begins pending).together (subst (Writes held written) c.as_slice.ensures.value c.in-Ok-write_lines.ensures.whole) pending
     (omega (arith, c.in-Ok.ensures.counts.first))
-    (subst (λ (p : Pace). CountsAll (length gathered.batch.texts.items) course.pace p) (sym (ap (λ (k : Course). k.pace) passed))
-    (subst (λ n. CountsAll n course.pace (pace_of c.pass.new.self)) (c.len.ensures ∙ gathered.batch.texts.ok.0) c.pass.ensures))
+    (subst (λ (p : Pace). CountsAll (length gathered.batch.records.items) course.pace p) (sym (ap (λ (k : Course). k.pace) passed))
+    (subst (λ n. CountsAll n course.pace (pace_of c.pass.new.self)) (c.len.ensures ∙ gathered.batch.records.ok.0) c.pass.ensures))
+    c.room_before_grown-bytes.result c.room_before_grown-bytes.ensures.grown c.in-Ok.ensures.counts.record_bytes
     (ap (λ (k : Course). k.forms) passed) (ap (λ (k : Course). k.bytes) passed)
 
 -- the writer failed in their lines
@@ -73,4 +74,5 @@ returns-clause-answers g c = λ w known text begins pending.
     group_unwritten functions g.D.Disk.state g.met.D.Disk.sound c.args.wanted course course c.args.self.now c.take_group.new.self w text c.args.rest.now held written known
     (grouped c.args.wanted.group c.if-not-wanted.false) gathered counts.some (c.in-Ok.ensures.takes w known text begins pending).together
     (subst (WritesPart held written) c.as_slice.ensures.value c.in-Err-write_lines.ensures.part)
-    (fewer_before_due course.pace (length gathered.batch.texts.items) c.before_due-most.result counts.texts c.before_due-most.ensures)
+    (fewer_before_due course.pace (length gathered.batch.records.items) c.before_due-forms.result counts.records c.before_due-forms.ensures)
+    c.room_before_grown-bytes.result c.room_before_grown-bytes.ensures.grown counts.record_bytes

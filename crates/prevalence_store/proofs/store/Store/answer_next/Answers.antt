@@ -13,7 +13,7 @@ use Rattle.prevalence_store.specs.steps.Gather.{AnswersGroup}
 use Rattle.prevalence_store.specs.steps.Serve.{Answers, GoesOn, ended_at}
 use Rattle.prevalence_store.proofs.steps.Answering.{answered_within, ended_within, form_answered, nothing_answered}
 use Rattle.prevalence_store.proofs.steps.EndedAt.{at_starts, fault_ended, memory_ended, read_ended, read_from}
-use Rattle.prevalence_store.proofs.steps.Pieces.{begins_here_start, begins_start, form_begins, form_begins_here, form_takes, moves_further, whole_begins}
+use Rattle.prevalence_store.proofs.steps.Pieces.{begins_here_start, begins_start, form_begins, form_begins_here, form_takes, moves_further, text_stays, whole_begins}
 use Rattle.prevalence_store.proofs.calls.Executing.{known_world}
 use Rattle.prevalence_store.proofs.calls.StreamLemmas.{behind_piece}
 use Rattle.prevalence_store.proofs.store.Store.answer_next.Goals as goal
@@ -176,7 +176,8 @@ returns-clause-answers g c = λ w known bytes p.
     (form_begins functions w c.args.wanted.mode c.feed.new.pending text (object_of f.form.read.datum) f.form.own.items f.left has.0 f.form.own.items more refl)
     (begins_start functions w c.args.wanted.mode c.feed.new.pending text (object_of f.form.read.datum) f.form.own.items f.left has.0 f.form.own.items more refl ∙ has.1)))
     (let count = p.count in let many = length-append bytes (take n piece) in let longer = length-append text more in let taken = length-take-le n piece c.in-Ok.ensures.part.within in
-    omega (arith, within.0, within.1, many, longer, taken, count)))
+    omega (arith, within.0, within.1, many, longer, taken, count))
+    (λ far is. text_stays functions w c.args.wanted.mode c.feed.new.pending text (object_of f.form.read.datum) f.form.own.items f.left has.0 more far is))
 
 pub returns-in-Ok-answer_read-clause-answers : goal.returns-in-Ok-answer_read-clause-answers
 returns-in-Ok-answer_read-clause-answers g c = λ w known bytes p.

@@ -1,6 +1,7 @@
 use Rattle.std.proofs.Common.{◌≡◌, ℕ, ◌+◌, ◌*◌, ◌-◌, ◌≤◌, List, [], ◌++◌, Some, IsSome}
 use Rattle.plist_state.specs.State.{WorldState}
 use Rattle.form_reader.specs.Reader.{fed}
+use Rattle.prevalence_store.specs.calls.Serve.{pace_wanted}
 use Rattle.prevalence_store.specs.steps.Serve.{GoesOn}
 use Rattle.prevalence_store.specs.steps.Course.{course_of, first_course}
 use Rattle.prevalence_store.proofs.store.Store.serve_wanted.Given as goal
@@ -15,7 +16,7 @@ invariant-reads g l = record {
   forms : (course_of l.course).forms ≤ (course_of l.course).bytes;
   count : (course_of l.course).bytes + fed l.pending.reader ≤ 65536 * l.reads;
   far : (w : WorldState) → l.fn.self.world ≡ Some w → (text : List ℕ)
-      × (GoesOn g.R.Meaning.Meaning.functions g.D.Disk.state l.wanted.strict (first_course l.wanted.snapshot_every) (course_of l.course) l.fn.self l.self w l.wanted.mode text
+      × (GoesOn g.R.Meaning.Meaning.functions g.D.Disk.state l.wanted.strict (first_course (pace_wanted l.wanted)) (course_of l.course) l.fn.self l.self w l.wanted.mode text
       (g.W.Write.contents l.fn.writer) (g.W.Write.contents l.writer) l.pending []
       × ((all : List ℕ) → g.I.Read.remaining l.fn.reader ≡ Some all → (left : List ℕ) × ((g.I.Read.remaining l.reader ≡ Some left) × (all ≡ text ++ left))));
 }

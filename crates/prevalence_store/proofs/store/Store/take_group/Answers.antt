@@ -7,7 +7,8 @@ use Rattle.form_eval.specs.Laws.{MayEvaluate}
 use Rattle.plist_state.specs.State.{WorldState, Worlds}
 use Rattle.prevalence_store.specs.calls.Store.{store_view_of}
 use Rattle.prevalence_store.specs.steps.Batch.{LogsTogether}
-use Rattle.prevalence_store.specs.steps.Gather.{BeginsWhole, IsGathered, TakesGroup}
+use Rattle.prevalence_store.specs.steps.Gather.{BeginsWhole, IsCounted, IsGathered, TakesGroup}
+use Rattle.prevalence_store.specs.declared.session.gather.GroupLimit.{GroupLimit}
 use Rattle.prevalence_store.specs.Theorem.{Keeps}
 use Rattle.prevalence_store.proofs.calls.Executing.{not_failed, world_inside, world_told}
 use Rattle.prevalence_store.proofs.steps.Grouping.{first_marked, some_marks}
@@ -95,7 +96,8 @@ returns-in-Ok-gather-clause-takes g c = λ u known text begins rest.
 
 pub returns-in-Ok-gather-clause-counts : goal.returns-in-Ok-gather-clause-counts
 returns-in-Ok-gather-clause-counts g c =
-    counted_again c.args.first.now.next (length c.args.rest.now) c.args.most c.in-Ok-gather.gathered c.log_gathered.result c.log_gathered.ensures.same c.in-Ok-gather.ensures.counts
+    counted_again c.args.first.now.next (length c.args.rest.now) c.args.limit c.in-Ok-gather.gathered c.log_gathered.result c.log_gathered.ensures.same
+    (subst (λ (l : GroupLimit). IsCounted c.args.first.now.next (length c.args.rest.now) l c.in-Ok-gather.gathered) c.new-begun.ensures.limit c.in-Ok-gather.ensures.counts)
 
 pub invariant_of-self-in-Ok-gather : goal.invariant_of-self-in-Ok-gather
 invariant_of-self-in-Ok-gather g c =

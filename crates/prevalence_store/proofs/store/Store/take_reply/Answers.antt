@@ -52,7 +52,7 @@ log-requires-clause-fit g c =
     let x = object_of c.args.form.now.datum in
     let reply = c.in-Ok-reply_to.reply in
     let here = world_told inside.log.failed inside.log.halves w inside.macros now c.self.view_is c.requires.form.is_open in
-    let told = subst (λ (s : Worlds). (answer : Result Evaluated Failure) × IsReplyTo functions.names x text s.0 v c.in-Ok.batch c.reply_to.new.batch reply answer) c.in-Ok.ensures.marked c.in-Ok-reply_to.ensures.replies in
+    let told = subst (λ (s : Worlds). (answer : Result Evaluated Failure) × IsReplyTo functions.names c.args.mode x text s.0 v c.in-Ok.batch c.reply_to.new.batch reply answer) c.in-Ok.ensures.marked c.in-Ok-reply_to.ensures.replies in
     let made = reply_made functions c.args.mode w v text x c.in-Ok.batch c.reply_to.new.batch reply told.0 told.1 c.in-Ok.ensures.none (c.requires.form.reads w here) in
     subst (λ (es : List LogRecord). AllByRecursion IsLogRecord es) (sym made.0) made.2
 
@@ -86,7 +86,7 @@ returns-in-Ok-log-clause-takes g c =
     let x = object_of c.args.form.now.datum in
     let reply = c.in-Ok-reply_to.reply in
     let here = world_told inside.log.failed inside.log.halves w inside.macros now c.self.view_is c.requires.form.is_open in
-    let told = subst (λ (s : Worlds). (answer : Result Evaluated Failure) × IsReplyTo functions.names x text s.0 v c.in-Ok.batch c.reply_to.new.batch reply answer) c.in-Ok.ensures.marked c.in-Ok-reply_to.ensures.replies in
+    let told = subst (λ (s : Worlds). (answer : Result Evaluated Failure) × IsReplyTo functions.names c.args.mode x text s.0 v c.in-Ok.batch c.reply_to.new.batch reply answer) c.in-Ok.ensures.marked c.in-Ok-reply_to.ensures.replies in
     let made = reply_made functions c.args.mode w v text x c.in-Ok.batch c.reply_to.new.batch reply told.0 told.1 c.in-Ok.ensures.none (c.requires.form.reads w here) in
     let logs = subst (λ (es : List LogRecord). LogsTogether state inside.log.halves new.log.halves es (Ok tt)) made.0 c.in-Ok-log.ensures.logs in
     reply_taken functions state g.met.D.Disk.sound now (store_view_of new.log.failed new.log.halves new.world.0 inside.macros) c.args.mode text x w v here c.in-Ok.batch c.reply_to.new.batch reply told.0 told.1
@@ -106,7 +106,7 @@ invariant_of-self-in-Ok-log g c =
     let x = object_of c.args.form.now.datum in
     let reply = c.in-Ok-reply_to.reply in
     let here = world_told inside.log.failed inside.log.halves w inside.macros now c.self.view_is c.requires.form.is_open in
-    let told = subst (λ (s : Worlds). (answer : Result Evaluated Failure) × IsReplyTo functions.names x text s.0 v c.in-Ok.batch c.reply_to.new.batch reply answer) c.in-Ok.ensures.marked c.in-Ok-reply_to.ensures.replies in
+    let told = subst (λ (s : Worlds). (answer : Result Evaluated Failure) × IsReplyTo functions.names c.args.mode x text s.0 v c.in-Ok.batch c.reply_to.new.batch reply answer) c.in-Ok.ensures.marked c.in-Ok-reply_to.ensures.replies in
     let made = reply_made functions c.args.mode w v text x c.in-Ok.batch c.reply_to.new.batch reply told.0 told.1 c.in-Ok.ensures.none (c.requires.form.reads w here) in
     let logs = subst (λ (es : List LogRecord). LogsTogether state inside.log.halves new.log.halves es (Ok tt)) made.0 c.in-Ok-log.ensures.logs in
     let still = stays_open functions state g.met.D.Disk.sound inside.log.failed new.log.failed inside.log.halves new.log.halves w new.world.0 v inside.macros
@@ -129,7 +129,7 @@ returns-in-Ok-reply_to-clause-left g c =
     let x = object_of c.args.form.now.datum in
     let reply = c.in-Ok-reply_to.reply in
     let here = world_told inside.log.failed inside.log.halves w inside.macros now c.self.view_is c.requires.form.is_open in
-    let told = subst (λ (s : Worlds). (answer : Result Evaluated Failure) × IsReplyTo functions.names x text s.0 v c.in-Ok.batch c.reply_to.new.batch reply answer) c.in-Ok.ensures.marked c.in-Ok-reply_to.ensures.replies in
+    let told = subst (λ (s : Worlds). (answer : Result Evaluated Failure) × IsReplyTo functions.names c.args.mode x text s.0 v c.in-Ok.batch c.reply_to.new.batch reply answer) c.in-Ok.ensures.marked c.in-Ok-reply_to.ensures.replies in
     let made = reply_made functions c.args.mode w v text x c.in-Ok.batch c.reply_to.new.batch reply told.0 told.1 c.in-Ok.ensures.none (c.requires.form.reads w here) in
     let marked = c.reply_to.ensures.marks w (first_marked inside.world c.begin.new.world c.self.invariant.0 c.in-Ok.ensures.marked) in
     let logs = subst (λ (es : List LogRecord). LogsTogether state inside.log.halves new.log.halves es {T = Unit} (Err c.in-Err-log.failure)) made.0 c.in-Err-log.ensures.logs in
@@ -150,7 +150,7 @@ invariant_of-self-in-Ok-reply_to g c =
     let x = object_of c.args.form.now.datum in
     let reply = c.in-Ok-reply_to.reply in
     let here = world_told inside.log.failed inside.log.halves w inside.macros now c.self.view_is c.requires.form.is_open in
-    let told = subst (λ (s : Worlds). (answer : Result Evaluated Failure) × IsReplyTo functions.names x text s.0 v c.in-Ok.batch c.reply_to.new.batch reply answer) c.in-Ok.ensures.marked c.in-Ok-reply_to.ensures.replies in
+    let told = subst (λ (s : Worlds). (answer : Result Evaluated Failure) × IsReplyTo functions.names c.args.mode x text s.0 v c.in-Ok.batch c.reply_to.new.batch reply answer) c.in-Ok.ensures.marked c.in-Ok-reply_to.ensures.replies in
     let made = reply_made functions c.args.mode w v text x c.in-Ok.batch c.reply_to.new.batch reply told.0 told.1 c.in-Ok.ensures.none (c.requires.form.reads w here) in
     let marked = c.reply_to.ensures.marks w (first_marked inside.world c.begin.new.world c.self.invariant.0 c.in-Ok.ensures.marked) in
     let logs = subst (λ (es : List LogRecord). LogsTogether state inside.log.halves new.log.halves es {T = Unit} (Err c.in-Err-log.failure)) made.0 c.in-Err-log.ensures.logs in

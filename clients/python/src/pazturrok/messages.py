@@ -1,0 +1,296 @@
+"""Messages with numbers: each is carried out once, whatever becomes of the program that does it."""
+
+from __future__ import annotations
+
+import os
+import re
+import threading
+from collections.abc import Iterable, Sequence
+from types import TracebackType
+
+from .answers import parse_answer, refusal_of
+from .errors import (
+    ClosedStoreError,
+    LostAnswerError,
+    MalformedAnswerError,
+    RefusedError,
+    StoppedError,
+    StoreError,
+    UnsendableError,
+)
+from .printer import FORM_LIMIT, check_characters, printed
+from .program import Program
+from .store import Form, Outcome, changes_naming
+from .values import LISP, OPERATORS, Symbol, Value
+
+NAMING_QUESTION = (
+    f"({LISP}:LIST {LISP}:*PACKAGE* {' '.join(f'{chr(39)}{LISP}:{name}' for name in sorted(OPERATORS))})"
+)
+"""What the current package is, and which symbols of COMMON-LISP are printed in it without a prefix."""
+
+HEAD = re.compile(rb"(?:0|[1-9][0-9]*|ask) (0|[1-9][0-9]*)")
+POSITION = re.compile(rb"at (0|[1-9][0-9]*)")
+RESTARTS = 5
+"""How often the program is started again, one time after the other, before any answer has come."""
+
+
+class FrameSplitter:
+    """Splits what the program writes into answers: each the line before it, a newline, and its text. First comes the position."""
+
+    def __init__(self) -> None:
+        self._bytes = bytearray()
+        self.position: int | None = None
+
+    @property
+    def is_empty(self) -> bool:
+        """Whether no byte has come since the last answer."""
+        return not self._bytes
+
+    def feed(self, data: bytes) -> list[str]:
+        """The answers that these bytes make whole."""
+        self._bytes += data
+        answers, place = [], self._pass_position()
+        while (end := self._end(place)) is not None:
+            answers.append(self._bytes[place : end - 1].decode("latin-1"))
+            place = end
+        del self._bytes[:place]
+        return answers
+
+    def _pass_position(self) -> int:
+        """The place after the position, which comes once."""
+        end = self._bytes.find(b"\n") + 1
+        if self.position is not None or not end:
+            return 0
+        told = POSITION.fullmatch(self._bytes, 0, end - 1)
+        if not told:
+            raise MalformedAnswerError(self._bytes[:end].decode("latin-1"), "no position")
+        self.position = int(told[1])
+        return end
+
+    def _end(self, place: int) -> int | None:
+        """The place after the answer that begins here, or None where it is not whole."""
+        start = self._bytes.find(b"\n", place) + 1
+        if self.position is None or not start:
+            return None
+        head = HEAD.fullmatch(self._bytes, place, start - 1)
+        if not head:
+            raise MalformedAnswerError(self._bytes[place:start].decode("latin-1"), "no head of an answer")
+        end = start + int(head[1]) + 1
+        if end > len(self._bytes):
+            return None
+        if self._bytes[end - 1 : end] != b"\n":
+            raise MalformedAnswerError(self._bytes[place:end].decode("latin-1"), "it is longer than its length")
+        return end
+
+
+class MessageStore:
+    """A program over a folder that carries out messages, of which each has a number, and answers questions.
+
+    A message is carried out once. Where the program was killed it is started again: it tells which message it
+    has carried out last, and those after it are sent again. One whose answer was lost so is not: a
+    `LostAnswerError` stands in place of its value. A form is read as the store reads, under its current
+    readtable, package and read base.
+
+    One MessageStore at a time may feed a store. `time_limit` is how many seconds the answers of what is sent at
+    once may take; `options` are further words of the command line, as ("--snapshot-every", "1000").
+    """
+
+    def __init__(
+        self,
+        folder: str | os.PathLike[str],
+        program: str | os.PathLike[str] = "pazturrok",
+        *,
+        time_limit: float | None = None,
+        options: Sequence[str] = (),
+    ) -> None:
+        self._words = [os.fspath(program), "run", os.fspath(folder), "--messages", *options]
+        self._time_limit = time_limit
+        self._lock = threading.RLock()
+        self._program: Program | None = None
+        self._is_closed = False
+        self._last = 0
+        self._open()
+
+    @property
+    def position(self) -> int:
+        """The number of the last message that was sent, or that the store told when it was opened."""
+        return self._last
+
+    @property
+    def pid(self) -> int | None:
+        """The number of the program's process."""
+        return self._program.process.pid if self._program else None
+
+    def __enter__(self) -> MessageStore:
+        return self
+
+    def __exit__(
+        self, kind: type[BaseException] | None, error: BaseException | None, traceback: TracebackType | None
+    ) -> None:
+        self.close()
+
+    def close(self) -> int | None:
+        """Ends the session, and gives the status of the program. What was answered is in the store."""
+        with self._lock:
+            self._is_closed = True
+            return self._leave()
+
+    def do(self, form: Form) -> Value:
+        """Has a form carried out, its text or the form as a list, and gives its value."""
+        value = self.do_all([form])[0]
+        if isinstance(value, StoreError):
+            raise value
+        return value
+
+    def do_all(self, forms: Iterable[Form]) -> list[Outcome]:
+        """Has many forms carried out, without waiting for each answer, and gives the value of each, or its exception."""
+        texts = [_text(form) for form in forms]
+        outcomes: list[Outcome] = []
+        with self._lock:
+            while len(outcomes) < len(texts):
+                outcomes += self._do_some(_until_naming(texts[len(outcomes) :]))
+                if changes_naming(texts[len(outcomes) - 1]):
+                    self._ask_naming()
+        return outcomes
+
+    def ask(self, form: Form) -> Value:
+        """Asks for the value of a form, which may change nothing."""
+        text = _text(form)
+        with self._lock:
+            return self._value(self._ask(text))
+
+    # Sending
+
+    def _do_some(self, texts: Sequence[str]) -> list[Outcome]:
+        """The outcomes of texts that change no names, but for the last one."""
+        numbers = range(self._ready() + 1, self._last + 1 + len(texts))
+        self._last += len(texts)
+        outcomes: list[Outcome] = []
+        stops = 0
+        while len(outcomes) < len(texts):
+            answers: list[str] = []
+            try:
+                self._exchange([_message(*pair) for pair in list(zip(numbers, texts))[len(outcomes) :]], answers)
+            except StoppedError as error:
+                stops = 1 if answers else stops + 1
+                if error.status >= 0 or stops > RESTARTS:
+                    raise
+                outcomes += map(self._outcome, answers)
+                position = self._open()
+                lost = numbers[len(outcomes) :]
+                outcomes += [LostAnswerError(number) for number in lost if number <= position]
+            else:
+                outcomes += map(self._outcome, answers)
+        return outcomes
+
+    def _ask(self, text: str) -> str:
+        """The answer to a question, which is asked again where the program was killed."""
+        for stops in range(RESTARTS + 1):
+            answers: list[str] = []
+            try:
+                self._ready()
+                self._exchange([_question(text)], answers)
+                return answers[0]
+            except StoppedError as error:
+                if error.status >= 0 or stops == RESTARTS:
+                    raise
+        raise AssertionError
+
+    def _exchange(self, frames: Sequence[str], answers: list[str]) -> None:
+        """Sends frames, and appends their answers; without their heads, which have to be those of the frames."""
+        assert self._program
+        program, self._program = self._program, None
+        found: list[str] = []
+        try:
+            program.exchange(frames, found, lambda _: False, self._time_limit)
+            self._program = program
+        finally:
+            if self._program is None:
+                program.end()
+            for frame, answer in zip(frames, found):
+                head, _, text = answer.partition("\n")
+                wanted = frame.partition("\n")[0].removeprefix("do ").split()[0]
+                if head.split()[0] != wanted:
+                    raise MalformedAnswerError(answer, f"it is not that of {wanted}")
+                answers.append(text)
+
+    # Opening and closing
+
+    def _ready(self) -> int:
+        """The last number of a store that is open."""
+        if self._is_closed:
+            raise ClosedStoreError
+        if self._program is None:
+            self._open()
+        return self._last
+
+    def _open(self) -> int:
+        """Opens the store, asks how it prints symbols, and gives its position."""
+        for stops in range(RESTARTS + 1):
+            splitter = FrameSplitter()
+            self._program = Program(self._words, splitter)
+            try:
+                self._ask_naming()
+                break
+            except StoppedError as error:
+                if error.status >= 0 or stops == RESTARTS:
+                    raise
+        assert splitter.position is not None
+        self._last = max(self._last, splitter.position)
+        return splitter.position
+
+    def _leave(self) -> int | None:
+        program, self._program = self._program, None
+        return program.end()[0] if program else None
+
+    # Values
+
+    def _ask_naming(self) -> None:
+        answers: list[str] = []
+        self._exchange([_question(NAMING_QUESTION)], answers)
+        named = [] if refusal_of(answers[0]) else parse_answer(answers[0], lambda prefix, name: "" if prefix else name)
+        self._current, *bare = map(str, named) if isinstance(named, list) and named else [""]
+        self._bare = frozenset(bare) - {""}
+
+    def _symbol(self, prefix: str | None, name: str) -> Value:
+        """The object for a symbol that an answer names so."""
+        package = prefix or (LISP if name in self._bare else self._current)
+        symbol = Symbol(name, package)
+        return [] if symbol == Symbol("NIL", LISP) else symbol
+
+    def _value(self, answer: str) -> Value:
+        refusal = refusal_of(answer)
+        if refusal:
+            raise RefusedError(*refusal)
+        return parse_answer(answer, self._symbol)
+
+    def _outcome(self, answer: str) -> Outcome:
+        try:
+            return self._value(answer)
+        except (RefusedError, MalformedAnswerError) as error:
+            return error
+
+
+def _text(form: Form) -> str:
+    text = form if isinstance(form, str) else printed(form)
+    check_characters(form, text)
+    if len(text) > FORM_LIMIT:
+        raise UnsendableError(form, f"it is longer than {FORM_LIMIT} characters")
+    return text
+
+
+def _message(number: int, text: str) -> str:
+    """A message without the newline at its end."""
+    return f"do {number} {len(text)}\n{text}"
+
+
+def _question(text: str) -> str:
+    return f"ask {len(text)}\n{text}"
+
+
+def _until_naming(texts: Sequence[str]) -> Sequence[str]:
+    """The first texts, up to one that may change how symbols are printed."""
+    for place, text in enumerate(texts):
+        if changes_naming(text):
+            return texts[: place + 1]
+    return texts

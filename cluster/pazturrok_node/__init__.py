@@ -1,0 +1,1 @@
+"""A replica of a store: it carries out the entries of one log in etcd, in their order, on a store of its own."""

@@ -1,0 +1,35 @@
+-- The first words of frames.
+use Rattle.std.proofs.Common.{◌≡◌, ℕ, ◌<◌, true, false, inl, inr, List, ◌++◌, length, take, drop, refl, sym, ap, subst, ◌∙◌, arith}
+use Rattle.std.specs.Prelude.{codes, nat_eq}
+use Rattle.std.specs.Cmp.Lexicographic.{pointwise}
+use Rattle.std.specs.List.{starts_with}
+use Rattle.std.proofs.lemmas.Bool.{cases_lt}
+use Rattle.std.proofs.lemmas.Bool.Decides.{Decides-eqb}
+use Rattle.std.proofs.lemmas.List.{append-nil, drop_all, length-drop}
+use Rattle.std.proofs.lemmas.Slice.Eq.{starts_is}
+use Rattle.message_frames.specs.declared.frame.Keyword.TheVariants as keyword
+use Rattle.message_frames.specs.Reading.{keyword_bytes}
+use Rattle.message_frames.specs.Words.{IsPart}
+
+-- a word that begins with these bytes and is not the beginning of them goes on after them
+pub word_goes_on : (word bytes : List ℕ) → starts_with nat_eq word bytes ≡ true → pointwise nat_eq (take (length word) word) word ≡ true
+    → pointwise nat_eq (take (length word) bytes) word ≡ false → (word ≡ bytes ++ drop (length bytes) word) × (0 < length (drop (length bytes) word))
+word_goes_on word bytes starts itself none =
+    let parts : word ≡ bytes ++ drop (length bytes) word = (starts_is Decides-eqb word bytes _ refl).0 starts in
+    elim (cases_lt (length bytes) (length word)) [
+      | inl less ↦ (parts, omega (arith, length-drop (length bytes) word))
+      | inr all ↦
+          let same : word ≡ bytes = parts ∙ ap (λ z. bytes ++ z) (drop_all (length bytes) word all) ∙ append-nil bytes in
+          let no : pointwise nat_eq (take (length word) word) word ≡ false = subst (λ z. pointwise nat_eq (take (length word) z) word ≡ false) (sym same) none in
+          absurd (cc (sym itself ∙ no))
+    ]
+
+pub do_is_part : (bytes : List ℕ) → starts_with nat_eq (codes "do ") bytes ≡ true → pointwise nat_eq (take 3 bytes) (codes "do ") ≡ false → IsPart keyword_bytes (λ _. Unit {0}) bytes
+do_is_part bytes starts none =
+    let on = word_goes_on (codes "do ") bytes starts refl none in
+    record { x = keyword.Do; more = drop (length bytes) (codes "do "); wanted = tt; parts = on.0; some = on.1 }
+
+pub ask_is_part : (bytes : List ℕ) → starts_with nat_eq (codes "ask ") bytes ≡ true → pointwise nat_eq (take 4 bytes) (codes "ask ") ≡ false → IsPart keyword_bytes (λ _. Unit {0}) bytes
+ask_is_part bytes starts none =
+    let on = word_goes_on (codes "ask ") bytes starts refl none in
+    record { x = keyword.Ask; more = drop (length bytes) (codes "ask "); wanted = tt; parts = on.0; some = on.1 }

@@ -1,0 +1,59 @@
+-- Messages, questions and answers as bytes. 10 is a newline, 32 a space; `decimal` is a number in digits, without a leading zero.
+use Rattle.std.specs.Prelude.{ℕ, ◌≡◌, ◌<◌, ◌≤◌, ◌^◌, List, [], ◌∷◌, ◌++◌, length, codes}
+use Rattle.std.specs.Fmt.{decimal}
+use Rattle.std.specs.List.{flat_map, AllByRecursion}
+use Rattle.message_frames.specs.declared.frame.Kind.{Kind}
+use Rattle.message_frames.specs.declared.frame.Kind.TheVariants.{Do, Ask}
+use Rattle.message_frames.specs.declared.frame.Frame.{Frame}
+use Rattle.message_frames.specs.Words.{IsPart, BeginsNone}
+
+-- a text after its length: the length and the text, on lines of their own
+abbrev pub sized : List ℕ → List ℕ
+sized text = decimal (length text) ++ 10 ∷ (text ++ 10 ∷ [])
+
+-- a frame, or an answer: its kind and its text
+abbrev pub Sent : Type 0
+Sent = Kind × List ℕ
+
+abbrev pub frame_head : Kind → List ℕ
+frame_head (Do number) = codes "do " ++ (decimal number ++ 32 ∷ [])
+frame_head Ask = codes "ask "
+
+abbrev pub answer_head : Kind → List ℕ
+answer_head (Do number) = decimal number ++ 32 ∷ []
+answer_head Ask = codes "ask "
+
+abbrev pub frame_bytes : Sent → List ℕ
+frame_bytes frame = frame_head frame.0 ++ sized frame.1
+
+abbrev pub answer_bytes : Sent → List ℕ
+answer_bytes answer = answer_head answer.0 ++ sized answer.1
+
+-- the line that tells a position
+abbrev pub position_bytes : ℕ → List ℕ
+position_bytes number = codes "at " ++ (decimal number ++ 10 ∷ [])
+
+abbrev pub IsKind : Kind → Type 0
+IsKind (Do number) = number < 2 ^ 64
+IsKind Ask = Unit {0}
+
+-- a number of 64 bits, and a text of at most so many bytes
+pub record IsFrame (limit : ℕ) (frame : Sent) : Type 0 where
+  pub kind : IsKind frame.0
+  pub text : length frame.1 ≤ limit
+
+-- less than a frame; and no frame, however the bytes go on
+abbrev pub IsBegun : ℕ → List ℕ → Type 0
+IsBegun limit = IsPart frame_bytes (IsFrame limit)
+
+abbrev pub IsMalformed : ℕ → List ℕ → Type 0
+IsMalformed limit = BeginsNone frame_bytes (IsFrame limit)
+
+-- a frame in memory
+abbrev pub sent : Frame → Sent
+sent frame = (frame.kind, frame.text.now)
+
+-- these bytes are these frames, one after the other, and then others
+pub record AreFrames (limit : ℕ) (frames : List Sent) (rest bytes : List ℕ) : Type 0 where
+  pub parts : bytes ≡ flat_map frame_bytes frames ++ rest
+  pub each : AllByRecursion (IsFrame limit) frames
