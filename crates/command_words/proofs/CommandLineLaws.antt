@@ -345,10 +345,10 @@ module _ (program : Text) (x : ℕ) (xs : Text) (e : (x == 45) ≡ false) where
   right_plain line false (Run wanted) (inl ((none, no_ratio), line_is)) =
       rw line_is (subst (λ (w : Wanted). IsRight (program ∷ codes "run" ∷ (x ∷ xs) ∷ (flag_for wanted.mode ++ (strict_for wanted.strict ++ (group_for wanted.group ++ [])))) (x ∷ xs) false (Run w))
       (sym (wanted_is wanted 0 0 wanted.strict wanted.group none no_ratio refl refl)) (right_run program x xs e wanted.mode wanted.strict wanted.group false))
-  right_plain line false (Run wanted) (inr (lax, alone, number, inl (is, no_ratio, line_is))) =
+  right_plain line false (Run wanted) (inr (lax, alone, (number, inl (is, no_ratio, line_is)))) =
       rw line_is (subst (λ (w : Wanted). IsRight (program ∷ codes "run" ∷ (x ∷ xs) ∷ (flag_for wanted.mode ++ option_word false ∷ number ∷ [])) (x ∷ xs) false (Run w))
       (sym (wanted_is wanted wanted.snapshot_every 0 false false refl no_ratio lax alone)) (right_number false wanted.mode number wanted.snapshot_every is))
-  right_plain line false (Run wanted) (inr (lax, alone, number, inr (is, none, line_is))) =
+  right_plain line false (Run wanted) (inr (lax, alone, (number, inr (is, none, line_is)))) =
       rw line_is (subst (λ (w : Wanted). IsRight (program ∷ codes "run" ∷ (x ∷ xs) ∷ (flag_for wanted.mode ++ option_word true ∷ number ∷ [])) (x ∷ xs) false (Run w))
       (sym (wanted_is wanted 0 wanted.snapshot_ratio false false none refl lax alone)) (right_number true wanted.mode number wanted.snapshot_ratio is))
   right_plain line true (Run wanted) ((none, no_ratio), line_is) =
