@@ -7,7 +7,7 @@ _pazturrok() {
     case ${COMP_WORDS[1]} in
         help) words='run snapshot upgrade export dump verify show info log backup check help' kind= ;;
         build) words=--anew kind= ;;
-        run) words='--existing --rescue --strict --group --snapshot-every --quiet --help' ;;
+        run) words='--existing --rescue --strict --group --snapshot-every --snapshot-ratio --quiet --help' ;;
         snapshot) words='--existing --help' ;;
         upgrade) words='--existing --help' ;;
         export) words='--existing --data --help' ;;
@@ -18,14 +18,14 @@ _pazturrok() {
         log) words='--existing --from --places --help' ;;
         backup) words='--existing --help' ;;
         check) words='--store --help' kind=-f ;;
-        try) words='--existing --rescue --strict --group --snapshot-every --quiet --help' ;;
+        try) words='--existing --rescue --strict --group --snapshot-every --snapshot-ratio --quiet --help' ;;
     esac
     if [ "$COMP_CWORD" -eq 1 ]; then
         words='run snapshot upgrade export dump verify show info log backup check help try build install --help --version'
         kind=
     fi
     case ${COMP_WORDS[COMP_CWORD - 1]} in
-        --at | --from | --indicator | --like | --package | --snapshot-every) return ;;
+        --at | --from | --indicator | --like | --package | --snapshot-every | --snapshot-ratio) return ;;
         --store) kind=-d words='' ;;
     esac
     if [ -z "$kind" ] || [ "${word#-}" != "$word" ]; then

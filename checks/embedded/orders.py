@@ -36,7 +36,7 @@ def load(path):
     library.pzt_snapshot.argtypes = [slot, done]
     library.pzt_answer.argtypes = library.pzt_orders.argtypes = [slot, SIZE, text, SIZE]
     library.pzt_answer.restype = library.pzt_orders.restype = SIZE
-    library.pzt_performed.argtypes = library.pzt_close.argtypes = [slot]
+    library.pzt_performed.argtypes, library.pzt_close.argtypes = [slot, SIZE], [slot]
     for name in ("open", "execute", "snapshot", "performed", "close"):
         getattr(library, "pzt_" + name).restype = None
     return library
@@ -84,7 +84,7 @@ class Engine:
             at += 18 + length
         if at != len(held):
             raise AssertionError("the orders do not end where they were said to")
-        self.library.pzt_performed(self.slot)
+        self.library.pzt_performed(self.slot, len(held))
         return found
 
     def close(self):

@@ -45,7 +45,8 @@ void pzt_execute(pzt_slot *slot, bool rescue, const uint8_t *text, size_t length
                  pzt_done *done);
 
 /* Executes the forms of which these are the texts, one after the other; `ends` says where each ends. The answer has for each
-   the number of its refusal or 0 in two bytes, a length in eight, and so many bytes. */
+   the number of its refusal or 0 in two bytes, a length in eight, and so many bytes. Where the engine has no such call, as now,
+   each form is executed alone. */
 void pzt_execute_all(pzt_slot *slot, bool rescue, const uint8_t *texts, size_t length, const uint64_t *ends, size_t count,
                      pzt_done *done);
 
@@ -55,12 +56,15 @@ void pzt_snapshot(pzt_slot *slot, pzt_done *done);
 size_t pzt_answer(pzt_slot *slot, size_t at, uint8_t *out, size_t capacity);
 size_t pzt_orders(pzt_slot *slot, size_t at, uint8_t *out, size_t capacity);
 
-/* Says that all orders have been carried out. */
-void pzt_performed(pzt_slot *slot);
+/* Says that so many bytes of orders have been carried out. It has to be all of them: another count changes nothing. */
+void pzt_performed(pzt_slot *slot, size_t orders);
 
 void pzt_tell(pzt_slot *slot, pzt_told *told);
 
 /* Lets the engine go. Orders that were not carried out are lost, as in a crash. */
 void pzt_close(pzt_slot *slot);
+
+/* Copies the name of a number as far as there is room, and gives its length: 0 for a number that has none. */
+size_t pzt_name(uint16_t number, uint8_t *out, size_t capacity);
 
 #endif

@@ -1,63 +1,18 @@
-/* The names of the numbers, as crates/lisp_object/src/refusal.rt has them; checks/embedded compares the two. */
+/* The names of the numbers. They are those of the engine, copied once, each with a zero at its end. */
+#include "engine.h"
 #include "pazturrok.h"
+#include <pthread.h>
 
-static const char *const NAMES[] = {
-    [1] = "END-OF-FILE",
-    [2] = "INVALID-CHARACTER",
-    [3] = "INVALID-TRAIT",
-    [4] = "STRAY-CLOSE",
-    [5] = "DOT-CONTEXT",
-    [6] = "DOTS-ONLY",
-    [7] = "FLOAT-TOKEN",
-    [8] = "NUMBER-RANGE",
-    [9] = "ZERO-DENOMINATOR",
-    [10] = "PACKAGE-MARKERS",
-    [11] = "NO-PACKAGE",
-    [12] = "NOT-EXTERNAL",
-    [13] = "LOCKED-PACKAGE",
-    [14] = "NO-DISPATCH",
-    [15] = "NUMERIC-ARGUMENT",
-    [16] = "CHARACTER-NAME",
-    [17] = "RADIX-TOKEN",
-    [18] = "VECTOR-LENGTH",
-    [19] = "UNINTERNED-TOKEN",
-    [20] = "MACRO-REFUSED",
-    [21] = "MACRO-ANSWER",
-    [22] = "TOO-DEEP",
-    [23] = "FORM-TOO-LONG",
-    [24] = "TOKEN-TOO-LONG",
-    [25] = "OUT-OF-PROFILE",
-    [26] = "TEXT-LEFT-OVER",
-    [30] = "NOT-A-FORM",
-    [31] = "UNKNOWN-OPERATOR",
-    [32] = "ARGUMENT-COUNT",
-    [33] = "ARGUMENT-KIND",
-    [34] = "NO-SUCH-PACKAGE",
-    [35] = "PACKAGE-EXISTS",
-    [36] = "PACKAGE-IS-LOCKED",
-    [37] = "NAME-CONFLICT",
-    [38] = "NOT-ACCESSIBLE",
-    [39] = "NO-READTABLE",
-    [40] = "STANDARD-READTABLE",
-    [41] = "NO-MACRO",
-    [42] = "NOT-DISPATCHING",
-    [43] = "DIGIT-SUBCHARACTER",
-    [44] = "INTEGER-RANGE",
-    [45] = "VALUE-TOO-DEEP",
-    [46] = "LIMIT",
-    [60] = "DEVICE",
-    [61] = "REOPEN",
-    [62] = "DAMAGED",
-    [63] = "MISSING-MACRO",
-    [64] = "LOG-FULL",
-    [65] = "SNAPSHOT-TOO-LARGE",
-    [66] = "VERSION",
-    [67] = "INPUT",
-    [68] = "OUTPUT",
-    [90] = "NO-MEMORY",
-};
+enum { LAST = PAZTURROK_NO_MEMORY, ROOM = 32 };
+
+static char names[LAST + 1][ROOM];
+static pthread_once_t once = PTHREAD_ONCE_INIT;
+
+static void copy_names(void) {
+    for (uint16_t number = 0; number <= LAST; number++) (void)pzt_name(number, (uint8_t *)names[number], ROOM - 1);
+}
 
 const char *pazturrok_name(int number) {
-    const char *name = number < 0 || (size_t)number >= sizeof NAMES / sizeof NAMES[0] ? NULL : NAMES[number];
-    return name ? name : "";
+    if (number < 0 || number > LAST || pthread_once(&once, copy_names) != 0) return "";
+    return names[number];
 }

@@ -66,7 +66,7 @@ bool carry_out(struct store *store, size_t count) {
         if (taken == 0) return false;
         at += taken;
     }
-    pzt_performed(&store->engine);
+    pzt_performed(&store->engine, count);
     return true;
 }
 

@@ -10,6 +10,9 @@
    "STORE-STATE" "STORE-PROCESS" "STORE-ROUND-TRIPS"
    ;; Forms
    "SEND" "SEND-TEXT" "SEND-ALL"
+   ;; Messages: each once
+   "FEED" "OPEN-FEED" "CLOSE-FEED" "WITH-FEED" "FEED-FORM" "FEED-ALL" "ASK" "FEED-LAST"
+   "LOST-ANSWER" "LOST-ANSWER-NUMBER"
    ;; Of a store in this process
    "SNAPSHOT" "FIGURES"
    ;; Conditions

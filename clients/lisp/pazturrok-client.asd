@@ -11,7 +11,8 @@
                (:file "texts")
                (:file "process")
                (:file "library")
-               (:file "store"))
+               (:file "store")
+               (:file "messages"))
   :in-order-to ((test-op (test-op "pazturrok-client/tests"))))
 
 (defsystem "pazturrok-client/tests"
@@ -24,6 +25,7 @@
   :components ((:file "harness")
                (:file "texts")
                (:file "store")
+               (:file "messages")
                (:file "hostile"))
   :perform (test-op (operation component)
              (uiop:symbol-call "PAZTURROK-CHECK" "TEST")))

@@ -21,7 +21,7 @@ use Rattle.world_forms.specs.declared.export.Content.TheVariants.{Data, World}
 use Rattle.command_words.specs.declared.words.Task.{Task}
 use Rattle.command_words.specs.declared.words.Report.TheVariants.{Dump, Verify}
 use Rattle.command_words.specs.declared.words.Task.TheVariants.{Export, Run, Snapshot, Tell, Upgrade}
-use Rattle.command_words.specs.CommandLine.{AsksFor, IsLine, IsTaken, asked_in, asked_of, command_line, data_for, every_of_number, existing_for, faults_of, flag_for, group_for, missing_command, strict_for}
+use Rattle.command_words.specs.CommandLine.{AsksFor, IsLine, IsNumber, IsTaken, asked_in, asked_of, command_line, data_for, existing_for, faults_of, flag_for, given_number, group_for, missing_command, strict_for}
 
 pub simple_line : is_simple command_line ≡ true
 unfolding clap_on_literals
@@ -38,11 +38,29 @@ pub record IsRight (words : List Text) (folder : Text) (existing : Bool) (task :
   pub asked : asked_in words ≡ Some (folder, existing, task)
 
 -- what is wanted of a session
-abbrev wanting : Mode → ℕ → Bool → Bool → Wanted
-wanting mode every strict group = record { mode = mode; snapshot_every = every; strict = strict; group = group }
+abbrev wanting : Mode → ℕ → ℕ → Bool → Bool → Wanted
+wanting mode every ratio strict group = record { mode = mode; snapshot_every = every; snapshot_ratio = ratio; strict = strict; group = group }
 
-wanted_is : (wanted : Wanted) (every : ℕ) (strict group : Bool) → wanted.snapshot_every ≡ every → wanted.strict ≡ strict → wanted.group ≡ group → wanted ≡ wanting wanted.mode every strict group
-wanted_is wanted every strict group is same together = rw (← is, ← same, ← together) refl
+wanted_is : (wanted : Wanted) (every ratio : ℕ) (strict group : Bool) → wanted.snapshot_every ≡ every → wanted.snapshot_ratio ≡ ratio → wanted.strict ≡ strict
+    → wanted.group ≡ group → wanted ≡ wanting wanted.mode every ratio strict group
+wanted_is wanted every ratio strict group every_is ratio_is same together = rw (← every_is, ← ratio_is, ← same, ← together) refl
+
+-- the options on snapshots: which of the two
+abbrev option_word : Bool → Text
+option_word false = codes "--snapshot-every"
+option_word true = codes "--snapshot-ratio"
+
+abbrev option_id : Bool → Text
+option_id false = codes "snapshot-every"
+option_id true = codes "snapshot-ratio"
+
+abbrev most : Bool → ℕ
+most false = 1000000
+most true = 18446744073709551615
+
+abbrev counting : Bool → Mode → ℕ → Wanted
+counting false mode n = wanting mode n 0 false false
+counting true mode n = wanting mode 0 n false false
 
 -- ---- what is found of a session
 
@@ -72,7 +90,7 @@ run_rows folder mode strict group existing number =
     ++ other_rows (codes "quiet") false)))))))))
 
 asked_of_rows : (folder : Text) (mode : Mode) (strict group existing : Bool)
-    → asked_of (codes "run", run_rows folder mode strict group existing []) ≡ Some (folder, existing, Run (wanting mode 0 strict group))
+    → asked_of (codes "run", run_rows folder mode strict group existing []) ≡ Some (folder, existing, Run (wanting mode 0 0 strict group))
 asked_of_rows folder Current false false false = refl
 asked_of_rows folder Current false false true = refl
 asked_of_rows folder Current false true false = refl
@@ -90,11 +108,13 @@ asked_of_rows folder Rescue true false true = refl
 asked_of_rows folder Rescue true true false = refl
 asked_of_rows folder Rescue true true true = refl
 
-asked_of_number : (folder number : Text) (mode : Mode)
-    → asked_of (codes "run", run_rows folder mode false false false (given (codes "snapshot-every") number CommandLine ∷ []))
-    ≡ Some (folder, false, Run (wanting mode (every_of_number (Some number)) false false))
-asked_of_number folder number Current = refl
-asked_of_number folder number Rescue = refl
+asked_of_number : (ratio : Bool) (folder number : Text) (mode : Mode)
+    → asked_of (codes "run", run_rows folder mode false false false (given (option_id ratio) number CommandLine ∷ []))
+    ≡ Some (folder, false, Run (counting ratio mode (given_number (Some number))))
+asked_of_number false folder number Current = refl
+asked_of_number false folder number Rescue = refl
+asked_of_number true folder number Current = refl
+asked_of_number true folder number Rescue = refl
 
 -- words that are written out but for the program's name, the folder and the number
 module _ (program : Text) (x : ℕ) (xs : Text) (e : (x == 45) ≡ false) where
@@ -192,7 +212,7 @@ module _ (program : Text) (x : ℕ) (xs : Text) (e : (x == 45) ≡ false) where
   run_faultless : (mode : Mode) (strict group existing : Bool)
       → fault_of command_line (program ∷ codes "run" ∷ (x ∷ xs) ∷ (flag_for mode ++ (strict_for strict ++ (group_for group ++ existing_for existing)))) ≡ []
   unfolding clap_on_literals
-  run_faultless Current false false false = simp e
+  run_faultless Current false false false = rw e (rw e refl)
   run_faultless Current false false true = rw e (rw e refl)
   run_faultless Current false true false = rw e (rw e refl)
   run_faultless Current false true true = rw e (rw e refl)
@@ -231,45 +251,54 @@ module _ (program : Text) (x : ℕ) (xs : Text) (e : (x == 45) ≡ false) where
   run_found Rescue true true true = rw e (rw e refl)
 
   right_run : (mode : Mode) (strict group existing : Bool)
-      → IsRight (program ∷ codes "run" ∷ (x ∷ xs) ∷ (flag_for mode ++ (strict_for strict ++ (group_for group ++ existing_for existing)))) (x ∷ xs) existing (Run (wanting mode 0 strict group))
+      → IsRight (program ∷ codes "run" ∷ (x ∷ xs) ∷ (flag_for mode ++ (strict_for strict ++ (group_for group ++ existing_for existing)))) (x ∷ xs) existing (Run (wanting mode 0 0 strict group))
   right_run mode strict group existing = record {
     taken = run_taken mode strict group existing;
     faultless = run_faultless mode strict group existing;
     asked = ap (option_and_then asked_of) (run_found mode strict group existing) ∙ asked_of_rows (x ∷ xs) mode strict group existing;
   }
 
-  module _ (y : ℕ) (ys : Text) (d : (y == 45) ≡ false) (passes : is_unsigned_in 1 1000000 (y ∷ ys) ≡ true) where
-    -- what is left of each of the next ones: the number passes
-    left : (((is_unsigned_in 1 1000000 (y ∷ ys) && true) && true) && true) ≡ true
-    left = rw passes refl
+  -- what is left of each of the next ones: the number passes
+  left : (most : ℕ) (number : Text) → is_unsigned_in 1 most number ≡ true → (((is_unsigned_in 1 most number && true) && true) && true) ≡ true
+  left most number passes = rw passes refl
 
-    left_kinds : or_else (or_else (or_else (if is_unsigned_in 1 1000000 (y ∷ ys) then [] else (ValueValidation ∷ [])) []) []) [] ≡ []
-    left_kinds = rw passes refl
+  left_kinds : (most : ℕ) (number : Text) → is_unsigned_in 1 most number ≡ true
+      → or_else (or_else (or_else (if is_unsigned_in 1 most number then [] else (ValueValidation ∷ [])) []) []) [] ≡ []
+  left_kinds most number passes = rw passes refl
 
-    every_taken : (mode : Mode) → takes command_line (program ∷ codes "run" ∷ (x ∷ xs) ∷ (flag_for mode ++ codes "--snapshot-every" ∷ (y ∷ ys) ∷ [])) ≡ true
-    unfolding clap_on_literals
-    every_taken Current = simp e (rw (d, d) left)
-    every_taken Rescue = simp e (rw (d, d) left)
+  number_taken : (ratio : Bool) (y : ℕ) (ys : Text) → (y == 45) ≡ false → is_unsigned_in 1 (most ratio) (y ∷ ys) ≡ true → (mode : Mode)
+      → takes command_line (program ∷ codes "run" ∷ (x ∷ xs) ∷ (flag_for mode ++ option_word ratio ∷ (y ∷ ys) ∷ [])) ≡ true
+  unfolding clap_on_literals
+  number_taken false y ys d passes Current = simp e (rw (d, d) (left (most false) (y ∷ ys) passes))
+  number_taken false y ys d passes Rescue = simp e (rw (d, d) (left (most false) (y ∷ ys) passes))
+  number_taken true y ys d passes Current = simp e (rw (d, d) (left (most true) (y ∷ ys) passes))
+  number_taken true y ys d passes Rescue = simp e (rw (d, d) (left (most true) (y ∷ ys) passes))
 
-    every_faultless : (mode : Mode) → fault_of command_line (program ∷ codes "run" ∷ (x ∷ xs) ∷ (flag_for mode ++ codes "--snapshot-every" ∷ (y ∷ ys) ∷ [])) ≡ []
-    unfolding clap_on_literals
-    every_faultless Current = simp e (rw (d, d) left_kinds)
-    every_faultless Rescue = simp e (rw (d, d) left_kinds)
+  number_faultless : (ratio : Bool) (y : ℕ) (ys : Text) → (y == 45) ≡ false → is_unsigned_in 1 (most ratio) (y ∷ ys) ≡ true → (mode : Mode)
+      → fault_of command_line (program ∷ codes "run" ∷ (x ∷ xs) ∷ (flag_for mode ++ option_word ratio ∷ (y ∷ ys) ∷ [])) ≡ []
+  unfolding clap_on_literals
+  number_faultless false y ys d passes Current = simp e (rw (d, d) (left_kinds (most false) (y ∷ ys) passes))
+  number_faultless false y ys d passes Rescue = simp e (rw (d, d) (left_kinds (most false) (y ∷ ys) passes))
+  number_faultless true y ys d passes Current = simp e (rw (d, d) (left_kinds (most true) (y ∷ ys) passes))
+  number_faultless true y ys d passes Rescue = simp e (rw (d, d) (left_kinds (most true) (y ∷ ys) passes))
 
-    every_found : (mode : Mode) → subcommand_of command_line (program ∷ codes "run" ∷ (x ∷ xs) ∷ (flag_for mode ++ codes "--snapshot-every" ∷ (y ∷ ys) ∷ []))
-        ≡ Some (codes "run", run_rows (x ∷ xs) mode false false false (given (codes "snapshot-every") (y ∷ ys) CommandLine ∷ []))
-    unfolding clap_on_literals
-    every_found Current = simp e (rw (d, d) refl)
-    every_found Rescue = simp e (rw (d, d) refl)
+  number_found : (ratio : Bool) (y : ℕ) (ys : Text) → (y == 45) ≡ false → (mode : Mode)
+      → subcommand_of command_line (program ∷ codes "run" ∷ (x ∷ xs) ∷ (flag_for mode ++ option_word ratio ∷ (y ∷ ys) ∷ []))
+      ≡ Some (codes "run", run_rows (x ∷ xs) mode false false false (given (option_id ratio) (y ∷ ys) CommandLine ∷ []))
+  unfolding clap_on_literals
+  number_found false y ys d Current = simp e (rw (d, d) refl)
+  number_found false y ys d Rescue = simp e (rw (d, d) refl)
+  number_found true y ys d Current = simp e (rw (d, d) refl)
+  number_found true y ys d Rescue = simp e (rw (d, d) refl)
 
-    right_every : (mode : Mode)
-        → IsRight (program ∷ codes "run" ∷ (x ∷ xs) ∷ (flag_for mode ++ codes "--snapshot-every" ∷ (y ∷ ys) ∷ [])) (x ∷ xs) false
-        (Run (wanting mode (every_of_number (Some (y ∷ ys))) false false))
-    right_every mode = record {
-      taken = every_taken mode;
-      faultless = every_faultless mode;
-      asked = ap (option_and_then asked_of) (every_found mode) ∙ asked_of_number (x ∷ xs) (y ∷ ys) mode;
-    }
+  right_counting : (ratio : Bool) (y : ℕ) (ys : Text) → (y == 45) ≡ false → is_unsigned_in 1 (most ratio) (y ∷ ys) ≡ true → (mode : Mode)
+      → IsRight (program ∷ codes "run" ∷ (x ∷ xs) ∷ (flag_for mode ++ option_word ratio ∷ (y ∷ ys) ∷ [])) (x ∷ xs) false
+      (Run (counting ratio mode (given_number (Some (y ∷ ys)))))
+  right_counting ratio y ys d passes mode = record {
+    taken = number_taken ratio y ys d passes mode;
+    faultless = number_faultless ratio y ys d passes mode;
+    asked = ap (option_and_then asked_of) (number_found ratio y ys d mode) ∙ asked_of_number ratio (x ∷ xs) (y ∷ ys) mode;
+  }
 
 differs : (x y : ℕ) → x ≢ y → (x == y) ≡ false
 differs x y apart = search rules
@@ -285,23 +314,27 @@ module _ (y : ℕ) (ys : Text) (numeral : IsNumeral 10 (y ∷ ys)) where
   bare : without_leading_plus (y ∷ ys) ≡ y ∷ ys
   bare = rw (differs y 43 no_plus) refl
 
-  in_range : (low high every : ℕ) → digits_value 10 (y ∷ ys) ≡ every → low ≤ every → every ≤ high → every < 2 ^ 64 → is_unsigned_in low high (y ∷ ys) ≡ true
-  in_range low high every is above below fits =
+  in_range : (low high n : ℕ) → digits_value 10 (y ∷ ys) ≡ n → low ≤ n → n ≤ high → n < 2 ^ 64 → is_unsigned_in low high (y ∷ ys) ≡ true
+  in_range low high n is above below fits =
       let within : (number : Text) → number ≡ y ∷ ys → IsNumeral 10 number × (digits_value 10 number < 2 ^ 64) × (low ≤ digits_value 10 number) × (digits_value 10 number ≤ high) =
       λ number same. rw (same, is) (numeral, fits, above, below) in
       Accepts-accepts false (Unsigned low high) (y ∷ ys) (within (without_leading_plus (y ∷ ys)) bare)
 
-  number_is : (every : ℕ) → digits_value 10 (y ∷ ys) ≡ every → 1 ≤ every → every ≤ 1000000 → every_of_number (Some (y ∷ ys)) ≡ every
-  number_is every is above below = rw (in_range 0 (2 ^ 64 - 1) every is (omega arith) (omega arith) (omega arith)) (ap (digits_value 10) bare ∙ is)
+  number_is : (n : ℕ) → digits_value 10 (y ∷ ys) ≡ n → n < 2 ^ 64 → given_number (Some (y ∷ ys)) ≡ n
+  number_is n is fits = rw (in_range 0 (2 ^ 64 - 1) n is (omega arith) (omega (arith, fits)) fits) (ap (digits_value 10) bare ∙ is)
+
+fits : (ratio : Bool) (n : ℕ) → n ≤ most ratio → n < 2 ^ 64
+fits false n below = omega (arith, below)
+fits true n below = omega (arith, below)
 
 module _ (program : Text) (x : ℕ) (xs : Text) (e : (x == 45) ≡ false) where
-  right_number : (mode : Mode) (number : Text) (every : ℕ) → IsNumeral 10 number → digits_value 10 number ≡ every → 1 ≤ every → every ≤ 1000000
-      → IsRight (program ∷ codes "run" ∷ (x ∷ xs) ∷ (flag_for mode ++ codes "--snapshot-every" ∷ number ∷ [])) (x ∷ xs) false (Run (wanting mode every false false))
-  right_number mode [] every numeral is above below = let none : 0 < 0 = numeral.0 in absurd (omega arith)
-  right_number mode (y ∷ ys) every numeral is above below =
-      subst (λ n. IsRight (program ∷ codes "run" ∷ (x ∷ xs) ∷ (flag_for mode ++ codes "--snapshot-every" ∷ (y ∷ ys) ∷ [])) (x ∷ xs) false (Run (wanting mode n false false)))
-      (number_is y ys numeral every is above below)
-      (right_every program x xs e y ys (differs y 45 (no_hyphen y ys numeral)) (in_range y ys numeral 1 1000000 every is above below (omega arith)) mode)
+  right_number : (ratio : Bool) (mode : Mode) (number : Text) (n : ℕ) → IsNumber (most ratio) n number
+      → IsRight (program ∷ codes "run" ∷ (x ∷ xs) ∷ (flag_for mode ++ option_word ratio ∷ number ∷ [])) (x ∷ xs) false (Run (counting ratio mode n))
+  right_number ratio mode [] n (numeral, is, above, below) = let none : 0 < 0 = numeral.0 in absurd (omega arith)
+  right_number ratio mode (y ∷ ys) n (numeral, is, above, below) =
+      subst (λ m. IsRight (program ∷ codes "run" ∷ (x ∷ xs) ∷ (flag_for mode ++ option_word ratio ∷ (y ∷ ys) ∷ [])) (x ∷ xs) false (Run (counting ratio mode m)))
+      (number_is y ys numeral n is (fits ratio n below))
+      (right_counting program x xs e ratio y ys (differs y 45 (no_hyphen y ys numeral)) (in_range y ys numeral 1 (most ratio) n is above below (fits ratio n below)) mode)
 
   right_plain : (line : List Text) (existing : Bool) (task : Task) → IsLine line (x ∷ xs) existing task → IsRight (program ∷ line) (x ∷ xs) existing task
   right_plain line existing Snapshot is = rw is (right_snapshot program x xs e existing)
@@ -309,15 +342,18 @@ module _ (program : Text) (x : ℕ) (xs : Text) (e : (x == 45) ≡ false) where
   right_plain line existing (Export content) is = rw is (right_content program x xs e content existing)
   right_plain line existing (Tell Dump) is = rw is (right_dump program x xs e existing)
   right_plain line existing (Tell Verify) is = rw is (right_verify program x xs e existing)
-  right_plain line false (Run wanted) (inl (none, line_is)) =
+  right_plain line false (Run wanted) (inl ((none, no_ratio), line_is)) =
       rw line_is (subst (λ (w : Wanted). IsRight (program ∷ codes "run" ∷ (x ∷ xs) ∷ (flag_for wanted.mode ++ (strict_for wanted.strict ++ (group_for wanted.group ++ [])))) (x ∷ xs) false (Run w))
-      (sym (wanted_is wanted 0 wanted.strict wanted.group none refl refl)) (right_run program x xs e wanted.mode wanted.strict wanted.group false))
-  right_plain line false (Run wanted) (inr (lax, alone, number, line_is, (numeral, value, above, below))) =
-      rw line_is (subst (λ (w : Wanted). IsRight (program ∷ codes "run" ∷ (x ∷ xs) ∷ (flag_for wanted.mode ++ codes "--snapshot-every" ∷ number ∷ [])) (x ∷ xs) false (Run w))
-      (sym (wanted_is wanted wanted.snapshot_every false false refl lax alone)) (right_number wanted.mode number wanted.snapshot_every numeral value above below))
-  right_plain line true (Run wanted) (none, line_is) =
+      (sym (wanted_is wanted 0 0 wanted.strict wanted.group none no_ratio refl refl)) (right_run program x xs e wanted.mode wanted.strict wanted.group false))
+  right_plain line false (Run wanted) (inr (lax, alone, number, inl (is, no_ratio, line_is))) =
+      rw line_is (subst (λ (w : Wanted). IsRight (program ∷ codes "run" ∷ (x ∷ xs) ∷ (flag_for wanted.mode ++ option_word false ∷ number ∷ [])) (x ∷ xs) false (Run w))
+      (sym (wanted_is wanted wanted.snapshot_every 0 false false refl no_ratio lax alone)) (right_number false wanted.mode number wanted.snapshot_every is))
+  right_plain line false (Run wanted) (inr (lax, alone, number, inr (is, none, line_is))) =
+      rw line_is (subst (λ (w : Wanted). IsRight (program ∷ codes "run" ∷ (x ∷ xs) ∷ (flag_for wanted.mode ++ option_word true ∷ number ∷ [])) (x ∷ xs) false (Run w))
+      (sym (wanted_is wanted 0 wanted.snapshot_ratio false false none refl lax alone)) (right_number true wanted.mode number wanted.snapshot_ratio is))
+  right_plain line true (Run wanted) ((none, no_ratio), line_is) =
       rw line_is (subst (λ (w : Wanted). IsRight (program ∷ codes "run" ∷ (x ∷ xs) ∷ (flag_for wanted.mode ++ (strict_for wanted.strict ++ (group_for wanted.group ++ existing_for true)))) (x ∷ xs) true (Run w))
-      (sym (wanted_is wanted 0 wanted.strict wanted.group none refl refl)) (right_run program x xs e wanted.mode wanted.strict wanted.group true))
+      (sym (wanted_is wanted 0 0 wanted.strict wanted.group none no_ratio refl refl)) (right_run program x xs e wanted.mode wanted.strict wanted.group true))
 
 pub right_line : (words : List Text) (folder : Text) (existing : Bool) (task : Task) → AsksFor words folder existing task → IsRight words folder existing task
 right_line words [] existing task asks = absurd asks.4

@@ -1,5 +1,5 @@
--- The command line of the program, as clap reads it: `run DIR [--rescue] [--strict] [--group] [--snapshot-every N] [--quiet]`, `snapshot DIR`,
--- `upgrade DIR`, `export DIR [--data]`, `dump DIR` and `verify DIR`, each with `--existing`.
+-- The command line of the program, as clap reads it: `run DIR [--rescue] [--strict] [--group] [--snapshot-every N] [--snapshot-ratio R]
+-- [--quiet]`, `snapshot DIR`, `upgrade DIR`, `export DIR [--data]`, `dump DIR` and `verify DIR`, each with `--existing`.
 use Rattle.std.specs.Prelude.{◌≡◌, ◌≢◌, ◌≤◌, ◌^◌, ◌-◌, ◌⊎◌, ℕ, Bool, true, false, if◌then◌else◌, List, [], ◌∷◌, ◌++◌, Option, Some, None, codes, option_map, option_and_then}
 use Rattle.std.specs.Option.{option_map_or}
 use Rattle.std.specs.Str.{bytes_eq}
@@ -57,6 +57,15 @@ every_rule = record (new_rule (codes "snapshot-every")) {
   parser = Some (Unsigned 1 1000000);
 }
 
+-- --snapshot-ratio R: one value, a number from 1 on, of 64 bits
+abbrev pub ratio_rule : Rule
+ratio_rule = record (new_rule (codes "snapshot-ratio")) {
+  long = Some (codes "snapshot-ratio");
+  action = Some Set;
+  value_names = 1;
+  parser = Some (Unsigned 1 18446744073709551615);
+}
+
 -- --quiet: a flag, of which a session knows nothing
 abbrev pub quiet_rule : Rule
 quiet_rule = record (new_rule (codes "quiet")) {
@@ -75,9 +84,12 @@ existing_rule = record (new_rule (codes "existing")) {
 abbrev pub folder_line : Text → App
 folder_line name = with_rule (with_rule (new_app name) directory_rule) existing_rule
 
--- with what is wanted of a session
+-- with what is wanted of a session: its flags, and its numbers
+abbrev pub flags_line : App
+flags_line = with_rule (with_rule (with_rule (folder_line (codes "run")) rescue_rule) strict_rule) group_rule
+
 abbrev pub session_line : App
-session_line = with_rule (with_rule (with_rule (with_rule (folder_line (codes "run")) rescue_rule) strict_rule) group_rule) every_rule
+session_line = with_rule (with_rule flags_line every_rule) ratio_rule
 
 abbrev pub run_line : App
 run_line = with_rule session_line quiet_rule
@@ -94,7 +106,7 @@ export_line = with_rule (folder_line (codes "export")) data_rule
 
 -- the program, with its commands and its version
 abbrev pub program_line : App
-program_line = on_top (λ s. record s { subcommand_required = true; has_version = true }) (new_app (codes "pazturrok"))
+program_line = on_top (λ s. record s { has_version = true }) (new_app (codes "pazturrok"))
 
 abbrev pub command_line : App
 command_line =
@@ -114,20 +126,21 @@ mode_of_flag flag = if is_set flag then Rescue else Current
 abbrev pub content_of_flag : Option Text → Content
 content_of_flag flag = if is_set flag then Data else World
 
--- after how many forms a snapshot is taken: 0, which is never, where no number is given
-abbrev pub every_of_number : Option Text → ℕ
-every_of_number None = 0
-every_of_number (Some text) = if is_unsigned_in 0 (2 ^ 64 - 1) text then digits_value 10 (without_leading_plus text) else 0
+-- the number of an option on snapshots: 0, which is never, where none is given
+abbrev pub given_number : Option Text → ℕ
+given_number None = 0
+given_number (Some text) = if is_unsigned_in 0 (2 ^ 64 - 1) text then digits_value 10 (without_leading_plus text) else 0
 
 -- the same of the rows that were found
-abbrev pub every_in : List Row → ℕ
-every_in rows = every_of_number (one_of (codes "snapshot-every") rows)
+abbrev pub number_in : Text → List Row → ℕ
+number_in option rows = given_number (one_of option rows)
 
 -- what is wanted of a session, by the rows that were found
 abbrev pub wanted_of : List Row → Wanted
 wanted_of rows = record {
   mode = mode_of_flag (first_of (codes "rescue") rows);
-  snapshot_every = every_in rows;
+  snapshot_every = number_in (codes "snapshot-every") rows;
+  snapshot_ratio = number_in (codes "snapshot-ratio") rows;
   strict = is_set (first_of (codes "strict") rows);
   group = is_set (first_of (codes "group") rows);
 }
@@ -201,19 +214,31 @@ abbrev pub existing_for : Bool → List Text
 existing_for false = []
 existing_for true = codes "--existing" ∷ []
 
--- the option on snapshots: a decimal number from 1 to 1,000,000
-abbrev pub IsEvery : ℕ → Text → Type 0
-IsEvery every number = IsNumeral 10 number × (digits_value 10 number ≡ every) × (1 ≤ every) × (every ≤ 1000000)
+-- a decimal number from 1 up to another
+abbrev pub IsNumber : ℕ → ℕ → Text → Type 0
+IsNumber most n number = IsNumeral 10 number × (digits_value 10 number ≡ n) × (1 ≤ n) × (n ≤ most)
 
--- The words of a command on this folder that asks for this. A number of snapshots beside `--existing`, `--strict` or `--group` is not
--- among them, nor is `--quiet`.
+-- no snapshot is asked for
+abbrev pub AsksForNone : Wanted → Type 0
+AsksForNone wanted = (wanted.snapshot_every ≡ 0) × (wanted.snapshot_ratio ≡ 0)
+
+-- Words with one of the options on snapshots, and its number.
+abbrev pub HasNumber : List Text → Text → Wanted → Type 0
+HasNumber words folder wanted =
+    (number : Text)
+    × ((IsNumber 1000000 wanted.snapshot_every number × (wanted.snapshot_ratio ≡ 0)
+    × (words ≡ codes "run" ∷ folder ∷ (flag_for wanted.mode ++ codes "--snapshot-every" ∷ number ∷ [])))
+    ⊎ (IsNumber 18446744073709551615 wanted.snapshot_ratio number × (wanted.snapshot_every ≡ 0)
+    × (words ≡ codes "run" ∷ folder ∷ (flag_for wanted.mode ++ codes "--snapshot-ratio" ∷ number ∷ []))))
+
+-- The words of a command on this folder that asks for this. A number of snapshots beside another one, or beside `--existing`, `--strict` or
+-- `--group`, is not among them, nor is `--quiet`.
 abbrev pub IsLine : List Text → Text → Bool → Task → Type 0
 IsLine words folder false (Run wanted) =
-    ((wanted.snapshot_every ≡ 0) × (words ≡ codes "run" ∷ folder ∷ (flag_for wanted.mode ++ (strict_for wanted.strict ++ (group_for wanted.group ++ [])))))
-    ⊎ ((wanted.strict ≡ false) × (wanted.group ≡ false) × (number : Text) × (words ≡ codes "run" ∷ folder ∷ (flag_for wanted.mode ++ codes "--snapshot-every" ∷ number ∷ []))
-    × IsEvery wanted.snapshot_every number)
+    (AsksForNone wanted × (words ≡ codes "run" ∷ folder ∷ (flag_for wanted.mode ++ (strict_for wanted.strict ++ (group_for wanted.group ++ [])))))
+    ⊎ ((wanted.strict ≡ false) × (wanted.group ≡ false) × HasNumber words folder wanted)
 IsLine words folder true (Run wanted) =
-    (wanted.snapshot_every ≡ 0) × (words ≡ codes "run" ∷ folder ∷ (flag_for wanted.mode ++ (strict_for wanted.strict ++ (group_for wanted.group ++ existing_for true))))
+    AsksForNone wanted × (words ≡ codes "run" ∷ folder ∷ (flag_for wanted.mode ++ (strict_for wanted.strict ++ (group_for wanted.group ++ existing_for true))))
 IsLine words folder existing Snapshot = words ≡ codes "snapshot" ∷ folder ∷ existing_for existing
 IsLine words folder existing Upgrade = words ≡ codes "upgrade" ∷ folder ∷ existing_for existing
 IsLine words folder existing (Export content) = words ≡ codes "export" ∷ folder ∷ (data_for content ++ existing_for existing)

@@ -1,5 +1,5 @@
-//! The words of the command line, and what they ask for: `run DIR [--rescue] [--strict] [--group] [--snapshot-every N] [--quiet]`,
-//! `snapshot DIR`, `upgrade DIR`, `export DIR [--data]`, `dump DIR` and `verify DIR`, each with `--existing`.
+//! The words of the command line, and what they ask for: `run DIR [--rescue] [--strict] [--group] [--snapshot-every N]
+//! [--snapshot-ratio R] [--quiet]`, `snapshot DIR`, `upgrade DIR`, `export DIR [--data]`, `dump DIR` and `verify DIR`, each with `--existing`.
 //!
 //! `way_of` (module `way`) tells how what they ask for is carried out, and who has them. `asked_in` (module `words`) finds one of these
 //! commands, its folder and its options, or the error of `clap`; `looked_in` (module `looks`) does so for the commands that only look

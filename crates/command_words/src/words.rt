@@ -4,7 +4,7 @@ ghost use Rattle.clap.specs.Words.{FailsBy, Text, app_of, found_of, kind_of, row
 ghost use Rattle.clap.specs.declared.builder.command.Command.TheViews.{out-Command as fields_of};
 ghost use Rattle.clap.specs.declared.error.kind.ErrorKind.TheVariants.{MissingRequiredArgument, OutOfMemory};
 ghost use Rattle.command_words.specs.declared.words.Task.{Task};
-ghost use Rattle.command_words.specs.CommandLine.{asked_in, asked_of, command_line, content_of_flag, data_rule, every_in, every_rule, existing_rule, export_line, faults_of, folder_line, group_rule, is_set, mode_of_flag, program_line, quiet_rule, rescue_rule, run_line, session_line, strict_rule, task_of, wanted_of, AsksFor};
+ghost use Rattle.command_words.specs.CommandLine.{asked_in, asked_of, command_line, content_of_flag, data_rule, every_rule, existing_rule, export_line, faults_of, flags_line, folder_line, group_rule, is_set, mode_of_flag, number_in, program_line, quiet_rule, ratio_rule, rescue_rule, run_line, session_line, strict_rule, task_of, wanted_of, AsksFor};
 
 use crate::help::{
     DUMP_HELP, DUMP_USAGE, EXPORT_HELP, EXPORT_USAGE, PROGRAM_HELP, RUN_HELP, RUN_USAGE,
@@ -51,6 +51,8 @@ const GROUP: &str = "group";
 const QUIET: &str = "quiet";
 
 const EVERY: &str = "snapshot-every";
+
+const RATIO: &str = "snapshot-ratio";
 
 /// What is to be done with a store.
 #[derive(Clone, Copy, Debug, PartialEq, Eq)]
@@ -166,6 +168,17 @@ fn every_option<'a>(alloc: Global) -> Arg<'a>
         .value_parser(ValueParser::unsigned(1, 1_000_000))
 }
 
+fn ratio_option<'a>(alloc: Global) -> Arg<'a>
+    ensures { (rule_of result ≡ ratio_rule) × (result.global ≡ false) }
+{
+    Arg::new(alloc, RATIO)
+        .long(RATIO)
+        .value_name("R")
+        .help("Take a snapshot once the half in use is R times as long as the text of its snapshot")
+        .action(ArgAction::Set)
+        .value_parser(ValueParser::unsigned(1, u64::MAX))
+}
+
 pub(crate) fn data_option<'a>(alloc: Global) -> Arg<'a>
     ensures { (rule_of result ≡ data_rule) × (result.global ≡ false) }
 {
@@ -184,17 +197,26 @@ fn export_command<'a>(alloc: Global) -> Result<Command<'a>, AllocError>
     command.arg(data_option(alloc))
 }
 
-// A session, with what is wanted of it.
-fn session_command<'a>(alloc: Global) -> Result<Command<'a>, AllocError>
-    ensures line { IfOk result (λ command. app_of command ≡ session_line) }
+// A session, with its flags.
+fn flags_command<'a>(alloc: Global) -> Result<Command<'a>, AllocError>
+    ensures line { IfOk result (λ command. app_of command ≡ flags_line) }
     ensures local { IfOk result (λ command. (fields_of command).has_globals ≡ false) }
 {
     let about = "Serves the forms of standard input to standard output";
     let command = folder_command(alloc, RUN, about, RUN_USAGE, RUN_HELP)?;
     let command = command.arg(rescue_option(alloc))?;
     let command = command.arg(strict_option(alloc))?;
-    let command = command.arg(group_option(alloc))?;
-    command.arg(every_option(alloc))
+    command.arg(group_option(alloc))
+}
+
+// The same with all that is wanted of it.
+fn session_command<'a>(alloc: Global) -> Result<Command<'a>, AllocError>
+    ensures line { IfOk result (λ command. app_of command ≡ session_line) }
+    ensures local { IfOk result (λ command. (fields_of command).has_globals ≡ false) }
+{
+    let command = flags_command(alloc)?;
+    let command = command.arg(every_option(alloc))?;
+    command.arg(ratio_option(alloc))
 }
 
 fn run_command<'a>(alloc: Global) -> Result<Command<'a>, AllocError>
@@ -214,7 +236,6 @@ fn bare_command<'a>(alloc: Global) -> Command<'a>
         .version(PROGRAM_VERSION)
         .override_usage(USAGE)
         .override_help(PROGRAM_HELP)
-        .subcommand_required(true)
 }
 
 // Adds a command that has nothing but its folder.
@@ -296,11 +317,11 @@ pub(crate) fn content_for(flag: Option<&str>) -> Content
     }
 }
 
-// After how many forms a snapshot is taken.
-fn every_in(found: &ArgMatches<'_>) -> u64
-    ensures { result ≡ every_in (rows_of (found_of found.now)) }
+// The number of an option on snapshots; 0 where it is not given.
+fn number_in(found: &ArgMatches<'_>, option: &str) -> u64
+    ensures { result ≡ number_in option.now (rows_of (found_of found.now)) }
 {
-    found.get_one::<u64>(EVERY).unwrap_or(0)
+    found.get_one::<u64>(option).unwrap_or(0)
 }
 
 // What is wanted of a session.
@@ -309,7 +330,8 @@ fn wanted_in(found: &ArgMatches<'_>) -> Wanted
 {
     Wanted {
         mode: mode_for(found.get_str(RESCUE)),
-        snapshot_every: every_in(found),
+        snapshot_every: number_in(found, EVERY),
+        snapshot_ratio: number_in(found, RATIO),
         strict: flag_is_set(found.get_str(STRICT)),
         group: flag_is_set(found.get_str(GROUP)),
     }
@@ -347,7 +369,7 @@ fn asked_by<'a>(matches: &ArgMatches<'a>) -> Option<Asked<'a>>
 fn nothing_asked(command: &mut Command<'_>) -> Error
     ensures { (kind_of result ≡ OutOfMemory) ⊎ (kind_of result ≡ MissingRequiredArgument) }
 {
-    match command.error(ErrorKind::MissingRequiredArgument, "no folder was given") {
+    match command.error(ErrorKind::MissingRequiredArgument, "no command was given") {
         Ok(error) => error,
         Err(memory) => Error::from(memory),
     }

@@ -73,9 +73,18 @@ pub(crate) fn end_unlooked<F: Write>(faults: &mut F, unlooked: Unlooked) -> Stat
             let status = Status::of_host(&error);
             end_with_told(faults, status, &Told::Cause(error))
         }
-        Unlooked::Show(error) => tell_error(faults, &error),
-        Unlooked::NoPlace(error) => tell_error(faults, &error),
-        Unlooked::Taken(error) => tell_error(faults, &error),
+        Unlooked::Show(error) => {
+            tell_error(faults, &error);
+            Status::WordsRefused
+        }
+        Unlooked::NoPlace(error) => {
+            tell_error(faults, &error);
+            Status::WordsRefused
+        }
+        Unlooked::Taken(error) => {
+            tell_error(faults, &error);
+            Status::WordsRefused
+        }
         Unlooked::Unread(error) => {
             let mut shown = program_streams::Shown::new(faults);
             let _ = writeln!(shown, "error: the file cannot be read: {error}");
@@ -85,12 +94,9 @@ pub(crate) fn end_unlooked<F: Write>(faults: &mut F, unlooked: Unlooked) -> Stat
 }
 
 // Tells why what is asked for is not there. A name in it goes to a terminal.
-fn tell_error<F: Write, E: Display>(faults: &mut F, error: &E) -> Status
-    ensures { result ≡ Status.WordsRefused }
-{
+fn tell_error<F: Write, E: Display>(faults: &mut F, error: &E) {
     let mut shown = program_streams::Shown::new(faults);
     let _ = writeln!(shown, "error: {error}");
-    Status::WordsRefused
 }
 
 // What the files of a folder hold at one moment, of which one is a half in use.

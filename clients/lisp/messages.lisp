@@ -1,0 +1,228 @@
+;;;; Messages with numbers: each is carried out once, whatever becomes of the program that does it.
+
+(in-package "PAZTURROK-CLIENT")
+
+(defstruct (feed (:constructor make-feed (words naming)) (:copier nil))
+  "A program over a folder that carries out messages and answers questions. It belongs to one thread at a time."
+  words
+  naming
+  (program nil)                                 ; NIL while none runs
+  (closed-p nil)
+  (last 0 :type unsigned-byte))                 ; the number of the last message
+
+(setf (documentation 'feed-last 'function)
+      "The number of the last message that was sent, or that the store told when it was opened.")
+
+(defmethod print-object ((feed feed) stream)
+  (print-unreadable-object (feed stream :type t :identity t)
+    (format stream "~A ~D" (third (feed-words feed)) (feed-last feed))))
+
+(define-condition lost-answer (store-error)
+  ((number :initarg :number :reader lost-answer-number))
+  (:report (lambda (condition stream)
+             (format stream "message ~D was carried out, and its answer was lost" (lost-answer-number condition))))
+  (:documentation
+   "The message was carried out, once; the program ended before its answer was read, and it is not sent again."))
+
+;;; Frames and answers
+
+(defun message-frame (number text)
+  (format nil "do ~D ~D~%~A~%" number (length text) text))
+
+(defun question-frame (text)
+  (format nil "ask ~D~%~A~%" (length text) text))
+
+(defun next-of (feed)
+  "The next character of the program's output; at its end STOPPED is signalled."
+  (or (read-char (program-from (feed-program feed)) nil)
+      (multiple-value-bind (status fault) (leave feed)
+        (error 'stopped :status status :fault fault))))
+
+(defun next-line (feed)
+  (with-output-to-string (line)
+    (loop for char = (next-of feed)
+          until (char= char #\Newline)
+          do (write-char char line))))
+
+(defun numeral (text line)
+  (if (and (plusp (length text)) (every (lambda (char) (char<= #\0 char #\9)) text))
+      (parse-integer text)
+      (malformed line "no number")))
+
+(defun read-position (feed)
+  (let ((line (next-line feed)))
+    (unless (and (> (length line) 3) (string= line "at " :end1 3)) (malformed line "no position"))
+    (numeral (subseq line 3) line)))
+
+(defun read-sized-answer (feed wanted)
+  "The text of the next answer, which has to be that of WANTED: a number, or NIL of a question."
+  (let* ((line (next-line feed))
+         (space (or (position #\Space line) (malformed line "no head of an answer")))
+         (head (subseq line 0 space))
+         (text (make-string (numeral (subseq line (1+ space)) line))))
+    (unless (string= head (if wanted (princ-to-string wanted) "ask"))
+      (malformed line "it is not that of ~A" (or wanted "a question")))
+    (map-into text (lambda () (next-of feed)))
+    (unless (char= (next-of feed) #\Newline) (malformed text "it is longer than its length"))
+    text))
+
+(defun exchange-frames (feed frames numbers receive)
+  "Sends frames, and calls RECEIVE with the text of each answer. Whatever leaves it in another way ends the program."
+  (let ((whole-p nil))
+    (unwind-protect
+         (handler-case
+             (let ((to (program-to (feed-program feed))))
+               (dolist (frame frames) (write-string frame to))
+               (finish-output to)
+               (dolist (number numbers) (funcall receive (read-sized-answer feed number)))
+               (setf whole-p t))
+           (stream-error ()
+             (multiple-value-bind (status fault) (leave feed)
+               (error 'stopped :status status :fault fault))))
+      (unless whole-p (leave feed)))))
+
+;;; Opening and closing
+
+(defparameter *restarts* 5
+  "How often the program is started again, one time after the other, before any answer has come.")
+
+(defun leave (feed)
+  "Ends the program, if one runs, and gives its status and what it wrote to standard error."
+  (let ((program (feed-program feed)))
+    (setf (feed-program feed) nil)
+    (if program (end program) (values nil nil))))
+
+(defun killed-p (condition)
+  "Whether the program was killed. One that ends by itself has a status of 0 to 3."
+  (let ((status (stopped-status condition)))
+    (not (and status (<= 0 status 3)))))
+
+(defun open-feed-once (feed)
+  "Starts the program, asks how it prints symbols, and gives the position that it told."
+  (setf (feed-program feed) (launch (feed-words feed)))
+  (let ((position (read-position feed)))
+    (ask-feed-naming feed)
+    (setf (feed-last feed) (max position (feed-last feed)))
+    position))
+
+(defun open-feed-again (feed)
+  "The same, where the program may be killed meanwhile."
+  (loop for stops from 1
+        do (handler-case (return (open-feed-once feed))
+             (stopped (condition)
+               (when (or (not (killed-p condition)) (> stops *restarts*)) (error condition))))))
+
+(defun open-feed (program folder &key (package *package*) intern options)
+  "Starts PROGRAM over FOLDER to feed it messages, and gives the feed when it is open. PACKAGE, INTERN and OPTIONS are
+those of OPEN-STORE. One feed at a time may be open on a store."
+  (flet ((word (file) (if (pathnamep file) (uiop:native-namestring file) file)))
+    (let ((feed (make-feed (list* (word program) "run" (word folder) "--messages" options)
+                           (make-naming :package (find-package package) :interns-p intern))))
+      (open-feed-again feed)
+      feed)))
+
+(defun close-feed (feed)
+  "Ends the program, and gives its status. What was answered is in the store."
+  (setf (feed-closed-p feed) t)
+  (values (leave feed)))
+
+(defmacro with-feed ((feed program folder &rest options) &body body)
+  "Evaluates BODY with FEED bound to what OPEN-FEED gives, and closes it."
+  `(let ((,feed (open-feed ,program ,folder ,@options :package ,(package-name *package*))))
+     (unwind-protect (progn ,@body) (close-feed ,feed))))
+
+(defun make-feed-ready (feed)
+  (when (feed-closed-p feed) (error 'closed))
+  (unless (feed-program feed) (open-feed-again feed)))
+
+;;; Values
+
+(defparameter *qualified-question*
+  (format nil "(COMMON-LISP:LIST COMMON-LISP:*PACKAGE*~{ 'COMMON-LISP:~A~})" *operators*)
+  "What the current package is, and which symbols of COMMON-LISP are printed in it without a prefix.")
+
+(defun ask-feed-naming (feed)
+  (let* ((answer (let ((texts '()))
+                   (exchange-frames feed (list (question-frame *qualified-question*)) '(nil) (lambda (text) (push text texts)))
+                   (first texts)))
+         (named (unless (refusal-of answer)
+                  (parse-answer answer (lambda (prefix name) (if prefix nil name)))))
+         (naming (feed-naming feed)))
+    (setf (naming-current naming) (or (first named) "")
+          (naming-bare naming) (remove nil (rest named)))))
+
+(defun feed-outcome (feed answer)
+  "The value that an answer tells; or the condition that the form was refused, or answered with nonsense."
+  (handler-case
+      (multiple-value-bind (number name) (refusal-of answer)
+        (if number
+            (make-condition 'refused :number number :name name)
+            (let ((naming (feed-naming feed)))
+              (parse-answer answer (lambda (prefix name)
+                                     (symbol-of (home-named prefix name naming) name naming))))))
+    (malformed-answer (condition) condition)))
+
+(defun feed-text (feed form)
+  "The text of a form, which is an object, or a text already."
+  (let ((text (if (stringp form) form (values (form-text form (feed-naming feed))))))
+    (check-characters text text)
+    (when (> (length text) +form-limit+) (cannot-send text "it is longer than ~D characters" +form-limit+))
+    text))
+
+;;; Sending
+
+(defun send-messages (feed texts)
+  "The outcomes of texts that are sent at once: each is carried out once."
+  (make-feed-ready feed)
+  (let* ((first (1+ (feed-last feed)))
+         (numbers (loop for number from first repeat (length texts) collect number))
+         (outcomes '())
+         (stops 0))
+    (incf (feed-last feed) (length texts))
+    (loop
+      (let* ((done (length outcomes)) (answered 0))
+        (handler-case
+            (progn
+              (unless (feed-program feed) (open-feed-again feed))
+              (exchange-frames feed
+                               (mapcar #'message-frame (nthcdr done numbers) (nthcdr done texts))
+                               (nthcdr done numbers)
+                               (lambda (answer)
+                                 (incf answered)
+                                 (push (feed-outcome feed answer) outcomes)))
+              (return (nreverse outcomes)))
+          (stopped (condition)
+            (setf stops (if (plusp answered) 1 (1+ stops)))
+            (when (or (not (killed-p condition)) (> stops *restarts*)) (error condition))
+            (let ((position (open-feed-again feed)))
+              (loop for number in (nthcdr (length outcomes) numbers)
+                    while (<= number position)
+                    do (push (make-condition 'lost-answer :number number) outcomes)))
+            (when (= (length outcomes) (length texts)) (return (nreverse outcomes)))))))))
+
+(defun feed-all (feed forms)
+  "Has many forms carried out, objects or texts, each once. Gives the value of each, or the condition in its place."
+  (let ((texts (mapcar (lambda (form) (feed-text feed form)) forms)))
+    (loop while texts
+          nconc (let ((some (subseq texts 0 (first-texts texts +pipe-room+))))
+                  (setf texts (nthcdr (length some) texts))
+                  (prog1 (send-messages feed some)
+                    (when (changes-naming-p (first (last some))) (ask-feed-naming feed)))))))
+
+(defun feed-form (feed form)
+  "Has one form carried out, once, and gives its value."
+  (let ((outcome (first (feed-all feed (list form)))))
+    (if (typep outcome 'store-error) (error outcome) outcome)))
+
+(defun ask (feed form)
+  "Asks for the value of a form, which may change nothing."
+  (let ((text (feed-text feed form)) (answer nil))
+    (loop for stops from 1
+          do (handler-case
+                 (progn (make-feed-ready feed)
+                        (exchange-frames feed (list (question-frame text)) '(nil) (lambda (text) (setf answer text)))
+                        (return))
+               (stopped (condition)
+                 (when (or (not (killed-p condition)) (> stops *restarts*)) (error condition)))))
+    (let ((outcome (feed-outcome feed answer)))
+      (if (typep outcome 'store-error) (error outcome) outcome))))

@@ -1,0 +1,4 @@
+pub mod Calls
+pub mod Engine
+pub mod Held
+pub mod Texts

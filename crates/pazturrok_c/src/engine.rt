@@ -1,0 +1,164 @@
+// A store whose device is its caller.
+ghost use Rattle.std.specs.Prelude.{◌≡◌, ◌↔◌, [], true, IfOk, IfErr, IsTrue};
+ghost use Rattle.deferred_disk.specs.Bytes.{orders_bytes};
+ghost use Rattle.deferred_disk.specs.Disk.{pending_of, state_of};
+ghost use Rattle.pazturrok_c.specs.Engine.{IsAnswered, IsBarred, IsExecuted, IsOpenedOn, IsSnapshotted, IsUnopenedOn, mode_in};
+ghost use Rattle.prevalence_store.specs.calls.Execute.{IsProperOutcome};
+ghost use Rattle.six_functions.specs.MacroFunctions.{six_functions};
+ghost use Rattle.user_macros.specs.Functions.{are_registered};
+
+use crate::answer::{EngineStore, printed};
+use crate::done::Setting;
+use deferred_disk::DeferredDisk;
+use disk_trait::Disk;
+use fixed_macros::Fixed;
+use lisp_object::refusal::{NO_MEMORY, REOPEN};
+use plist_state::Seed;
+use prevalence_store::{Mode, Outcome, Store};
+use six_functions::SixFunctions;
+use std::alloc::Global;
+use user_macros::MacroFunctions;
+
+/// A store with the six macro functions over a disk whose calls its caller does, and what it answered last.
+pub struct Engine {
+    alloc: Global,
+    store: EngineStore,
+    answer: Vec<u8>,
+    ghost whole: { are_registered six_functions (⟦<Fixed<SixFunctions> as MacroFunctions>⟧.functions store.macros) ≡ true },
+}
+
+impl Drop for Engine {
+    fn drop(self) {
+        let Engine {
+            alloc: _,
+            store,
+            answer,
+        } = self;
+        let _closed = store.close();
+        drop(answer);
+    }
+}
+
+fn mode_of(rescue: bool) -> Mode
+    ensures { result ≡ mode_in rescue }
+{
+    if rescue { Mode::Rescue } else { Mode::Current }
+}
+
+impl Engine {
+    /// Opens the store of two files that hold these bytes.
+    pub(crate) fn open(
+        alloc: Global,
+        a: Vec<u8>,
+        b: Vec<u8>,
+        setting: &Setting,
+    ) -> Result<Engine, u16>
+        ensures opened { IfOk result (λ engine. IsOpenedOn a.items b.items setting.now.limit engine.store) }
+        ensures refused { IfErr result (IsUnopenedOn a.items b.items setting.now.limit) }
+    {
+        let disk = DeferredDisk::new(alloc, a, b);
+        let macros = Fixed::new(alloc, SixFunctions::new());
+        let seed = Seed::new(setting.seed_first, setting.seed_second);
+        match Store::open_with_seed(alloc, disk, macros, setting.limit, seed) {
+            Ok(store) => Ok(Engine {
+                alloc,
+                store,
+                answer: Vec::new(alloc),
+            }),
+            Err(unopened) => Err(unopened.number),
+        }
+    }
+
+    // Whether all orders were reported done.
+    fn is_done(&self) -> bool
+        ensures { IsTrue result ↔ (pending_of self.now.store.disk ≡ []) }
+    {
+        self.store.disk().is_done()
+    }
+
+    /// The orders that were not reported done, as bytes.
+    pub(crate) fn orders(&self) -> &[u8]
+        ensures { result.now ≡ orders_bytes (pending_of self.now.store.disk) }
+    {
+        self.store.disk().orders()
+    }
+
+    /// The last answer.
+    pub(crate) fn answer(&self) -> &[u8]
+        ensures { result.now ≡ self.now.answer.items }
+    {
+        &self.answer
+    }
+
+    /// Executes a form, unless orders are open.
+    pub(crate) fn execute(&mut self, rescue: bool, text: &[u8]) -> u16
+        ensures barred { IsBarred (pending_of self.old.store.disk) self.old self.new result }
+        ensures executes { pending_of self.old.store.disk ≡ [] → IsExecuted self.old.store self.new.store
+            (mode_in rescue) text.now result self.new.answer.items }
+    {
+        if !self.is_done() {
+            return REOPEN;
+        }
+        let outcome = self.store.execute(mode_of(rescue), text);
+        self.answer_to(&outcome)
+    }
+
+    // Keeps the answer to a form, and gives the number.
+    fn answer_to(&mut self, outcome: &Outcome) -> u16
+        requires { IsProperOutcome outcome.now }
+        ensures store { self.new.store ≡ self.old.store }
+        ensures answered { IsAnswered self.new.store.world outcome.now result self.new.answer.items }
+    {
+        match outcome {
+            Outcome::Accepted(value) => match printed(self.alloc, &self.store, value) {
+                Ok(answer) => {
+                    self.answer = answer;
+                    0
+                }
+                Err(_) => NO_MEMORY,
+            },
+            Outcome::Snapshotted => 0,
+            Outcome::Refused(number) => *number,
+        }
+    }
+
+    /// Takes a snapshot, unless orders are open.
+    pub(crate) fn snapshot(&mut self) -> u16
+        ensures barred { IsBarred (pending_of self.old.store.disk) self.old self.new result }
+        ensures snapshots { pending_of self.old.store.disk ≡ [] → IsSnapshotted self.old.store self.new.store result }
+    {
+        if !self.is_done() {
+            return REOPEN;
+        }
+        match self.store.snapshot() {
+            Outcome::Refused(number) => number,
+            _ => 0,
+        }
+    }
+
+    /// Says that so many bytes of orders were carried out.
+    pub(crate) fn report_done(&mut self, count: usize)
+        ensures store { self.new.store ≡ record self.old.store { disk = self.new.store.disk } }
+        ensures answer { self.new.answer ≡ self.old.answer }
+    {
+        self.store.report_done(count);
+    }
+
+    pub(crate) fn generation(&self) -> u64
+        ensures { result ≡ self.now.store.generation }
+    {
+        self.store.generation()
+    }
+
+    pub(crate) fn record_count(&self) -> u64
+        ensures { result ≡ self.now.store.record_count }
+    {
+        self.store.record_count()
+    }
+
+    pub(crate) fn version(&self) -> u16
+        ensures { result ≡ self.now.store.version }
+    {
+        self.store.version()
+    }
+}

@@ -1,0 +1,194 @@
+// What C calls. A call that finds no engine answers 61, as one after a fault of the device.
+ghost use Rattle.std.specs.Prelude.{◌≡◌, Some, None, IfErr, IfOk, length};
+ghost use Rattle.deferred_disk.specs.Bytes.{orders_bytes};
+ghost use Rattle.deferred_disk.specs.Disk.{pending_of};
+ghost use Rattle.lisp_object.specs.Refusal.{name_of as name};
+ghost use Rattle.lisp_object.specs.declared.refusal.TheConstants.{REOPEN as reopen};
+ghost use Rattle.pazturrok_c.specs.Calls.{IsCopied, MayRefuse, Opens};
+ghost use Rattle.pazturrok_c.specs.Engine.{IsOpenedOn};
+ghost use Rattle.pazturrok_c.specs.declared.engine.Engine.{Engine as AnEngine};
+
+use crate::done::{Done, Setting, Told};
+use crate::engine::Engine;
+use crate::slot::Slot;
+use lisp_object::refusal::{NO_MEMORY, REOPEN, name_of};
+use std::alloc::Global;
+
+// As many bytes as there is room for, from a place on. Gives how many.
+fn copy_out(from: &[u8], at: usize, out: &mut [u8]) -> usize
+    ensures { IsCopied from.now at out.old out.new result }
+{
+    if at >= from.len() {
+        return 0;
+    }
+    let rest = &from[at..];
+    let count = rest.len().min(out.len());
+    out[..count].copy_from_slice(&rest[..count]);
+    count
+}
+
+fn opened(alloc: Global, a: &[u8], b: &[u8], setting: &Setting) -> Result<Box<Engine>, u16>
+    ensures opened { IfOk result (λ engine. IsOpenedOn a.now b.now setting.now.limit engine.value.store) }
+    ensures refused { IfErr result (MayRefuse a.now b.now setting.now.limit) }
+{
+    let Ok(a) = Vec::from_slice(alloc, a) else {
+        return Err(NO_MEMORY);
+    };
+    let Ok(b) = Vec::from_slice(alloc, b) else {
+        return Err(NO_MEMORY);
+    };
+    let engine = Engine::open(alloc, a, b, setting)?;
+    match Box::new(alloc, engine) {
+        Ok(boxed) => Ok(boxed),
+        Err(_) => Err(NO_MEMORY),
+    }
+}
+
+/// Opens the store of two files that hold these bytes, in a slot that holds no engine. Its orders are to be carried out before the
+/// first form.
+#[unsafe(no_mangle)]
+pub extern "C" fn pzt_open(
+    alloc: Global,
+    slot: &mut Slot,
+    a: &[u8],
+    b: &[u8],
+    setting: &Setting,
+    done: &mut Done,
+)
+    ensures busy { (engine : AnEngine) → slot.old.handle.engine ≡ Some engine
+        → (done.new.number ≡ reopen) × (slot.new.handle.engine ≡ Some engine) }
+    ensures opens { slot.old.handle.engine ≡ None
+        → Opens a.now b.now setting.now.limit slot.new.handle.engine done.new.number }
+{
+    done.answer = 0;
+    done.orders = 0;
+    if slot.is_open() {
+        done.number = REOPEN;
+        return;
+    }
+    match opened(alloc, a, b, setting) {
+        Ok(engine) => {
+            done.number = 0;
+            done.orders = engine.orders().len();
+            slot.put(engine);
+        }
+        Err(number) => done.number = number,
+    }
+}
+
+/// Executes a form. Its answer is copied into `answer`, as far as there is room.
+#[unsafe(no_mangle)]
+pub extern "C" fn pzt_execute(
+    alloc: Global,
+    slot: &mut Slot,
+    rescue: bool,
+    text: &[u8],
+    answer: &mut [u8],
+    done: &mut Done,
+)
+    ensures none { slot.old.handle.engine ≡ None → (done.new.number ≡ reopen) × (slot.new.handle.engine ≡ None) }
+{
+    done.answer = 0;
+    done.orders = 0;
+    let Some(mut engine) = slot.take(alloc) else {
+        done.number = REOPEN;
+        return;
+    };
+    done.number = engine.execute(rescue, text);
+    if done.number == 0 {
+        copy_out(engine.answer(), 0, answer);
+        done.answer = engine.answer().len();
+    }
+    done.orders = engine.orders().len();
+    slot.put(engine);
+}
+
+/// Takes a snapshot.
+#[unsafe(no_mangle)]
+pub extern "C" fn pzt_snapshot(alloc: Global, slot: &mut Slot, done: &mut Done)
+    ensures none { slot.old.handle.engine ≡ None → (done.new.number ≡ reopen) × (slot.new.handle.engine ≡ None) }
+{
+    done.answer = 0;
+    done.orders = 0;
+    let Some(mut engine) = slot.take(alloc) else {
+        done.number = REOPEN;
+        return;
+    };
+    done.number = engine.snapshot();
+    done.orders = engine.orders().len();
+    slot.put(engine);
+}
+
+/// Copies the last answer from a place on, as far as there is room. Gives how many bytes.
+#[unsafe(no_mangle)]
+pub extern "C" fn pzt_answer(alloc: Global, slot: &mut Slot, at: usize, out: &mut [u8]) -> usize
+    ensures same { slot.new.handle.engine ≡ slot.old.handle.engine }
+    ensures copies { (engine : AnEngine) → slot.old.handle.engine ≡ Some engine
+        → IsCopied engine.answer.items at out.old out.new result }
+{
+    let Some(engine) = slot.take(alloc) else {
+        return 0;
+    };
+    let count = copy_out(engine.answer(), at, out);
+    slot.put(engine);
+    count
+}
+
+/// Copies the orders from a place on, as far as there is room. Gives how many bytes.
+#[unsafe(no_mangle)]
+pub extern "C" fn pzt_orders(alloc: Global, slot: &mut Slot, at: usize, out: &mut [u8]) -> usize
+    ensures same { slot.new.handle.engine ≡ slot.old.handle.engine }
+    ensures copies { (engine : AnEngine) → slot.old.handle.engine ≡ Some engine
+        → IsCopied (orders_bytes (pending_of engine.store.disk)) at out.old out.new result }
+{
+    let Some(engine) = slot.take(alloc) else {
+        return 0;
+    };
+    let count = copy_out(engine.orders(), at, out);
+    slot.put(engine);
+    count
+}
+
+/// Says that so many bytes of orders were carried out: all that there were.
+#[unsafe(no_mangle)]
+pub extern "C" fn pzt_performed(alloc: Global, slot: &mut Slot, count: usize) {
+    if let Some(mut engine) = slot.take(alloc) {
+        engine.report_done(count);
+        slot.put(engine);
+    }
+}
+
+/// What the store tells of its half in use.
+#[unsafe(no_mangle)]
+pub extern "C" fn pzt_tell(alloc: Global, slot: &mut Slot, told: &mut Told)
+    ensures same { slot.new.handle.engine ≡ slot.old.handle.engine }
+    ensures tells { (engine : AnEngine) → slot.old.handle.engine ≡ Some engine
+        → (told.new.generation ≡ engine.store.generation) × (told.new.records ≡ engine.store.record_count)
+        × (told.new.version ≡ engine.store.version) }
+{
+    told.generation = 0;
+    told.records = 0;
+    told.version = 0;
+    if let Some(engine) = slot.take(alloc) {
+        told.generation = engine.generation();
+        told.records = engine.record_count();
+        told.version = engine.version();
+        slot.put(engine);
+    }
+}
+
+/// Lets the engine go. Orders that were not carried out are lost, as in a crash.
+#[unsafe(no_mangle)]
+pub extern "C" fn pzt_close(alloc: Global, slot: &mut Slot)
+    ensures { slot.new.handle.engine ≡ None }
+{
+    let _engine = slot.take(alloc);
+}
+
+/// Copies the name of a number as far as there is room, and gives its length: 0 for a number that has none.
+#[unsafe(no_mangle)]
+pub extern "C" fn pzt_name(number: u16, out: &mut [u8]) -> usize
+    ensures { IsCopied (name number) 0 out.old out.new result }
+{
+    copy_out(name_of(number).as_bytes(), 0, out)
+}
