@@ -325,8 +325,8 @@ module _ (functions : Functions) {D R : Type 0} (state : D → State) (old new :
       pub front : IsWithin ⊎ IsInLast
       pub left : (now : WorldState) → new.world ≡ Some now → now ≡ served.far.world
 
-    between : served.part ≡ [] → IsWithin
-    between no_part =
+    whole_lines : served.part ≡ [] → IsWithin
+    whole_lines no_part =
         let grown = fewer_first functions w mode text served.lines served.forms served.answered served.far served.at_most served.answered_is served.far_is in
         let whole : bytes ≡ served.answered.lines = ap (λ l. served.answered.lines ++ l) no_part ∙ append-nil served.answered.lines in
         (grown.lines, grown.lines_are ∙ ap (λ l. l ++ grown.lines) (sym whole))
@@ -347,13 +347,13 @@ module _ (functions : Functions) {D R : Type 0} (state : D → State) (old new :
     ]
 
     cut : Ends functions state old new w mode text held written served.forms served.far served.lines served.answered served.part group (ending.Store number) → IsCut
-    cut (inl is) = record { front = inl (between is.no_part); left = unknown served.far is.failed.unknown }
-    cut (inr (inl is)) = record { front = inl (between is.no_part); left = unknown served.far is.failed.unknown }
-    cut (inr (inr (inl is))) = record { front = inl (between is.no_part); left = known served.far is.after }
-    cut (inr (inr (inr (inl is)))) = record { front = inl (between is.no_part); left = known served.far is.after }
-    cut (inr (inr (inr (inr (inl is))))) = record { front = inl (between is.no_part); left = known served.far is.after }
+    cut (inl is) = record { front = inl (whole_lines is.no_part); left = unknown served.far is.failed.unknown }
+    cut (inr (inl is)) = record { front = inl (whole_lines is.no_part); left = unknown served.far is.failed.unknown }
+    cut (inr (inr (inl is))) = record { front = inl (whole_lines is.no_part); left = known served.far is.after }
+    cut (inr (inr (inr (inl is)))) = record { front = inl (whole_lines is.no_part); left = known served.far is.after }
+    cut (inr (inr (inr (inr (inl is))))) = record { front = inl (whole_lines is.no_part); left = known served.far is.after }
     cut (inr (inr (inr (inr (inr (inl is)))))) = record { front = unwritten is; left = known served.far is.after }
-    cut (inr (inr (inr (inr (inr (inr is)))))) = record { front = inl (between is.no_part); left = known served.far is.after }
+    cut (inr (inr (inr (inr (inr (inr is)))))) = record { front = inl (whole_lines is.no_part); left = known served.far is.after }
 
     -- of an input that goes on after what was read, and of which the forms that were taken are the first ones
     pub cut_short : (left : List ℕ) → after_forms functions served.forms w mode (text ++ left) ≡ Some (record served.far { rest = served.far.rest ++ left })
