@@ -273,7 +273,7 @@ class MessageStore:
 
 def _text(form: Form) -> str:
     text = form if isinstance(form, str) else printed(form)
-    check_characters(form, text)
+    check_characters(text, form)
     if len(text) > FORM_LIMIT:
         raise UnsendableError(form, f"it is longer than {FORM_LIMIT} characters")
     return text
