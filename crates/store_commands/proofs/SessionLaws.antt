@@ -13,6 +13,7 @@ use Rattle.prevalence_store.specs.declared.outcome.Ended.TheVariants.{Unaccepted
 use Rattle.prevalence_store.specs.declared.outcome.Place.{Place}
 use Rattle.prevalence_store.specs.declared.outcome.Wanted.{Wanted}
 use Rattle.user_macros.specs.Functions.{Functions}
+use Rattle.prevalence_store.specs.calls.Pace.{Pace}
 use Rattle.prevalence_store.specs.calls.Open.{fault_number}
 use Rattle.lisp_object.specs.Object.{Object}
 use Rattle.lisp_operators.specs.Evaluation.{Evaluation}
@@ -59,7 +60,7 @@ module _ (functions : Functions) (mode : Mode) where
 
   module _ {D R : Type 0} (state : D → State) (old new : StoreView D R) (w : WorldState) (had has held_now written : Option (List ℕ)) where
     -- at the end of the input
-    done_input : {group : Bool} {every : ℕ} → ServesInput functions state group every old new w mode had has held_now written End → (input held : List ℕ) → had ≡ Some input → held_now ≡ Some held
+    done_input : {group : Bool} {pace : Pace} → ServesInput functions state group pace old new w mode had has held_now written End → (input held : List ℕ) → had ≡ Some input → held_now ≡ Some held
         → (served_all : IsWritten functions mode w input held written []) × (read_in functions served_all.far.world mode served_all.far.rest ≡ empty)
     done_input served input held left holds =
         let s = served.serves in
@@ -81,7 +82,7 @@ module _ (functions : Functions) (mode : Mode) where
     answered_done : {group : Bool} (text : List ℕ) (served : Serves functions state old new w mode text held_now written group End) → served.answered ≡ served.far
     answered_done text served = same_progress served.lines served.forms w text served.answered served.far served.ends.all served.answered_is served.far_is
 
-    refused_input : {group : Bool} {every : ℕ} (number : ℕ) → ServesInput functions state group every old new w mode had has held_now written (Reader number) → (input held : List ℕ) → had ≡ Some input → held_now ≡ Some held
+    refused_input : {group : Bool} {pace : Pace} (number : ℕ) → ServesInput functions state group pace old new w mode had has held_now written (Reader number) → (input held : List ℕ) → had ≡ Some input → held_now ≡ Some held
         → (lines : IsWritten functions mode w input held written (refusal_line number)) × ((place : ℕ) × (read_in functions lines.far.world mode lines.far.rest ≡ refused number place))
     refused_input number served input held left holds =
         let s = served.serves in
@@ -105,7 +106,7 @@ module _ (functions : Functions) (mode : Mode) where
               )
         ]
 
-    pub broken_input : {group : Bool} {every : ℕ} (number : ℕ) → ServesInput functions state group every old new w mode had has held_now written (Store number) → (input held : List ℕ) → had ≡ Some input → held_now ≡ Some held
+    pub broken_input : {group : Bool} {pace : Pace} (number : ℕ) → ServesInput functions state group pace old new w mode had has held_now written (Store number) → (input held : List ℕ) → had ≡ Some input → held_now ≡ Some held
         → IsBrokenOff functions mode input held written
     broken_input number served input held left holds =
         let s = served.serves in
@@ -156,13 +157,13 @@ module _ (functions : Functions) (mode : Mode) where
           ]
         ]
 
-    pub ends_at_end : {group : Bool} {every : ℕ} → ServesInput functions state group every old new w mode had has held_now written End → (input : List ℕ) → had ≡ Some input → has ≡ Some []
+    pub ends_at_end : {group : Bool} {pace : Pace} → ServesInput functions state group pace old new w mode had has held_now written End → (input : List ℕ) → had ≡ Some input → has ≡ Some []
     ends_at_end served input left = let read = served.reads input left in read.2.1 ∙ ap (λ l. Some l) read.2.0
 
     between_numbers : (number given : ℕ) → number ≡ given → (DAMAGED ≤ given) × (given ≤ OUTPUT) → IsFaultNumber number
     between_numbers number given is within = subst IsFaultNumber (sym is) (inr (inl within))
 
-    fault_of_input : {group : Bool} {every : ℕ} (code : ℕ) → ServesInput functions state group every old new w mode had has held_now written (Store code) → IsFaultNumber code
+    fault_of_input : {group : Bool} {pace : Pace} (code : ℕ) → ServesInput functions state group pace old new w mode had has held_now written (Store code) → IsFaultNumber code
     fault_of_input code served = elim served.serves.ends [
       | inl stopped ↦ inl stopped.device
       | inr else ↦ elim else [
@@ -184,7 +185,7 @@ module _ (functions : Functions) (mode : Mode) where
     ]
 
     -- no session ends with a number of an opening
-    none_of_opening : {group : Bool} {every : ℕ} (number : ℕ) → ServesInput functions state group every old new w mode had has held_now written (Store number) → is_of_opening number ≡ true → ⊥
+    none_of_opening : {group : Bool} {pace : Pace} (number : ℕ) → ServesInput functions state group pace old new w mode had has held_now written (Store number) → is_of_opening number ≡ true → ⊥
     none_of_opening number served of =
         elim served.serves.ends [
           | inl stopped ↦ other_number number DEVICE stopped.device refl of
