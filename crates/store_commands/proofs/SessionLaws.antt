@@ -95,14 +95,14 @@ module _ (functions : Functions) (mode : Mode) where
                 (s.ends.at, s.ends.reads),
               )
           | inr stays ↦
-              let more = stays read.0 in (
+              let more = stays.1 read.0 in (
                 record {
                   forms = s.forms;
                   far = record s.far { rest = s.far.rest ++ read.0 };
                   far_is = subst (λ t. after_forms functions s.forms w mode t ≡ Some (record s.far { rest = s.far.rest ++ read.0 })) (sym read.1) more.0;
                   all = lines;
                 },
-                more.1,
+                (stays.0, more.1),
               )
         ]
 
