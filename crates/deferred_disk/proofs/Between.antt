@@ -1,6 +1,6 @@
 -- What may be left between two orders.
-use Rattle.std.proofs.Common.{inl, inr, ◌≡◌, ◌⊎◌, ℕ, ◌≤◌, List, [], ◌∷◌, ◌++◌, length, refl, sym, subst, arith, length-append}
-use Rattle.disk_trait.specs.Disk.{Image, Performed, Throughout}
+use Rattle.std.proofs.Common.{inl, ◌≡◌, ℕ, List, [], ◌∷◌, ◌++◌, length, sym, subst, arith, length-append}
+use Rattle.disk_trait.specs.Disk.{Image, Performed}
 use Rattle.disk_trait.specs.Orders.{OrderValue}
 use Rattle.deferred_disk.specs.Calls.{CallsValue, all_of}
 use Rattle.deferred_disk.specs.Sound.{left_now}
@@ -10,16 +10,13 @@ left_between : (start image : Image) (done first later : List OrderValue) → Ma
 left_between start image done first [] left = left_now start (first ++ done) (length done) image (omega (arith, length-append first done)) left
 left_between start image done first (order ∷ later) left = inl (left_between start image done first later left)
 
--- the same on the calls of a disk, of which the reported ones are these
-module _ (old new : CallsValue) (before after : ℕ) (P : Image → Type 0) (first later : List OrderValue) (image : Image)
-    (run : Throughout (ordered old before) (ordered new after) P) (parts : new.pending ≡ later ++ first) (left : MayLeave old.start (first ++ old.done) image) where
-  since : LeftSince new.start (all_of new) (length old.done) image
-  since =
-      subst (λ (p : Performed). LeftSince p.start (new.pending ++ p.done) (length old.done) image) (sym run.performed)
+-- the same of what a disk was asked, from which what was reported is the same
+module _ (old new : CallsValue) (before after : ℕ) (first later : List OrderValue) (image : Image)
+    (same : (ordered new after).performed ≡ (ordered old before).performed) (parts : new.pending ≡ later ++ first) (left : MayLeave old.start (first ++ old.done) image) where
+  pub left_some : LeftSince new.start (all_of new) (length old.done) image
+  left_some =
+      subst (λ (p : Performed). LeftSince p.start (new.pending ++ p.done) (length old.done) image) (sym same)
       (subst (λ (l : List OrderValue). LeftSince old.start (l ++ old.done) (length old.done) image) (sym parts) (left_between old.start image old.done first later left))
 
-  pub left_some : LeftSince old.start (all_of old) (length old.done) image ⊎ P image
-  left_some = run.before (length old.done) image (omega (arith, length-append old.pending old.done)) since
-
-  pub left_none : old.pending ≡ [] → P image
-  left_none none = run.each image (subst (λ (l : List OrderValue). LeftSince new.start (all_of new) (length (l ++ old.done)) image) (sym none) since)
+  pub left_none : old.pending ≡ [] → LeftSince new.start (all_of new) (length (all_of old)) image
+  left_none none = subst (λ (l : List OrderValue). LeftSince new.start (all_of new) (length (l ++ old.done)) image) (sym none) left_some

@@ -1,5 +1,5 @@
 -- Orders that have no byte are none.
-use Rattle.std.proofs.Common.{◌≡◌, ◌+◌, ◌<◌, ◌≤◌, List, [], ◌∷◌, ◌++◌, length, refl, sym, ◌∙◌, ap, arith, length-append}
+use Rattle.std.proofs.Common.{◌≡◌, ◌<◌, List, [], ◌∷◌, length, refl, ap, arith, length-append}
 use Rattle.deferred_disk.specs.Bytes.{order_bytes, orders_bytes}
 use Rattle.disk_trait.specs.Orders.{OrderValue, writes, cuts, syncs}
 
