@@ -276,6 +276,54 @@ returns-in-Ok-answer_read-clause-some g c =
     form_takes functions old.0 c.args.wanted.mode c.feed.new.pending text (object_of f.form.read.datum) f.form.own.items f.left has p.0 c.args.piece.now n c.before_left-count.result refl c.in-Ok.ensures.part.within
     c.before_left-count.ensures c.args.pending.now p.1
 
+pub returns-in-Answered-clause-count : goal.returns-in-Answered-clause-count
+returns-in-Answered-clause-count g c =
+    let functions = g.R.Meaning.Meaning.functions in
+    let old = known_world c.args.self.now.world c.requires.pending.is_open in
+    let p = c.requires.pending.some old.0 old.1 in
+    let piece = c.args.piece.now in
+    let n = c.in-Ok.part.count in
+    let f = c.in-Form in
+    let has = subst (λ (fed : Fed). Feeds functions old.0 c.args.wanted.mode c.feed.new.pending (p.0 ++ take n piece) fed) f.is (c.in-Ok.ensures.feeds old.0 old.1 p.0 p.1) in
+    let none = (has.0.none old.0 c.args.wanted.mode).count in
+    omega (arith, c.answer_group.ensures.bytes c.in-Answered.more c.in-Answered.is, has.0.next_is, has.2, length-append p.0 (take n piece), length-take-le n piece c.in-Ok.ensures.part.within, p.1.count, c.before_left-count.ensures, none)
+
+pub returns-in-Answered-clause-most : goal.returns-in-Answered-clause-most
+returns-in-Answered-clause-most g c =
+    let functions = g.R.Meaning.Meaning.functions in
+    let old = known_world c.args.self.now.world c.requires.pending.is_open in
+    let p = c.requires.pending.some old.0 old.1 in
+    let piece = c.args.piece.now in
+    let n = c.in-Ok.part.count in
+    let f = c.in-Form in
+    let has = subst (λ (fed : Fed). Feeds functions old.0 c.args.wanted.mode c.feed.new.pending (p.0 ++ take n piece) fed) f.is (c.in-Ok.ensures.feeds old.0 old.1 p.0 p.1) in
+    let none = (has.0.none old.0 c.args.wanted.mode).count in
+    omega (arith, c.answer_group.ensures.most, length-drop c.before_left-count.result piece, ap length (behind_piece piece c.before_left-count.result), c.in-Ok.ensures.part.within, has.0.next_is, has.2, length-append p.0 (take n piece), length-take-le n piece c.in-Ok.ensures.part.within, p.1.count, c.before_left-count.ensures, none)
+
+pub returns-in-Ended-clause-most : goal.returns-in-Ended-clause-most
+returns-in-Ended-clause-most g c =
+    let functions = g.R.Meaning.Meaning.functions in
+    let old = known_world c.args.self.now.world c.requires.pending.is_open in
+    let p = c.requires.pending.some old.0 old.1 in
+    let piece = c.args.piece.now in
+    let n = c.in-Ok.part.count in
+    let f = c.in-Form in
+    let has = subst (λ (fed : Fed). Feeds functions old.0 c.args.wanted.mode c.feed.new.pending (p.0 ++ take n piece) fed) f.is (c.in-Ok.ensures.feeds old.0 old.1 p.0 p.1) in
+    let none = (has.0.none old.0 c.args.wanted.mode).count in
+    omega (arith, c.answer_group.ensures.most, length-drop c.before_left-count.result piece, ap length (behind_piece piece c.before_left-count.result), c.in-Ok.ensures.part.within, has.0.next_is, has.2, length-append p.0 (take n piece), length-take-le n piece c.in-Ok.ensures.part.within, p.1.count, c.before_left-count.ensures, none)
+
+pub returns-in-Ok-answer_read-clause-count : goal.returns-in-Ok-answer_read-clause-count
+returns-in-Ok-answer_read-clause-count g c =
+    let functions = g.R.Meaning.Meaning.functions in
+    let old = known_world c.args.self.now.world c.requires.pending.is_open in
+    let p = c.requires.pending.some old.0 old.1 in
+    let piece = c.args.piece.now in
+    let n = c.in-Ok.part.count in
+    let f = c.in-Form in
+    let has = subst (λ (fed : Fed). Feeds functions old.0 c.args.wanted.mode c.feed.new.pending (p.0 ++ take n piece) fed) f.is (c.in-Ok.ensures.feeds old.0 old.1 p.0 p.1) in
+    let none = (has.0.none old.0 c.args.wanted.mode).count in
+    omega (arith, c.answer_read.ensures.bytes, ap (λ k. (course_of k).bytes) (c.answer_group.ensures.left c.in-Left.is).2, has.0.next_is, has.2, length-append p.0 (take n piece), length-take-le n piece c.in-Ok.ensures.part.within, p.1.count, c.before_left-count.ensures, none)
+
 -- ---- what was handed on
 
 pub returns-in-Nothing-clause-hands : goal.returns-in-Nothing-clause-hands

@@ -13,9 +13,9 @@ use Rattle.prevalence_store.proofs.steps.Renewing.{fits_at_once, fits_from, rene
 use Rattle.prevalence_store.proofs.store.Store.fit_form.Goals as goal
 
 -- a recipient that got nothing holds what it held
-quiet_contents : {V T : Type 0} {f : V → T} {a b : V} (result : Result Answered ℕ) → IfErr result (λ number. number ≡ LOG_FULL → b ≡ a) → IfErr result (λ number. number ≡ LOG_FULL → f b ≡ f a)
-quiet_contents (Ok told) quiet = tt
-quiet_contents {f} (Err number) quiet = λ full. ap f (quiet full)
+quiet_contents : {V T : Type 0} (f : V → T) (a b : V) (result : Result Answered ℕ) → IfErr result (λ number. number ≡ LOG_FULL → b ≡ a) → IfErr result (λ number. number ≡ LOG_FULL → f b ≡ f a)
+quiet_contents f a b (Ok told) quiet = tt
+quiet_contents f a b (Err number) quiet = λ full. ap f (quiet full)
 
 pub returns-in-Ok-clause-fits : goal.returns-in-Ok-clause-fits
 returns-in-Ok-clause-fits g c = λ w known text next begins.
@@ -56,10 +56,10 @@ returns-in_default-clause-fits g c = λ w known text next begins.
     fits_from functions g.D.Disk.state c.args.self.now c.try_form.new.self again.new.self w c.args.mode text (g.W.Recipient.contents c.args.writer.now) held (g.W.Recipient.contents again.new.writer) again.result
     same (ap (λ v. g.W.Recipient.contents v) (c.in-Err.ensures.quiet full))
     (tried_after functions g.D.Disk.state g.met.D.Disk.sound c.try_form.new.self c.renew.new.self again.new.self w c.args.mode text held (g.W.Recipient.contents again.new.writer) c.renew.ensures.honest
-    here over is again.result again.ensures.unchanged (quiet_contents again.result again.ensures.quiet) (again.ensures.tries w is.renews.left text next begins))
+    here over is again.result again.ensures.unchanged (quiet_contents (λ v. g.W.Recipient.contents v) c.try_form.new.writer again.new.writer again.result again.ensures.quiet) (again.ensures.tries w is.renews.left text next begins))
 
-pub try_form-in-Err-requires-clause-stands : goal.try_form-in-Err-requires-clause-stands
-try_form-in-Err-requires-clause-stands g c = λ v left.
+pub try_form-requires-in-Err-clause-stands : goal.try_form-requires-in-Err-clause-stands
+try_form-requires-in-Err-clause-stands g c = λ v left.
     let functions = g.R.Meaning.Meaning.functions in
     let full = c.if-number-ne-LOG_FULL.false in
     let same = c.in-Err.ensures.unchanged full in
