@@ -1,8 +1,6 @@
 //! A recipient that keeps account of its session.
-ghost use Rattle.std.specs.Prelude.{◌≡◌, Option, Some, None, IsSome, true};
+ghost use Rattle.std.specs.Prelude.{◌≡◌, ℕ, ◌+◌, Some, true};
 ghost use Rattle.std.specs.Option.{option_map};
-ghost use Rattle.plist_state.specs.State.{WorldState};
-ghost use Rattle.prevalence_store.specs.calls.Account.{Account, AreUnderWay};
 ghost use Rattle.law_tests.specs.Keepers.{kept_by};
 ghost use Rattle.user_macros.specs.Functions.{are_registered};
 
@@ -24,6 +22,16 @@ pub struct Keeper<D: Disk, M: MacroFunctions, I: Read> {
     last: Snapshot<Store<D, M>>,
 }
 
+/// So many more, if they are not too many.
+fn with_more(before: Option<usize>, more: usize) -> Option<usize>
+    ensures { (all : ℕ) → result ≡ Some all → (some : ℕ) × (before ≡ Some some) × (all ≡ some + more) }
+{
+    match before {
+        Some(some) => some.checked_add(more),
+        None => None,
+    }
+}
+
 impl<D: Disk, M: MacroFunctions, I: Read> Recipient<D, M> for Keeper<D, M, I> {
     ghost contents = { λ k. Some k.bytes.items };
 
@@ -36,15 +44,12 @@ impl<D: Disk, M: MacroFunctions, I: Read> Recipient<D, M> for Keeper<D, M, I> {
         forms: usize,
     ) -> Result<(), OutputFault> {
         self.last = Snapshot::of(store);
-        self.forms = match self.forms {
-            Some(before) => before.checked_add(forms),
-            None => None,
-        };
+        self.forms = with_more(self.forms, forms);
         self.bytes.write_lines(store, lines, forms)
     }
 }
 
-/// What a session writes over an input, with an account of it. What was done since its last line acknowledges no form.
+/// What a session writes over an input, to a recipient that keeps account of it.
 pub fn kept_account<D: Disk, M: MacroFunctions, I: Read>(
     alloc: Global,
     store: &mut Store<D, M>,

@@ -171,8 +171,7 @@ module _ (functions : Functions) {D R : Type 0} (state : D → State) (sound : (
   pub hands_lines : (forms from to : ℕ) (told now : Option (Account D)) (new : StoreView D R) → ((later : Account D) → now ≡ Some later → option_map (with_forms forms new) told ≡ Some later) → to ≡ from + forms
       → ((w : WorldState) → new.world ≡ Some w → IsHonest (state new.disk) → Keeps functions (state new.disk) w) → HandsOn functions state from to told now new
   hands_lines forms from to told now new given count keeps later is w known =
-      let before = kept_before forms new told later (given later is) in
-      (
+      let before = kept_before forms new told later (given later is) in (
         before.0,
         before.1,
         subst (λ (l : Account D). Follows from to before.0 l) before.2 (record { first = refl; mode = refl; input = refl; forms = omega (arith, count) }),
@@ -189,8 +188,7 @@ module _ (functions : Functions) {D R : Type 0} (state : D → State) (sound : (
       → HandsOn functions state a c told now new
   hands_both a b c told between now mid new w known first second later is v left =
       let two = second later is v left in
-      let one = first two.0 two.1 w known in
-      (
+      let one = first two.0 two.1 w known in (
         one.0,
         one.1,
         record { first = two.2.first ∙ one.2.first; mode = two.2.mode ∙ one.2.mode; input = two.2.input ∙ one.2.input; forms = omega (arith, one.2.forms, two.2.forms) },
@@ -295,7 +293,7 @@ module _ (functions : Functions) {D R : Type 0} (state : D → State) (sound : (
           let before = s.at_rest.since honest in
           let none_more : 0 + length far.taken ≡ length far.taken = omega arith in
           let more = subst (λ o. Survives functions (state old.disk) (state new.disk) w far.taken (length far.taken) o) left
-              (survives known (subst IsTrue s.at_rest.honest honest) (before.kept w refl)) in
+          (survives known (subst IsTrue s.at_rest.honest honest) (before.kept w refl)) in
           subst (λ v. Survives functions (state kept.disk) (state new.disk) v far.taken (length far.taken) (Some far.world)) (sym s.at_rest.now)
           (subst (λ n. Survives functions (state kept.disk) (state new.disk) w far.taken n (Some far.world)) none_more
           (both_survive functions (state kept.disk) (state old.disk) (state new.disk) w w [] far.taken (length far.taken) (Some far.world) before more));

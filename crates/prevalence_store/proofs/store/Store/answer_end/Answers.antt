@@ -66,8 +66,7 @@ answer_read-requires g c =
       stands = λ w known.
           let functions = g.R.Meaning.Meaning.functions in
           let s = c.requires.stands w known in
-          let last = (subst (λ (fed : Fed). Finishes functions w c.args.wanted.mode s.0 fed) f.is (c.in-Ok.ensures.finishes w known s.0 s.1)).0 in
-          (
+          let last = (subst (λ (fed : Fed). Finishes functions w c.args.wanted.mode s.0 fed) f.is (c.in-Ok.ensures.finishes w known s.0 s.1)).0 in (
             s.0,
             _,
             last_begins functions w c.args.wanted.mode s.0 (object_of f.form.read.datum) f.form.own.items last f.form.own.items refl,

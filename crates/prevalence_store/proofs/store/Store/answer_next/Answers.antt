@@ -181,8 +181,7 @@ answer_read-requires g c =
           let piece = c.args.piece.now in
           let n = c.in-Ok.part.count in
           let text = s.0 ++ take n piece in
-          let has = (subst (λ (fed : Fed). Feeds functions w c.args.wanted.mode c.feed.new.pending text fed) f.is (c.in-Ok.ensures.feeds w known s.0 s.1)).0 in
-          (
+          let has = (subst (λ (fed : Fed). Feeds functions w c.args.wanted.mode c.feed.new.pending text fed) f.is (c.in-Ok.ensures.feeds w known s.0 s.1)).0 in (
             s.0 ++ piece,
             has.next,
             subst (λ t. BeginsWith functions w c.args.wanted.mode t (object_of f.form.read.datum) f.form.own.items has.next) (piece_whole s.0 piece n)

@@ -32,8 +32,7 @@ answer_next-requires-clause-stands g c = λ v there.
     let old = known_world c.args.self.now.world c.requires.pending.is_open in
     let s = c.requires.stands old.0 old.1 in
     let goes = c.forms.invariant.goes old.0 old.1 s.0 s.1 in
-    let same : goes.far.world ≡ v = let left_is = goes.advances.after.left in cc in
-    (
+    let same : goes.far.world ≡ v = let left_is = goes.advances.after.left in cc in (
       goes.bytes,
       subst (λ u. IsPending functions u c.args.wanted.mode c.forms.pending goes.bytes) same goes.is_pending,
       subst (λ u. StandsBefore functions g.D.Disk.state (g.W.Recipient.account c.forms.writer) c.forms.self u c.args.wanted.mode (goes.bytes ++ c.forms.rest.now)) same

@@ -54,8 +54,7 @@ answer_piece-requires-clause-stands g c = λ v there.
     let fits = left_both _ _ _ far.0 piece far.1.1 c.in-Ok.ensures.bytes.0 in
     let begins = stands_first functions g.D.Disk.state g.met.D.Disk.sound (g.W.Recipient.account c.args.writer.now) c.args.self.now old.0 c.args.wanted.mode (g.I.Read.remaining c.args.reader.now) (far.0 ++ piece)
     (c.requires.begins old.0 old.1) (c.keeps_its_world.ensures old.0 old.1) (λ all is. let l = fits all is in (l.0, l.1.1)) in
-    let same : goes.far.world ≡ v = let left_is = goes.advances.after.left in cc in
-    (
+    let same : goes.far.world ≡ v = let left_is = goes.advances.after.left in cc in (
       goes.bytes,
       subst (λ u. IsPending functions u c.args.wanted.mode c.reads.pending goes.bytes) same goes.is_pending,
       subst (λ u. StandsBefore functions g.D.Disk.state (g.W.Recipient.account c.reads.writer) c.reads.self u c.args.wanted.mode (goes.bytes ++ piece)) same
@@ -72,8 +71,7 @@ answer_end-requires-clause-stands g c = λ v there.
     let course = first_course (pace_wanted c.args.wanted) in
     let begins = stands_first functions g.D.Disk.state g.met.D.Disk.sound (g.W.Recipient.account c.args.writer.now) c.args.self.now old.0 c.args.wanted.mode (g.I.Read.remaining c.args.reader.now) far.0
     (c.requires.begins old.0 old.1) (c.keeps_its_world.ensures old.0 old.1) (λ all is. let l = far.1.1 all is in (l.0, l.1.1)) in
-    let same : goes.far.world ≡ v = let left_is = goes.advances.after.left in cc in
-    (
+    let same : goes.far.world ≡ v = let left_is = goes.advances.after.left in cc in (
       goes.bytes,
       subst (λ u. IsPending functions u c.args.wanted.mode c.reads.pending goes.bytes) same goes.is_pending,
       subst (λ u. StandsBefore functions g.D.Disk.state (g.W.Recipient.account c.reads.writer) c.reads.self u c.args.wanted.mode (goes.bytes ++ [])) same

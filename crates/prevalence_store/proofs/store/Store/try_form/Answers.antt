@@ -95,7 +95,7 @@ returns-clause-under_way g c =
     let here = known_world c.args.self.now.world c.requires.form.is_open in
     let r = c.in-Ok.ensures.takes in
     let new = known_world c.take_reply.new.self.world
-        (line_known g.R.Meaning.Meaning.functions g.D.Disk.state c.args.self.now c.take_reply.new.self here.0 c.args.mode c.args.own.now (object_of c.args.form.now.datum) r.answer c.in-Ok.reply.line.items r.takes r.line here.1) in
+    (line_known g.R.Meaning.Meaning.functions g.D.Disk.state c.args.self.now c.take_reply.new.self here.0 c.args.mode c.args.own.now (object_of c.args.form.now.datum) r.answer c.in-Ok.reply.line.items r.takes r.line here.1) in
     none_handed g.R.Meaning.Meaning.functions g.D.Disk.state g.met.D.Disk.sound 0 1 (g.W.Recipient.account c.args.writer.now) (g.W.Recipient.account c.write_lines.new.self) c.take_reply.new.self new.0 new.1
     (hands_lines g.R.Meaning.Meaning.functions g.D.Disk.state g.met.D.Disk.sound 1 0 1 (g.W.Recipient.account c.args.writer.now) (g.W.Recipient.account c.write_lines.new.self) c.take_reply.new.self
     c.write_lines.ensures.kept refl c.keeps_its_world.ensures)
