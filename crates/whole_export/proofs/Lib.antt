@@ -10,3 +10,4 @@ pub mod Last
 pub mod Ending
 pub mod KeptLines
 pub mod Whole
+pub mod Sessions

@@ -2,3 +2,5 @@
 pub mod Standard
 -- a state without the properties that are left out
 pub mod Kept
+-- how a session over an export ends
+pub mod Sessions
