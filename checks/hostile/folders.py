@@ -1,4 +1,4 @@
-"""Odd folders: what is told of them, and that the store is as it was. As root alone, who may make devices and be somebody else."""
+"""Odd folders: what is told of them, and that the store is as it was. Devices, other users and a full file system as root alone."""
 import ctypes
 import os
 import shutil
@@ -34,19 +34,29 @@ class Folder:
 
     def run(self, path=None, options=(), text=SET, **more):
         done = subprocess.run([self.room.program, "run", path or self.path, *options], input=text, capture_output=True, timeout=120, **more)
+        self.told = done.stderr
         return Answer(done.returncode, done.stdout, without_cause(done.stderr))
 
-    def other_half(self, make):
-        """What is told of a store whose half B was made so; it is taken away again."""
+    def with_half(self, half, make, options):
+        """What is told of a store where this stands in place of a half, which is put back after it and was not touched."""
         self.anew()
-        os.unlink(self.b)
-        make(self.b)
-        got = self.run(options=["--snapshot-every", "1"])
-        if os.path.isdir(self.b):
-            os.rmdir(self.b)
-        elif os.path.lexists(self.b):
-            os.unlink(self.b)
+        aside = half + "-aside"
+        os.rename(half, aside)
+        held = bytes_of(aside)
+        make(half)
+        got = self.run(options=options)
+        if os.path.isdir(half) and not os.path.islink(half):
+            os.rmdir(half)
+        elif os.path.lexists(half):
+            os.unlink(half)
+        want(bytes_of(aside) == held, half, "was written")
+        os.rename(aside, half)
         return got
+
+
+def bytes_of(path):
+    with open(path, "rb") as file:
+        return file.read()
 
 
 def a_socket(path):
@@ -56,20 +66,41 @@ def a_socket(path):
 
 
 def other_files(folder):
-    """What stands in place of half B, and what is told then. Each is refused, and nothing is written."""
-    for name, make in (
-        ("a folder", os.mkdir),
-        ("a pipe", os.mkfifo),
-        ("a device", lambda path: os.mknod(path, stat.S_IFCHR | 0o666, os.makedev(1, 3))),
-        ("a link to /dev/full", lambda path: os.symlink("/dev/full", path)),
-        ("a link to /dev/zero", lambda path: os.symlink("/dev/zero", path)),
-        ("a socket", a_socket),
-        ("a link to half A", lambda path: os.symlink("half-a", path)),
-        ("half A by another name", lambda path: os.link(folder.a, path)),
-        ("a link into a folder that is missing", lambda path: os.symlink("nowhere/x", path)),
-        ("a link to itself", lambda path: os.symlink("half-b", path)),
-    ):
-        yield "half B is " + name, folder.other_half(make), FAULT, b"7\n"
+    """What stands in place of a half, and what is told then, where files may be made and where they may not. Each is refused, and nothing is written."""
+    linked, no_file = b"half-a or half-b is a link, or has a second name\n", b"half-a or half-b is no regular file\n"
+    kinds = [
+        ("a folder", os.mkdir, no_file),
+        ("a pipe", os.mkfifo, no_file),
+        ("a socket", a_socket, None),
+        ("a link to /dev/full", lambda path: os.symlink("/dev/full", path), linked),
+        ("a link to /dev/zero", lambda path: os.symlink("/dev/zero", path), linked),
+        ("a link to itself", lambda path: os.symlink(os.path.basename(path), path), linked),
+        ("a link to the half", lambda path: os.symlink(path + "-aside", path), linked),
+        ("the half by another name", lambda path: os.link(path + "-aside", path), linked),
+        ("a link into a folder that is missing", lambda path: os.symlink("nowhere/x", path), linked),
+        ("a link to no file", lambda path: os.symlink("missing", path), linked),
+    ]
+    if os.geteuid() == 0:
+        kinds.append(("a device", lambda path: os.mknod(path, stat.S_IFCHR | 0o666, os.makedev(1, 3)), no_file))
+    for half, other in ((folder.a, folder.b), (folder.b, folder.a)):
+        both = [("a link to the other half", lambda path: os.symlink(os.path.basename(other), path), linked),
+                ("the other half by another name", lambda path: os.link(other, path), linked)]
+        for name, make, cause in kinds + both:
+            for options in (["--snapshot-every", "1"], ["--existing", "--snapshot-every", "1"]):
+                got = folder.with_half(half, make, options)
+                want(cause is None or folder.told == DEVICE + cause, os.path.basename(half), "is", name, options, folder.told)
+                yield f"{os.path.basename(half)} is {name}: {options}", got, FAULT, b"7\n"
+
+
+def owners(folder):
+    """Files are made for their owner alone; who may open them is not changed."""
+    folder.anew()
+    for half in (folder.a, folder.b):
+        want(stat.S_IMODE(os.stat(half).st_mode) == 0o600, half, oct(os.stat(half).st_mode))
+        os.chmod(half, 0o640)
+    yield "rights of the files", folder.run(options=["--snapshot-every", "1"]), SERVED, b"8\n"
+    for half in (folder.a, folder.b):
+        want(stat.S_IMODE(os.stat(half).st_mode) == 0o640, half, oct(os.stat(half).st_mode))
 
 
 def other_names(folder):
@@ -90,6 +121,11 @@ def other_names(folder):
     shutil.rmtree(folder.path + "-new")
     yield "a name of 300 bytes", folder.run(folder.path + "x" * 300), FAULT, b"7\n"
     yield "a name of 6,000 bytes", folder.run(os.path.join(folder.path, "y/" * 3000 + "z")), FAULT, b"7\n"
+    # a path may have 4,095 bytes, and those of the halves are longer than that of their folder
+    new = folder.path + "-new"
+    long = new + "/." * ((4090 - len(new)) // 2)
+    yield "a name that is too long for the halves", folder.run(long), FAULT, b"7\n"
+    want(not os.path.lexists(new), "a name that is too long made a folder")
     yield "a name with a newline", folder.run(folder.path + "-a\nb"), SERVED, b"7\n"
     shutil.rmtree(folder.path + "-a\nb")
 
@@ -140,6 +176,11 @@ def lengths(folder):
     # what comes after the records is not read (docs/run/operating.md)
     yield "half A is in use, and goes on past its records", folder.run(), SERVED, b"8\n"
     folder.anew()
+    folder.run(options=["--snapshot-every", "1"])
+    os.truncate(folder.a, 1 << 40)
+    yield "half A is open, older, and long", folder.run(text=SET.replace(b"8", b"9")), Answer(0, b"9\n9\n", b""), b"9\n"
+    want(os.path.getsize(folder.a) == 1 << 40, "half A was cut")
+    folder.anew()
     with open(folder.b, "wb") as file:
         file.write(LATER + (10).to_bytes(4, "big"))
     got = folder.run()
@@ -177,11 +218,9 @@ def full_system(folder):
 
 def run(room):
     """Gives how many folders were tried."""
-    if os.geteuid() != 0:
-        return 0, {"as root alone": 0}
     folder, count = Folder(room), 0
     os.chdir(room.folder)
-    for rows in (other_files, other_names, rights, lengths, full_system):
+    for rows in (other_files, owners, other_names, lengths, *([rights, full_system] if os.geteuid() == 0 else [])):
         for name, got, wanted, after in rows(folder):
             want(got == wanted, name + ":", got)
             found = after and folder.run(text=GET)

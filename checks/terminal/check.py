@@ -198,6 +198,15 @@ with tempfile.TemporaryDirectory() as room:
             WELCOME + "> > " + REFUSED % (2, 1, "31 UNKNOWN-OPERATOR", 2, 2, 1) + DROPPED + "> > ")
     it.end("its end", CONTROL_D, "", "\n", 0)
 
+    it = Terminal("run", store, "--existing", "--group")
+    it.step("forms of a group, and the beginning of one", "12 (GET 'A 'B) (LIST 1\n", "12\n9\n", WELCOME + "> . ")
+    it.step("its end", ")\n", "(1)\n", "> ")
+    it.end("the end of groups", CONTROL_D, "", "\n", 0)
+
+    it = Terminal("run", store)
+    it.end("a refusal in a line that does not end", ") 7" + CONTROL_D * 2, "! 4 STRAY-CLOSE\n",
+           WELCOME + "> " + REFUSED % (1, 1, "4 STRAY-CLOSE", 1, 1, 1), 1)
+
     it = Terminal("run", store)
     it.step("a form without its end", "(LIST\n", "", WELCOME + "> . ")
     it.end("the end inside a form", CONTROL_D, "! 1 END-OF-FILE\n", "\n" + UNANSWERED + REFUSED % (2, 1, "1 END-OF-FILE", 1, 1, 1), 1)

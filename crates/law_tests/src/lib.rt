@@ -1,4 +1,4 @@
-//! Callers of the laws of the store, over any disk and any macro functions, and runs of them.
+//! Callers of the laws of the store and of wider_functions, over any disk and any macro functions, and runs of them.
 //!
 //! They are a crate of their own, so that the laws are not proved again for the sake of their tests.
 //!
@@ -6,6 +6,7 @@
 //! - `replicas`: two stores that are handed the same input
 //! - `keepers`: a session whose recipient keeps account of it
 //! - `migration`: a store that is opened on files of version 1
+//! - `reopened`: a store that is opened with macro functions on files of a program without any
 //! - `disks`: disks of these tests, and what may go wrong in them
 #![tactic(auto)]
 
@@ -17,5 +18,7 @@ mod keepers;
 mod lives;
 #[cfg(test)]
 mod migration;
+#[cfg(test)]
+mod reopened;
 #[cfg(test)]
 mod replicas;

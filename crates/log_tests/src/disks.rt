@@ -1,12 +1,7 @@
 ghost use Rattle.std.specs.Prelude.{◌≡◌, ◌<◌, ◌-◌, ◌^◌, IfOk, OnOk};
 
-use disk_trait::{
-    Crash, DeviceFault, Disk, FuseDisk, Half, HostDisk, HostError, IfMissing, MemoryDisk, OnceDisk,
-};
-use std::alloc::AllocError;
+use disk_trait::{Crash, DeviceFault, Disk, FuseDisk, Half, HostDisk, MemoryDisk, OnceDisk};
 use std::fs::{File, OpenOptions};
-use std::os::unix::fs as unix;
-use std::os::unix::fs::{MetadataExt, PermissionsExt};
 use std::test::Fail;
 use std::{env, fs, process};
 
@@ -85,107 +80,6 @@ fn calls_fail_where_they_are_told_to(rt: HostRuntime) -> Result<(), Fail> {
         disk.crash(Crash::Lost)?;
         assert_eq!(rt; disk.len(Half::A)?, left);
     }
-    Ok(())
-}
-
-#[test]
-fn files_of_the_host_hold_what_was_written(rt: HostRuntime) -> Result<(), Fail> {
-    let dir = folder(&rt, "files")?;
-    let mut disk = HostDisk::open(&rt, dir.as_str())?;
-    disk.write_at(Half::A, 0, b"abcdef")?;
-    disk.write_at(Half::A, 4, b"xyz")?;
-    disk.write_at(Half::B, 0, b"0123")?;
-    disk.cut(Half::B, 3)?;
-    for (half, name, bytes) in [(Half::A, "half-a", "abcdxyz"), (Half::B, "half-b", "012")] {
-        assert!(rt; disk.failures() == 0);
-        disk.sync(half)?;
-        let path = format!(in rt.alloc(); "{}/{name}", dir.as_str())?;
-        assert_eq!(rt; fs::read_to_string(&rt, path.as_str())?.as_str(), bytes);
-        assert_eq!(rt; disk.len(half)?, bytes.len() as u64);
-        let mut buffer = [0; 8];
-        let count = disk.read(half, 2, &mut buffer)?;
-        assert_eq!(rt; &buffer[..count], &bytes.as_bytes()[2..]);
-    }
-    // Nobody else opens them as long as this disk lives.
-    assert!(rt; HostDisk::open(&rt, dir.as_str()).is_err());
-    drop(disk);
-    let again = HostDisk::open(&rt, dir.as_str())?;
-    assert_eq!(rt; again.failures(), 0);
-    drop(again);
-    fs::remove_dir_all(&rt, dir.as_str())?;
-    Ok(())
-}
-
-#[test]
-fn files_are_their_owners_alone(rt: HostRuntime) -> Result<(), Fail> {
-    let dir = folder(&rt, "rights")?;
-    drop(HostDisk::open(&rt, dir.as_str())?);
-    for name in ["half-a", "half-b"] {
-        let path = format!(in rt.alloc(); "{}/{name}", dir.as_str())?;
-        assert_eq!(rt; fs::metadata(&rt, path.as_str())?.mode() & 0o777, 0o600);
-        // who may open them is not changed
-        fs::set_permissions(&rt, path.as_str(), fs::Permissions::from_mode(0o640))?;
-        drop(HostDisk::open(&rt, dir.as_str())?);
-        assert_eq!(rt; fs::metadata(&rt, path.as_str())?.mode() & 0o777, 0o640);
-    }
-    fs::remove_dir_all(&rt, dir.as_str())?;
-    Ok(())
-}
-
-/// Whether the files of a folder are refused as a link, and as no regular file.
-fn refused(rt: &HostRuntime, dir: &str, if_missing: IfMissing) -> Result<(bool, bool), AllocError> {
-    match HostDisk::open_files(rt, dir, if_missing) {
-        Err(HostError::OutOfMemory) => Err(AllocError),
-        Err(HostError::Linked) => Ok((true, false)),
-        Err(HostError::NoFile) => Ok((false, true)),
-        _ => Ok((false, false)),
-    }
-}
-
-#[test]
-fn a_link_is_never_followed(rt: HostRuntime) -> Result<(), Fail> {
-    let dir = folder(&rt, "links")?;
-    let other = format!(in rt.alloc(); "{}/other", dir.as_str())?;
-    for name in ["half-a", "half-b"] {
-        let path = format!(in rt.alloc(); "{}/{name}", dir.as_str())?;
-        for if_missing in [IfMissing::Make, IfMissing::Refuse] {
-            drop(HostDisk::open(&rt, dir.as_str())?);
-            fs::write(&rt, other.as_str(), "abc")?;
-            fs::remove_file(&rt, path.as_str())?;
-            unix::symlink(&rt, "other", path.as_str())?;
-            assert_eq!(rt; refused(&rt, dir.as_str(), if_missing)?, (true, false));
-            fs::remove_file(&rt, path.as_str())?;
-            fs::hard_link(&rt, other.as_str(), path.as_str())?;
-            assert_eq!(rt; refused(&rt, dir.as_str(), if_missing)?, (true, false));
-            fs::remove_file(&rt, path.as_str())?;
-            unix::symlink(&rt, "missing", path.as_str())?;
-            assert_eq!(rt; refused(&rt, dir.as_str(), if_missing)?, (true, false));
-            fs::remove_file(&rt, path.as_str())?;
-            fs::create_dir(&rt, path.as_str())?;
-            assert_eq!(rt; refused(&rt, dir.as_str(), if_missing)?, (false, true));
-            fs::remove_dir(&rt, path.as_str())?;
-            assert_eq!(rt; fs::read_to_string(&rt, other.as_str())?.as_str(), "abc");
-        }
-    }
-    fs::remove_dir_all(&rt, dir.as_str())?;
-    Ok(())
-}
-
-/// A path may have 4,095 bytes, and those of the halves are longer than that of their folder.
-#[test]
-fn a_name_that_is_too_long_makes_nothing(rt: HostRuntime) -> Result<(), Fail> {
-    let dir = folder(&rt, "names")?;
-    fs::create_dir(&rt, dir.as_str())?;
-    let mut name = format!(in rt.alloc(); "{}/new", dir.as_str())?;
-    let made = name.clone()?;
-    for _ in 0..2046 {
-        if name.len() + 2 <= 4090 {
-            name.push_str("/.")?;
-        }
-    }
-    assert!(rt; HostDisk::open(&rt, name.as_str()).is_err());
-    assert!(rt; fs::symlink_metadata(&rt, made.as_str()).is_err());
-    fs::remove_dir_all(&rt, dir.as_str())?;
     Ok(())
 }
 

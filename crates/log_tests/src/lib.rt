@@ -5,7 +5,8 @@
 //! - `disks`: disks in memory and files of the system
 //! - `logs`: records, crashes, and one caller's session
 //!
-//! Files that were altered or are of an older version are in `checks/sessions` (`halves.txt`, `cut_halves.txt`, `half_versions.txt`).
+//! Files that were altered or are of an older version are in `checks/sessions` (`halves.txt`, `cut_halves.txt`, `half_versions.txt`);
+//! links, names and rights of real files in the campaign (`folders`).
 #![tactic(auto)]
 
 #[cfg(test)]

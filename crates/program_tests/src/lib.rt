@@ -1,5 +1,5 @@
 //! Tests of the store and of the program, through the public calls of prevalence_store and store_commands: sessions and calls over
-//! disks in memory, and the program over real files.
+//! disks in memory.
 //!
 //! They are a crate of their own, so that the libraries are not proved again for the sake of their tests.
 //!
@@ -8,7 +8,7 @@
 //!
 //! - `asked` calls a store, `lines` has the lines of what its calls give, `by_name` the macro functions, `files` the bytes of disks,
 //!   `broken` streams that fail, `long` disks of a test
-//! - `calls`, `silent`, `turns`, `snapshots`, `callers`: the calls of a store; `wanted`: a session that is strict and meets a fault
+//! - `calls`, `silent`, `snapshots`, `callers`: the calls of a store; `turns`: streams that fail; `wanted`: a session that is strict and meets a fault
 //! - `campaign`: a device that stops at each of its calls in turn, and each kind of crash after that; `stopped`: what exactly is
 //!   left of one form or snapshot; `altered`: files that are longer than a limit or than memory; `memory`: a macro function that
 //!   finds no memory; `growth`: calls that find none and are made again
@@ -16,8 +16,8 @@
 //! - `groups`: forms that are executed together, and sessions with groups
 //! - `versions`: files of version 1 with little room; `upgrades`: the command that makes files of version 2 of them
 //! - `macros`: the macro functions of the program, and what is not registered
-//! - `terminal`: sessions in a row, over real files of `runs`
-//! - What a run of the built program can show is in `checks/sessions`: answers, refusals and their places, words, commands, files.
+//! - What a run of the built program can show is in `checks/sessions`: answers, refusals and their places, words, commands, files; how
+//!   it takes its input in `checks/pieces`, and what it does at a terminal in `checks/terminal`.
 #![tactic(auto)]
 
 #[cfg(test)]
@@ -49,15 +49,11 @@ mod macros;
 #[cfg(test)]
 mod memory;
 #[cfg(test)]
-mod runs;
-#[cfg(test)]
 mod silent;
 #[cfg(test)]
 mod snapshots;
 #[cfg(test)]
 mod stopped;
-#[cfg(test)]
-mod terminal;
 #[cfg(test)]
 mod turns;
 #[cfg(test)]

@@ -9,13 +9,11 @@
 //!
 //! What was refused is not kept: a form that names a function which the fewer are without is refused there, and accepted with more.
 //!
-//! The lemmas in `proofs` are of this crate alone: `Reading`, `Values`, `Keeping`.
+//! Of the lemmas in `proofs` crates above use `reading_widens` of `Reading` and `none_are_among` of `Keeping`.
 #![tactic(auto)]
 
 mod files;
 mod forms;
-#[cfg(test)]
-mod reopened;
 
 pub use files::{files_keep_their_world, more_functions_open};
 pub use forms::forms_stay_accepted;

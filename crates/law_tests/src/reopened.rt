@@ -5,15 +5,13 @@ ghost use Rattle.plist_state.specs.State.{WorldState};
 ghost use Rattle.prevalence_store.specs.meaning.Files.{MeansWorld};
 ghost use Rattle.user_macros.specs.Functions.{no_functions};
 
-use crate::more_functions_open;
+use crate::disks::AMPLE;
 use disk_trait::{Disk, MemoryDisk};
 use prevalence_store::{Mode, Outcome, Store};
 use std::alloc::{AllocError, Global};
 use std::test::Fail;
 use user_macros::{MacroFunctions, Macros, NoFunctions};
-
-/// A limit that no file of a test comes near.
-const AMPLE: u64 = 1 << 30;
+use wider_functions::more_functions_open;
 
 /// Opens a disk with any macro functions. On files that meant a world to a program without any the store has this world.
 fn opened_with<D: Disk + Drop, M: MacroFunctions + Drop>(

@@ -1,7 +1,7 @@
 use Rattle.std.proofs.Common.{Some, ap, ◌∙◌}
 use Rattle.user_macros.specs.Functions.{no_functions}
 use Rattle.wider_functions.proofs.Keeping.{none_are_among}
-use Rattle.wider_functions.proofs.reopened.opened_with.Goals as goal
+use Rattle.law_tests.proofs.reopened.opened_with.Goals as goal
 
 pub returns : goal.returns
 returns g c = λ world honest meant.
