@@ -22,8 +22,11 @@ SKIPPED = b"! 53 SKIPPED"
 NOTHING = b"NIL"
 """What a store is fed in place of such an entry."""
 
-POSITION = b"(COMMON-LISP:GET (COMMON-LISP:QUOTE COMMON-LISP-USER::|position|) (COMMON-LISP:QUOTE COMMON-LISP-USER::|position|))"
-"""Asks a store for the position that an opening of it would tell."""
+MARK = (
+    b"(COMMON-LISP:SETF (COMMON-LISP:GET (COMMON-LISP:QUOTE COMMON-LISP-USER::|position|)"
+    b" (COMMON-LISP:QUOTE COMMON-LISP-USER::|position|)) 0)"
+)
+"""A form that changes nothing, as the store overrules it; but it writes, and so the store has its position for good."""
 
 LONGEST_PAUSE = 10.0
 """At most so many seconds are between two starts of a store that ends at once."""
@@ -41,6 +44,8 @@ class Node:
         self.answers = Answers()
         self.position = 0
         """The number of the last entry that the store has answered."""
+        self.lasting = 0
+        """A number that an opening of the store would tell, or a lower one than that."""
         self.is_admitted = asyncio.Event()
         self._ended_at = (0, 0)
         """The number of the entry before whose answer the store has ended last, and how often it did."""
@@ -70,15 +75,6 @@ class Node:
         number = self._reached[1]
         await self._until(lambda: self.position >= number)
         return await self.ask(text)
-
-    async def lasting(self) -> int | None:
-        """The position that an opening of the store would tell; None where it cannot be asked now."""
-        if self._child is None or any(text is POSITION for text, _ in self._asked):
-            return None
-        with contextlib.suppress(asyncio.TimeoutError):
-            told = await asyncio.wait_for(self.ask(POSITION), 1)
-            return int(told) if told.isdigit() else None
-        return None
 
     # The store
 
@@ -129,6 +125,7 @@ class Node:
             if entry.number <= position:
                 self.answers.resolve(entry, LOST)
         self._sent.clear()
+        self.lasting = max(self.lasting, position)
         await self._move(position)
         self.is_admitted.set()
 
@@ -173,6 +170,8 @@ class Node:
                 self._last = self._sent.popleft()
                 if self._last.number != number:
                     raise NoFrameError(f"an answer to {number}, and not to {self._last.number}")
+                if self._last.text == MARK and text == b"0":
+                    self.lasting = number
                 self.answers.resolve(self._last, SKIPPED if number in self._skipped else text)
                 await self._move(number)
 

@@ -12,8 +12,8 @@ import uuid
 from typing import Any
 
 from .etcd import CompactedError, EtcdError, among, decoded, encoded
-from .log import PLACES, Log
-from .node import Appender, Node
+from .log import Log
+from .node import MARK, Appender, Node
 
 BEAT = 3.0
 """Seconds between two reports of a node."""
@@ -23,13 +23,6 @@ LEASE = 15
 
 AT_ONCE = 100
 """How many entries are deleted by one transaction."""
-
-MARK = b"(COMMON-LISP:SETF (COMMON-LISP:GET 'COMMON-LISP-USER::|position| 'COMMON-LISP-USER::|position|) 0)"
-"""A form that changes nothing, as the store overrules it; but it is one that writes, so that the position is written too."""
-
-FAR = 10_000
-"""As many transactions without one that wrote are left alone."""
-
 
 class Reports:
     """What the nodes of a log tell of themselves, each under a lease."""
@@ -56,7 +49,7 @@ class Trimmer:
         self._log, self._etcd, self._reports = node.log, node.log.etcd, Reports(node.log)
         self._holder = node.log.prefix + b"trimmer"
         self._seen: collections.deque[tuple[float, int]] = collections.deque()
-        self._lasting = self._trimmed = 0
+        self._marked, self._trimmed = 0.0, 0
 
     async def run(self) -> None:
         await self._node.is_admitted.wait()
@@ -66,7 +59,6 @@ class Trimmer:
                 if self._node.position != answered:
                     answered = self._node.position
                     self._node.note()
-                self._lasting = await self._node.lasting() or self._lasting
                 lease = lease or int((await self._etcd.call("/v3/lease/grant", {"TTL": LEASE}))["ID"])
                 await self._report(lease)
                 if await self._is_holder(lease):
@@ -80,9 +72,9 @@ class Trimmer:
         found = await self._etcd.call("/v3/lease/keepalive", {"ID": str(lease)})
         if int(found.get("result", {}).get("TTL", "0")) <= 0:
             raise EtcdError("the lease has ended")
-        told = {"answered": self._node.position, "lasting": self._lasting, "stuck": self._node.stuck}
+        told = {"answered": self._node.position, "lasting": self._node.lasting, "stuck": self._node.stuck}
         await self._reports.put(self._name, told, lease)
-        self._seen.append((time.monotonic(), self._lasting))
+        self._seen.append((time.monotonic(), self._node.lasting))
 
     async def _is_holder(self, lease: int) -> bool:
         """Whether it is this node that trims: it takes the key where nobody has it."""
@@ -96,9 +88,8 @@ class Trimmer:
         return bool(held) and decoded(held[0]["value"]) == self._name.encode("ascii")
 
     async def _trim(self) -> None:
+        await self._mark()
         least = min(told["lasting"] for told in (await self._reports.all()).values())
-        if self._node.position - least > FAR * PLACES and least == self._lasting:
-            await self._appender.append(uuid.uuid4().hex.encode("ascii"), MARK)
         self._trimmed = self._trimmed or await self._log.trimmed()
         # what comes after a position may have its revision, so that one stays
         upto = self._log.revision(min(least, self._position_before(time.monotonic() - self._keep))) - 1
@@ -111,6 +102,13 @@ class Trimmer:
         self._trimmed = upto
         with contextlib.suppress(CompactedError):
             await self._etcd.call("/v3/kv/compaction", {"revision": str(upto)})
+
+    async def _mark(self) -> None:
+        """Has all stores write their position now and then, where something has come since."""
+        now = time.monotonic()
+        if self._node.position > self._node.lasting and now - self._marked > self._keep / 10:
+            self._marked = now
+            await self._appender.append(uuid.uuid4().hex.encode("ascii"), MARK)
 
     async def _old_keys(self, upto: int) -> list[str]:
         ranged = {"key": encoded(self._log.entries), "range_end": encoded(self._log.tail), "keys_only": True}
