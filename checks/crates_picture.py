@@ -20,7 +20,7 @@ def levels(below):
 
 
 def kind(crate, below):
-    """The colour of a crate: tests and examples, what knows the files alone, Lisp alone, or both."""
+    """The colour of a crate: tests and examples, what knows no files, files without Lisp, or both."""
     seen, todo = set(), [crate]
     while todo:
         name = todo.pop()
@@ -34,7 +34,7 @@ def kind(crate, below):
     return "g" if "lisp_object" in seen else "d"
 
 
-LEGEND = [("b", "Lisp alone"), ("d", "the files alone"), ("g", "both"), ("n", "tests and examples")]
+LEGEND = [("b", "no files"), ("d", "files without Lisp"), ("g", "files and Lisp"), ("n", "tests and examples")]
 
 
 def drawn(below, other):
