@@ -213,9 +213,9 @@ def skipped(folder, program):
         after.join(LONG)
         if sorted(text for _, text in answers) != ["! 53 SKIPPED", "6"]:
             faults.append(f"answers after a skip: {answers}")
-        faults += [] if all(f"entry {number} is skipped" in node.told() for node in cluster.nodes) else ["a skip is not told"]
         if [value(cluster, 0), value(cluster, 1)] != ["6", "6"]:
             faults.append("the stores do not go on after a skip")
+        faults += [] if all(f"entry {number} is skipped" in node.told() for node in cluster.nodes) else ["a skip is not told"]
         return faults + skipped_elsewhere(cluster, number)
     finally:
         cluster.end()
