@@ -126,7 +126,7 @@ def backups(room):
     shutil.rmtree(copy)
     os.mkdir(partial)
     got = call(room, "backup", room.store, copy)
-    told = b"error: %s is there already, as a backup leaves it that was stopped; take it away first\n" % partial.encode()
+    told = b"error: %s is there already: a backup to this place was stopped, or is under way; if none is, take it away with rm -r\n" % partial.encode()
     want(got == Answer(2, b"", told), "a folder of a backup that was stopped:", got)
     want(os.listdir(partial) == [] and not os.path.exists(copy), "it was touched")
     os.rmdir(partial)
@@ -160,7 +160,37 @@ def without_rights(room):
     return runs + 1
 
 
+# Mounts a file system of its own, puts a store into it, and calls the program over that once nothing may be written there.
+READ_ONLY = """mount -t tmpfs none "$1" && cp -r "$2" "$1/store" && mount -o remount,ro "$1" && cd "$1" && shift 2 && exec "$@\""""
+
+
+def mounted_read_only(room):
+    """On a file system that is mounted to be read alone each look tells what it tells elsewhere, and what writes is 60. It wants a namespace of
+    its own, which some systems allow to nobody."""
+    if shutil.which("unshare") is None or subprocess.run(["unshare", "-rm", "true"], capture_output=True).returncode:
+        return 0
+    room.put(None)
+    subprocess.run([room.program, "run", room.store], input=b"(SETF (GET 'A 'N) 1)\n", capture_output=True)
+    place = room.path("mounted")
+    os.mkdir(place)
+
+    def there(*words):
+        call = ["unshare", "-rm", "sh", "-c", READ_ONLY, "sh", place, room.store, os.path.abspath(room.program), words[0], "store", *words[1:]]
+        done = subprocess.run(call, stdin=subprocess.DEVNULL, capture_output=True, timeout=120)
+        return Answer(done.returncode, done.stdout, done.stderr)
+
+    looks = (["show"], ["log"], ["dump", "--existing"], ["verify", "--existing"], ["export", "--existing"], ["dump", "--at", "1"])
+    for words in looks:
+        want(there(*words) == call(room, words[0], room.store, *words[1:]), words, "on a file system that is read alone:", there(*words))
+    writes = (["run", "--existing"], ["snapshot"], ["dump"], ["backup", "copy"])
+    for words in writes:
+        want(there(*words) == Answer(3, b"", b"! 60 DEVICE\nRead-only file system (os error 30)\n"), words, "there:", there(*words))
+    os.rmdir(place)
+    return len(looks) + len(writes)
+
+
 def run(room):
     stops = library("stops", room)
-    counts = {"between reads": between(room, stops), "without an end": never_had(room, stops), "backups": backups(room), "without rights": without_rights(room)}
+    counts = {"between reads": between(room, stops), "without an end": never_had(room, stops), "backups": backups(room), "without rights": without_rights(room),
+              "read-only": mounted_read_only(room)}
     return sum(counts.values()), ", ".join(f"{count} {kind}" for kind, count in counts.items())

@@ -1,7 +1,7 @@
 -- Orders that have no byte are none.
-use Rattle.std.proofs.Common.{◌≡◌, ◌+◌, ◌<◌, ◌≤◌, List, [], ◌∷◌, ◌++◌, length, refl, sym, ◌∙◌, ap, arith, length-append}
+use Rattle.std.proofs.Common.{◌≡◌, ◌<◌, List, [], ◌∷◌, length, refl, ap, arith, length-append}
 use Rattle.deferred_disk.specs.Bytes.{order_bytes, orders_bytes}
-use Rattle.deferred_disk.specs.Orders.{OrderValue, writes, cuts, syncs}
+use Rattle.disk_trait.specs.Orders.{OrderValue, writes, cuts, syncs}
 
 has_bytes : (order : OrderValue) → 0 < length (order_bytes order)
 has_bytes (writes half at bytes) = omega arith

@@ -3,7 +3,7 @@ use Rattle.std.specs.Prelude.{ℕ, List, [], ◌∷◌, ◌++◌, length}
 use Rattle.std.specs.Int.{w64, to_le_bytes}
 use Rattle.disk_trait.specs.declared.half.Half.{Half}
 use Rattle.disk_trait.specs.declared.half.Half.TheVariants.{A, B}
-use Rattle.deferred_disk.specs.Orders.{OrderValue, writes, cuts, syncs}
+use Rattle.disk_trait.specs.Orders.{OrderValue, writes, cuts, syncs}
 
 -- the byte of a half
 abbrev pub half_byte : Half → ℕ

@@ -2,7 +2,7 @@
 use Rattle.std.specs.Prelude.{ℕ, List, [], ◌∷◌, ◌++◌, refl}
 use Rattle.std.specs.Coded.{Coded, code_by, coded×, coded_ℕ, coded_list}
 use Rattle.disk_trait.specs.Disk.{Image}
-use Rattle.deferred_disk.specs.Orders.{OrderValue, order_code}
+use Rattle.disk_trait.specs.Orders.{OrderValue, order_code}
 
 -- the bytes that the files began with, and the orders, the newest first: those that were reported done, and those that were not yet
 pub record CallsValue : Type 0 where

@@ -2,9 +2,9 @@
 use Rattle.std.specs.Prelude.{◌≡◌, ℕ, List, length, Result, OnOk, OnErr}
 use Rattle.disk_trait.specs.Disk.{State}
 use Rattle.deferred_disk.specs.Bytes.{orders_bytes}
-use Rattle.deferred_disk.specs.Calls.{CallsValue, all_of, asked, reported}
+use Rattle.deferred_disk.specs.Calls.{CallsValue, asked, reported}
 use Rattle.deferred_disk.specs.Kept.{IsWhole}
-use Rattle.deferred_disk.specs.Orders.{OrderValue}
+use Rattle.disk_trait.specs.Orders.{OrderValue}
 use Rattle.deferred_disk.specs.State.{ordered}
 use Rattle.deferred_disk.specs.declared.disk.DeferredDisk.{DeferredDisk}
 
@@ -17,7 +17,7 @@ abbrev pub pending_of : DeferredDisk → List OrderValue
 pending_of disk = disk.past.calls.pending
 
 abbrev pub state_of : DeferredDisk → State
-state_of disk = ordered disk.past.calls.start (all_of disk.past.calls) disk.failures
+state_of disk = ordered disk.past.calls disk.failures
 
 -- All bytes of both files are in memory. So it is until the first change and the first report.
 abbrev pub KeepsAll : DeferredDisk → Type 0

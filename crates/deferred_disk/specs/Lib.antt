@@ -3,6 +3,5 @@ pub mod Calls
 pub mod Disk
 pub mod Kept
 pub mod Noted
-pub mod Orders
 pub mod Sound
 pub mod State

@@ -1,5 +1,5 @@
 -- An order of the program, as one of the logic.
-use Rattle.deferred_disk.specs.Orders.{OrderValue, writes, cuts, syncs}
+use Rattle.disk_trait.specs.Orders.{OrderValue, writes, cuts, syncs}
 use Rattle.deferred_disk.specs.declared.order.Order.{Order}
 use Rattle.deferred_disk.specs.declared.order.Order.TheVariants.{Write, Cut, Sync}
 

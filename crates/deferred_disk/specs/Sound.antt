@@ -3,7 +3,8 @@ use Rattle.std.proofs.Common.{inl, inr, ⊎_elim, ◌≡◌, ℕ, zero, suc, ◌
 use Rattle.disk_trait.specs.Disk.{Image, AreBytes, HoldsBytes, Torn, Cut, OnHalf, Partly, IsSound, file_of, other_of, written}
 use Rattle.disk_trait.specs.declared.half.Half.{Half}
 use Rattle.disk_trait.specs.declared.half.Half.TheVariants.{A, B}
-use Rattle.deferred_disk.specs.Orders.{OrderValue, writes, cuts, syncs}
+use Rattle.disk_trait.specs.Orders.{OrderValue, writes, cuts, syncs}
+use Rattle.deferred_disk.specs.Calls.{CallsValue, all_of}
 use Rattle.deferred_disk.specs.State.{AllWriteBytes, Binds, LeftSince, MayLeave, PartOf, WritesBytes, ordered, reads_after, reads_by, with_file}
 
 -- ---- bytes in lists
@@ -118,10 +119,10 @@ only_now start [] c left = left.1
 only_now start (order ∷ earlier) c left =
     ⊎_elim (λ before. let le : length (order ∷ earlier) ≤ length earlier = no_later start earlier (length (order ∷ earlier)) c before in absurd (omega (arith, le))) (λ now. now.1) left
 
-pub sound_ordered : (start : Image) (orders : List OrderValue) (failures : ℕ) → HoldsBytes start → AllWriteBytes orders → IsSound (ordered start orders failures)
-sound_ordered start orders failures holds wrote = record {
-  reads_stay = stays start orders wrote;
-  counts_now = λ t c le left. left_now start orders t c le left;
-  only_now = λ c left. only_now start orders c left;
-  bytes = λ t c left. since_bytes start orders t c holds left;
+pub sound_ordered : (calls : CallsValue) (failures : ℕ) → HoldsBytes calls.start → AllWriteBytes (all_of calls) → IsSound (ordered calls failures)
+sound_ordered calls failures holds wrote = record {
+  reads_stay = stays calls.start (all_of calls) wrote;
+  counts_now = λ t c le left. left_now calls.start (all_of calls) t c le left;
+  only_now = λ c left. only_now calls.start (all_of calls) c left;
+  bytes = λ t c left. since_bytes calls.start (all_of calls) t c holds left;
 }

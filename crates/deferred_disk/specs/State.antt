@@ -4,7 +4,8 @@ use Rattle.std.specs.Coded.{×_prop, Unit-prop, le_prop}
 use Rattle.disk_trait.specs.Disk.{Image, State, AreBytes, HoldsBytes, Cut, OnHalf, Partly, Torn, file_of, written}
 use Rattle.disk_trait.specs.declared.half.Half.{Half}
 use Rattle.disk_trait.specs.declared.half.Half.TheVariants.{A, B}
-use Rattle.deferred_disk.specs.Orders.{OrderValue, writes, cuts, syncs}
+use Rattle.disk_trait.specs.Orders.{OrderValue, writes, cuts, syncs}
+use Rattle.deferred_disk.specs.Calls.{CallsValue, all_of}
 
 -- ---- one order
 
@@ -75,13 +76,14 @@ all_write-prop (order ∷ earlier) = ×_prop (writes-prop order) (all_write-prop
 
 -- ---- the state
 
--- The files began with these bytes and nothing pending, and these orders were done.
-abbrev pub ordered : Image → List OrderValue → ℕ → State
-ordered start orders failures = record {
+-- The files began with these bytes and nothing pending, and all of these orders were done, whether that was reported yet or not.
+abbrev pub ordered : CallsValue → ℕ → State
+ordered calls failures = record {
   honest = true;
-  reads = reads_by start orders;
-  may_leave = MayLeave start orders;
-  moment = length orders;
-  left_since = LeftSince start orders;
+  reads = reads_by calls.start (all_of calls);
+  may_leave = MayLeave calls.start (all_of calls);
+  moment = length (all_of calls);
+  left_since = LeftSince calls.start (all_of calls);
   failures = failures;
+  performed = record { start = calls.start; done = calls.done };
 }

@@ -41,7 +41,7 @@ impl DeferredDisk {
     ghost use Rattle.disk_trait.specs.Disk.{file_of};
     ghost use Rattle.deferred_disk.specs.Calls.{asked, begun, reported};
     ghost use Rattle.deferred_disk.specs.Disk.{Asks, KeepsAll, calls_of, pending_of, state_of};
-    ghost use Rattle.deferred_disk.specs.Orders.{writes, cuts, syncs};
+    ghost use Rattle.disk_trait.specs.Orders.{writes, cuts, syncs};
 
     /// Two files that hold these bytes now, of which a crash leaves just that: they were synced before they were read.
     pub fn new(alloc: Global, a: Vec<u8>, b: Vec<u8>) -> DeferredDisk
@@ -140,11 +140,11 @@ fn counted(failures: &mut u64) -> DeviceFault
 impl Disk for DeferredDisk {
     ghost use Rattle.disk_trait.specs.Calls.{CutsFile, GivesBytes, GivesLength, IsWithin, SyncsFile, WritesBytes};
     ghost use Rattle.deferred_disk.specs.Disk.{Asks, KeepsAll, calls_of, state_of};
-    ghost use Rattle.deferred_disk.specs.Orders.{writes, cuts, syncs};
+    ghost use Rattle.disk_trait.specs.Orders.{writes, cuts, syncs};
 
-    ghost state = { λ d. ordered d.past.calls.start (all_of d.past.calls) d.failures };
+    ghost state = { λ d. ordered d.past.calls d.failures };
 
-    ghost sound = { λ d honest. sound_ordered d.past.calls.start (all_of d.past.calls) d.failures d.began d.wrote };
+    ghost sound = { λ d honest. sound_ordered d.past.calls d.failures d.began d.wrote };
 
     fn failures(&self) -> u64 {
         self.failures

@@ -1,13 +1,25 @@
 // What a crash may leave while the orders are done.
-ghost use Rattle.std.specs.Prelude.{◌≡◌, ℕ, List, ◌++◌, length};
+ghost use Rattle.std.specs.Prelude.{◌≡◌, List, [], ◌++◌, length};
 ghost use Rattle.disk_trait.specs.Disk.{Image};
-ghost use Rattle.deferred_disk.specs.Orders.{OrderValue};
-ghost use Rattle.deferred_disk.specs.State.{ordered};
+ghost use Rattle.disk_trait.specs.Orders.{OrderValue};
+ghost use Rattle.deferred_disk.specs.Disk.{calls_of, pending_of, state_of};
+ghost use Rattle.deferred_disk.specs.State.{MayLeave};
+ghost use Rattle.deferred_disk.specs.declared.disk.DeferredDisk.{DeferredDisk};
 
-/// Some orders were done, in their order, and then some of the pending ones, `first`, and those after them, `later`, were not: what a
-/// crash may leave then is among what a crash might have left since the last report. Lists of orders have the newest first.
+/// A run of calls led from the old disk to the new one, say a call of a store: its clause says that what was reported done is the same
+/// (`performed` of `Throughout`). Then the pending orders are done in turn on files of which that is true: they began with these
+/// bytes, and these orders were done. Some are done, `first`, and those after them, `later`, are not. What a crash leaves then is
+/// among what a crash might have left during the run, of which the clause speaks (`each`); or, where orders were pending before it,
+/// since the last report (`before`). Lists of orders have the newest first.
 pub fn between_orders()
-    ensures { (start image : Image) (done first later : List OrderValue) (failures : ℕ)
-        → (ordered start (first ++ done) failures).may_leave image
-        → (ordered start ((later ++ first) ++ done) failures).left_since (length done) image }
+    ensures none_open { (old new : DeferredDisk) (first later : List OrderValue) (image : Image)
+        → (state_of new).performed ≡ (state_of old).performed
+        → pending_of old ≡ [] → pending_of new ≡ later ++ first
+        → MayLeave (calls_of old).start (first ++ (calls_of old).done) image
+        → (state_of new).left_since (state_of old).moment image }
+    ensures some_open { (old new : DeferredDisk) (first later : List OrderValue) (image : Image)
+        → (state_of new).performed ≡ (state_of old).performed
+        → pending_of new ≡ later ++ first
+        → MayLeave (calls_of old).start (first ++ (calls_of old).done) image
+        → (state_of new).left_since (length (calls_of old).done) image }
 {}

@@ -4,8 +4,8 @@
 //! holds them does them on two files, all of them and in turn, and reports that before anything that was answered is passed on.
 //!
 //! - `DeferredDisk` (module `disk`) is honest by what it was told: it was made of the bytes of two files, and these orders were done
-//!   since (`specs/State.antt`). What a crash may leave between two orders is among what a crash may leave in the call that made
-//!   them: `between_orders` (module `laws`).
+//!   since (`specs/State.antt`). What is said of each moment of a run of calls holds between two orders of that run too:
+//!   `between_orders` (module `laws`).
 //! - Its bytes say the orders that were not reported yet, no more and no less (`specs/Bytes.antt`, module `order`).
 //! - Of each file it keeps the length, the first byte, and all bytes until it is changed or a report comes (module `kept`): a store
 //!   reads more than that only while it is opened.

@@ -35,6 +35,7 @@ elapses_push start calls call failures later_failures = record {
     not_after = omega (arith, left.not_after, length-append calls (call ∷ []));
     left = subst (λ (l : List Call). MayLeave start l c) (sym (take-append-le left.moment calls (call ∷ []) left.not_after)) left.left;
   };
+  performed = refl;
 }
   where
     earlier : (t : ℕ) (c : Image) (left : LeftSince start (calls ++ call ∷ []) t c) → (left.moment < length calls + 1) ⊎ (length calls + 1 ≤ left.moment) → LeftSince start calls t c ⊎ MayLeave start (calls ++ call ∷ []) c

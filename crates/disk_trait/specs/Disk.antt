@@ -1,6 +1,7 @@
 -- What a disk of two files is: what a read gives, what a crash may leave, and what each call does to both.
 use Rattle.std.specs.Prelude.{◌≡◌, ◌⊎◌, ℕ, ◌+◌, ◌<◌, ◌≤◌, max, Bool, true, false, List, [], ◌++◌, length, take, drop, Result, MatchResult, IsTrue}
 use Rattle.std.specs.List.{AllByRecursion}
+use Rattle.disk_trait.specs.Orders.{OrderValue}
 use Rattle.disk_trait.specs.declared.disk.DeviceFault.{DeviceFault}
 use Rattle.disk_trait.specs.declared.half.Half.{Half}
 use Rattle.disk_trait.specs.declared.half.Half.TheVariants.{A, B}
@@ -19,6 +20,16 @@ abbrev pub other_of : Half → Image → List ℕ
 other_of A image = image.b
 other_of B image = image.a
 
+-- what is known to be done of a disk whose calls are done later: the bytes that its files began with, and the orders that were
+-- reported done since, the newest first
+pub record Performed : Type 0 where
+  pub start : Image
+  pub done : List OrderValue
+
+-- a disk that does its calls at once has no orders
+abbrev pub at_once : Performed
+at_once = record { start = record { a = []; b = [] }; done = [] }
+
 pub record State : Type 1 where
   -- the disk keeps the rules below; nothing is claimed of one that isn't
   pub honest : Bool
@@ -32,6 +43,8 @@ pub record State : Type 1 where
   pub left_since : ℕ → Image → Type 0
   -- how often a call has failed
   pub failures : ℕ
+  -- what was reported done; a call adds orders to it, and changes none of it
+  pub performed : Performed
 
 abbrev pub IsHonest : State → Type 0
 IsHonest s = IsTrue s.honest
@@ -114,6 +127,7 @@ pub record Elapses (old new : State) : Type 0 where
   pub later : old.moment ≤ new.moment
   pub nothing_else : (t : ℕ) (c : Image) → t ≤ old.moment → new.left_since t c → old.left_since t c ⊎ new.may_leave c
   pub keeps : (t : ℕ) (c : Image) → t ≤ old.moment → old.left_since t c → new.left_since t c
+  pub performed : new.performed ≡ old.performed
 
 -- a call that writes nothing
 pub record Looks (old new : State) : Type 0 where
@@ -145,3 +159,9 @@ pub record Throughout (old new : State) (P : Image → Type 0) : Type 0 where
   pub each : (c : Image) → new.left_since old.moment c → P c
   -- for a run that began earlier
   pub before : (t : ℕ) (c : Image) → t ≤ old.moment → new.left_since t c → old.left_since t c ⊎ P c
+  -- it was told on the same word of what was done before: what it made is among the orders that are handed out after it
+  pub performed : new.performed ≡ old.performed
+
+-- the state, but for what was reported: a report changes no more than that
+abbrev pub but_for_reports : State → State
+but_for_reports s = record s { performed = at_once }

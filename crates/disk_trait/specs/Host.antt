@@ -2,7 +2,7 @@
 use Rattle.std.specs.Prelude.{ℕ, false, [], pos, ◌<ℤ◌}
 use Rattle.std.specs.Fd.{file_raw_fd}
 use Rattle.std.specs.declared.fs.File.{File}
-use Rattle.disk_trait.specs.Disk.{State, IsHonest, IsSound}
+use Rattle.disk_trait.specs.Disk.{State, IsHonest, IsSound, at_once}
 
 abbrev pub unclaimed : ℕ → State
 unclaimed failures = record {
@@ -12,6 +12,7 @@ unclaimed failures = record {
   moment = 0;
   left_since = λ t c. ⊥;
   failures = failures;
+  performed = at_once;
 }
 
 pub sound_unclaimed : (failures : ℕ) → IsHonest (unclaimed failures) → IsSound (unclaimed failures)

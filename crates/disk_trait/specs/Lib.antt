@@ -6,6 +6,7 @@ pub mod Half
 pub mod Host
 pub mod Memory
 pub mod Moments
+pub mod Orders
 pub mod Replay
 pub mod ReplayBytes
 pub mod ReplayLaws

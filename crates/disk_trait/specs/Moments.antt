@@ -1,5 +1,5 @@
 -- How runs of calls are told, moment by moment.
-use Rattle.std.proofs.Common.{inl, inr, ⊎_elim, ℕ, ◌≤◌, arith}
+use Rattle.std.proofs.Common.{inl, inr, ⊎_elim, ℕ, ◌≤◌, ◌∙◌, arith}
 use Rattle.disk_trait.specs.Disk.{Image, State, HoldsBytes, Elapses, IsSound, Throughout}
 
 -- one call, from a disk whose crash would have left an image with P, to one whose crash leaves such an image
@@ -8,6 +8,7 @@ one_call old new P sound time before after = record {
   later = time.later;
   each = λ c left. ⊎_elim (λ was. before c (sound.only_now c was)) (after c) (time.nothing_else old.moment c (omega arith) left);
   before = λ t c le left. ⊎_elim (λ was. inl was) (λ now. inr (after c now)) (time.nothing_else t c le left);
+  performed = time.performed;
 }
 
 -- two runs, one after the other
@@ -16,6 +17,7 @@ joined a b c P Q first second weaken = record {
   later = omega (arith, first.later, second.later);
   each = λ i left. ⊎_elim (first.each i) (weaken i) (second.before a.moment i first.later left);
   before = λ t i le left. ⊎_elim (first.before t i le) (λ now. inr (weaken i now)) (second.before t i (omega (arith, le, first.later)) left);
+  performed = second.performed ∙ first.performed;
 }
 
 -- the same run, of which less is said
@@ -24,6 +26,7 @@ weaker a b P Q run weaken = record {
   later = run.later;
   each = λ i left. weaken i (run.each i left);
   before = λ t i le left. ⊎_elim (λ was. inl was) (λ now. inr (weaken i now)) (run.before t i le left);
+  performed = run.performed;
 }
 
 -- the count of failures has no part in it
@@ -31,5 +34,10 @@ pub recounted_sound : (s : State) (failures : ℕ) → IsSound s → IsSound (re
 recounted_sound s failures sound = record { reads_stay = sound.reads_stay; counts_now = sound.counts_now; only_now = sound.only_now; bytes = sound.bytes }
 
 -- all that an honest disk might have left is bytes
-pub bytes_since : (old new : State) → old.moment ≤ new.moment → IsSound new → Throughout old new HoldsBytes
-bytes_since old new later sound = record { later = later; each = λ c left. sound.bytes old.moment c left; before = λ t c le left. inr (sound.bytes t c left) }
+pub bytes_since : {P : Image → Type 0} (old new : State) → Throughout old new P → IsSound new → Throughout old new HoldsBytes
+bytes_since old new run sound = record {
+  later = run.later;
+  each = λ c left. sound.bytes old.moment c left;
+  before = λ t c le left. inr (sound.bytes t c left);
+  performed = run.performed;
+}

@@ -1,7 +1,7 @@
 -- What a disk in memory holds, told from its start and the calls that it took: each file apart, one call after the other.
 use Rattle.std.specs.Prelude.{◌≡◌, ◌⊎◌, ℕ, ◌≤◌, Bool, true, ◌&&◌, List, [], ◌∷◌, length, take, nat_lt}
 use Rattle.std.specs.List.{list_all}
-use Rattle.disk_trait.specs.Disk.{Image, State, Elapses, file_of, other_of, written, Torn, Cut, OnHalf, Partly}
+use Rattle.disk_trait.specs.Disk.{Image, State, Elapses, at_once, file_of, other_of, written, Torn, Cut, OnHalf, Partly}
 use Rattle.disk_trait.specs.declared.call.Call.{Call}
 use Rattle.disk_trait.specs.declared.call.What.{What}
 use Rattle.disk_trait.specs.declared.call.What.TheVariants.{Looked, Wrote, Shortened, Synced}
@@ -101,6 +101,7 @@ told start calls failures = record {
   moment = length calls;
   left_since = LeftSince start calls;
   failures = failures;
+  performed = at_once;
 }
 
 -- the new disk has taken one call more

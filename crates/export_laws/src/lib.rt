@@ -8,7 +8,7 @@
 //!
 //! What a text makes is `Makes` of `specs/Texts.antt`: each form is read in the world that the ones before it left, and accepted.
 //!
-//! That the forms of the readtables make these is not proved: tests say it.
+//! The readtables, and so the law of a whole export, are in whole_export.
 //!
 //! The lemmas in `proofs` are of this crate alone:
 //!

@@ -3,6 +3,7 @@
 --     accepted_covers      it leaves no readtables which name other functions than those that may be named
 --     accepted_without_base      one that is accepted where *READ-BASE* is no variable is accepted where it is one
 --     accepted_numbered      it is refused under a number of evaluation
+--     accepted_as_asked      it gives what it gives as a question
 use Rattle.std.proofs.Common.{◌≡◌, ◌≤◌, ℕ, Bool, true, false, List, Ok, Err, Result, ap, refl, subst, sym, ◌∙◌}
 use Rattle.lisp_object.specs.Object.{Object}
 use Rattle.package_table.specs.declared.error.PackageError.{PackageError}
@@ -26,7 +27,7 @@ use Rattle.evaluator.proofs.KeepingForms.{value_keeps}
 use Rattle.evaluator.proofs.WithoutBase.{value_without_base}
 use Rattle.evaluator.proofs.NumberedForms.{value_numbered}
 use Rattle.package_table.specs.Symbols.{symbols}
-use Rattle.form_eval.specs.Acceptance.{table_of, after_symbol, with_symbols, accepted_by, accept_by, accept}
+use Rattle.form_eval.specs.Acceptance.{table_of, after_symbol, with_symbols, accepted_by, accept_by, accept, asked_with, asked}
 
 -- ---- one that does not write
 symbol_still : (t : Table) (x : Symbol) (u : Table) → after_symbol t x ≡ Ok u → intern_changes t x.0 x.1 ≡ false → u ≡ t
@@ -108,3 +109,11 @@ accept_numbered names s x =
 
 pub accepted_numbered : (names : List Name) (s : WorldState) (x : Object) (code : ℕ) → accept names s x ≡ Err code → (30 ≤ code) × (code ≤ 46)
 accepted_numbered names s x code is = (subst Numbered is (accept_numbered names s x)).number
+
+-- ---- questions
+answered_after_symbols : (names : List Name) (s : WorldState) (r : Result (Table × Bool) PackageError) (x : Object) → (new : Bool) × (accepted_by true names s r x ≡ also new (asked_with names s r x))
+answered_after_symbols names s (Ok p) x = (p.1, refl)
+answered_after_symbols names s (Err e) x = (false, refl)
+
+pub accepted_as_asked : (names : List Name) (s : WorldState) (x : Object) → (new : Bool) × (accept names s x ≡ also new (asked names s x))
+accepted_as_asked names s x = answered_after_symbols names s (with_symbols s.packages (symbols x)) x

@@ -14,7 +14,7 @@ use Rattle.lisp_operators.specs.declared.error.EvaluationError.{EvaluationError}
 use Rattle.lisp_operators.specs.declared.evaluated.Evaluated.{Evaluated}
 use Rattle.lisp_operators.specs.Evaluated.{Answers, done}
 use Rattle.lisp_operators.specs.Packages.{one_by_one}
-use Rattle.evaluator.specs.Value.{value_by}
+use Rattle.evaluator.specs.Value.{value, value_by}
 
 abbrev pub table_of : Result (Name × Table) PackageError → Result Table PackageError
 table_of (Ok p) = Ok p.1
@@ -47,3 +47,16 @@ accept = accept_by true
 -- a form as a transaction is answered what the definition says, from the first of two states to the second
 abbrev pub Transacts : List Name → Object → WorldState → WorldState → Result Evaluated EvaluationError → Type 0
 Transacts names x old new result = Answers done result new (accept names old x)
+
+-- The value of a question, the state after it and whether its evaluation wrote; or the number of the refusal. Its symbols are
+-- there as it is evaluated. That one of them is new does not count.
+abbrev pub asked_with : List Name → WorldState → Result (Table × Bool) PackageError → Object → Evaluation Object
+asked_with names s (Ok p) x = value names (with_packages s p.0) x
+asked_with names s (Err e) x = Err (number_of e)
+
+abbrev pub asked : List Name → WorldState → Object → Evaluation Object
+asked names s x = asked_with names s (with_symbols s.packages (symbols x)) x
+
+-- a form as a question is answered what the definition says, from the first of two states to the second
+abbrev pub IsAsked : List Name → Object → WorldState → WorldState → Result Evaluated EvaluationError → Type 0
+IsAsked names x old new result = Answers done result new (asked names old x)

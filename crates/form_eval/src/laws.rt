@@ -1,11 +1,11 @@
 //! What holds of every form, for proofs.
-ghost use Rattle.std.specs.Prelude.{ℕ, ◌≡◌, ◌≤◌, true, false, List, Ok, Err};
+ghost use Rattle.std.specs.Prelude.{ℕ, Bool, ◌≡◌, ◌≤◌, true, false, List, Ok, Err};
 ghost use Rattle.lisp_object.specs.Object.{Object};
 ghost use Rattle.package_table.specs.Table.{Name};
 ghost use Rattle.plist_state.specs.State.{WorldState};
 ghost use Rattle.plist_state.specs.Sound.{IsSound};
-ghost use Rattle.lisp_operators.specs.Evaluation.{Done};
-ghost use Rattle.form_eval.specs.Acceptance.{accept, accept_by};
+ghost use Rattle.lisp_operators.specs.Evaluation.{Done, also};
+ghost use Rattle.form_eval.specs.Acceptance.{accept, accept_by, asked};
 ghost use Rattle.lisp_operators.specs.Readtables.{AreCovered, AreFunctionNames};
 ghost use Rattle.form_eval.specs.Laws.{IsForm, IsSoundAfter};
 
@@ -43,4 +43,11 @@ pub fn without_a_base()
     ensures { (names : List Name) (s : WorldState) (x : Object) (d : Done Object)
         → accept_by false names s x ≡ Ok d
         → (accept_by true names s x ≡ Ok d) × (d.state.read_base ≡ s.read_base) }
+{}
+
+/// What a form gives as a question it gives when it is accepted, and the same refusal; but that it is accepted counts as
+/// writing also where a symbol is new. For proofs: it does nothing.
+pub fn questions_are_answered_as_forms()
+    ensures { (names : List Name) (s : WorldState) (x : Object)
+        → (new : Bool) × (accept names s x ≡ also new (asked names s x)) }
 {}

@@ -6,6 +6,7 @@
 //!
 //! - `read_form`: a form that was read, and whether its symbols are known to be there
 //! - `transaction`: `accept`; `application`: `apply`, which does the same and gives no value
+//! - `asking`: `question`, the same form as a question, which tells whether its evaluation alone wrote
 //! - `symbols`: the symbols of a datum; `interning`: they are interned in their homes
 //!
 //! # Laws for the crates above
@@ -15,6 +16,7 @@
 #![tactic(auto)]
 
 mod application;
+mod asking;
 mod interning;
 pub mod laws;
 mod read_form;
@@ -22,6 +24,7 @@ mod symbols;
 mod transaction;
 
 pub use application::apply;
+pub use asking::question;
 pub use lisp_operators::{Evaluated, EvaluationError};
 pub use read_form::ReadForm;
 pub use transaction::accept;

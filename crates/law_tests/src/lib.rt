@@ -4,6 +4,7 @@
 //!
 //! - `lives`: a store that is opened, stopped, refused once, opened again and called again
 //! - `replicas`: two stores that are handed the same input
+//! - `keepers`: a session whose recipient keeps account of it
 //! - `migration`: a store that is opened on files of version 1
 //! - `reopened`: a store that is opened with macro functions on files of a program without any
 //! - `disks`: disks of these tests, and what may go wrong in them
@@ -11,6 +12,8 @@
 
 #[cfg(test)]
 mod disks;
+#[cfg(test)]
+mod keepers;
 #[cfg(test)]
 mod lives;
 #[cfg(test)]

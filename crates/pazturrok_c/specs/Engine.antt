@@ -6,7 +6,7 @@ use Rattle.std.specs.List.{flat_map}
 use Rattle.canon_printer.specs.Printed.{printed}
 use Rattle.deferred_disk.specs.Calls.{begun}
 use Rattle.deferred_disk.specs.Disk.{calls_of, pending_of, state_of}
-use Rattle.deferred_disk.specs.Orders.{OrderValue}
+use Rattle.disk_trait.specs.Orders.{OrderValue}
 use Rattle.deferred_disk.specs.declared.disk.DeferredDisk.{DeferredDisk}
 use Rattle.lisp_object.specs.Datum.{object_of}
 use Rattle.lisp_object.specs.Object.{Object}

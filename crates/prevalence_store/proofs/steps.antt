@@ -22,3 +22,4 @@ pub mod Gathering
 pub mod Counting
 pub mod Gathered
 pub mod Storing
+pub mod Handing

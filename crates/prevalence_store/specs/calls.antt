@@ -9,3 +9,5 @@ pub mod Open
 pub mod Streams
 pub mod Pace
 pub mod Serve
+-- and who gets its lines
+pub mod Account

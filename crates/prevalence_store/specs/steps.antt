@@ -11,4 +11,4 @@ pub mod Schedule
 pub mod Course
 pub mod Serve
 pub mod Gather
-pub mod Writing
+pub mod Standing

@@ -10,9 +10,10 @@
 //!   the forms that it reads and accepts, and has acknowledged all whose answers were written whole; `run` those of its steps;
 //!   `snapshot` and `close` take none.
 //! - *Between calls* (`Store::keeps_its_world`): whatever a crash leaves while a store is in no call means the world that it has.
-//! - *Before an answer* (`write_lines` of `session::output`): all that a session writes goes out by one function, which does not touch
-//!   the disk. It asks that whatever a crash leaves now means the world after all forms whose lines it is handed (`AreStored`), and an
-//!   opening then gives that world (`what_is_answered_is_stored`). That these are the forms of the session no clause says.
+//! - *Before an answer* (`Recipient`): all that a session writes goes out by `write_lines` of its recipient, which does not touch the
+//!   disk. It asks that these are the lines of the next forms of this session, and that what was done since lines were last handed on
+//!   survives as a call that has acknowledged them all (`AreStored`). So what is said of calls in a row is said of a session at each
+//!   moment (`what_is_answered_is_stored`); after its last line `under_way` of `serve_wanted` says it.
 //! - *What opening gives* (`Reopens`): if the files mean a world, `Store::open` gives that world, or a refusal that is no
 //!   word on the files. While it opens, a crash leaves what the files might have meant before. A refusal gives the disk back.
 //! - *The two together* (`headline`): after an opening and any calls in a row, a crash at any moment and an opening of what it leaves give
@@ -48,6 +49,7 @@
 //! - `session`: `serve`, and its parts: `input` and `output`, the streams; `answer`, what becomes of a form that was read;
 //!   `gather`, forms that stand whole after one another, with their lines, and `together`, the answers to them; `schedule`,
 //!   when it takes snapshots; `course`, how far it has come. A line is made before its record is logged, and written after.
+//! - `recipient`: who gets the lines of a session.
 //! - `mode`, `step`, `outcome`, `open_fault`: the words of the calls. `failure`: why a form is not accepted.
 //! - `laws`: the headline, openings in a row, that an image means one world, that files of version 1 mean what they meant, and
 //!   which numbers refuse a form.
@@ -61,6 +63,7 @@ mod log;
 mod mode;
 mod open_fault;
 mod outcome;
+mod recipient;
 mod replay;
 mod session;
 mod setting;
@@ -75,5 +78,6 @@ pub use lisp_object::refusal::name_of as refusal_name;
 pub use mode::Mode;
 pub use open_fault::OpenFault;
 pub use outcome::{Ended, Ending, Outcome, Place, Wanted};
+pub use recipient::{OutputFault, Recipient};
 pub use step::Step;
 pub use store::{Store, Unopened};

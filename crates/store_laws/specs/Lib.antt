@@ -2,3 +2,5 @@
 pub mod Histories
 -- what a session over an input comes to
 pub mod Outcomes
+-- what is handed to the recipient of a session
+pub mod Sessions

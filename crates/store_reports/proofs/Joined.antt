@@ -1,5 +1,5 @@
 -- Texts that were added one after the other, and numbers that were summed up.
-use Rattle.std.proofs.Common.{◌≡◌, ℕ, ◌+◌, ◌<◌, ◌≤◌, min, List, [], ◌∷◌, ◌++◌, length, map, take, get_or, Result, Ok, Err, Some, slice_get, refl, sym, ◌∙◌, ap, arith, append_assoc}
+use Rattle.std.proofs.Common.{◌≡◌, ℕ, ◌+◌, ◌<◌, min, List, ◌++◌, length, map, take, get_or, Result, Ok, Err, ◌∙◌, ap, arith, append_assoc}
 use Rattle.std.specs.List.{sum_by}
 use Rattle.std.specs.Prelude.{OnOk}
 use Rattle.std.proofs.lemmas.List.{get_or-map, length-map, take_more}
@@ -19,18 +19,18 @@ module _ {T E : Type 0} (result : Result T E) (t0 t1 t2 t3 t4 a b c d : List ℕ
       ok (Err e) four = tt
       ok (Ok v) four = joined one two three four
 
-  pub after_five : (t5 e : List ℕ) → t1 ≡ t0 ++ a → t2 ≡ t1 ++ b → t3 ≡ t2 ++ c → t4 ≡ t3 ++ d → OnOk result (t5 ≡ t4 ++ e) → OnOk result (t5 ≡ t0 ++ (a ++ b ++ c ++ d ++ e))
-  after_five t5 e one two three four five = ok result five
+module _ {T E : Type 0} (result : Result T E) (t0 t1 t2 t3 a b c : List ℕ) where
+  pub after_three : t1 ≡ t0 ++ a → t2 ≡ t1 ++ b → OnOk result (t3 ≡ t2 ++ c) → OnOk result (t3 ≡ t0 ++ (a ++ b ++ c))
+  after_three one two three = ok result three
     where
-      joined : t5 ≡ t4 ++ e → t5 ≡ t0 ++ (a ++ b ++ c ++ d ++ e)
-      joined five =
-          let all : t5 ≡ ((((t0 ++ a) ++ b) ++ c) ++ d) ++ e =
-          five ∙ ap (λ (l : List ℕ). l ++ e) (four ∙ ap (λ (l : List ℕ). l ++ d) (three ∙ ap (λ (l : List ℕ). l ++ c) (two ∙ ap (λ (l : List ℕ). l ++ b) one))) in
+      joined : t3 ≡ t2 ++ c → t3 ≡ t0 ++ (a ++ b ++ c)
+      joined three =
+          let all : t3 ≡ ((t0 ++ a) ++ b) ++ c = three ∙ ap (λ (l : List ℕ). l ++ c) (two ∙ ap (λ (l : List ℕ). l ++ b) one) in
           all ∙ simp append_assoc
 
-      ok : (result : Result T E) → OnOk result (t5 ≡ t4 ++ e) → OnOk result (t5 ≡ t0 ++ (a ++ b ++ c ++ d ++ e))
-      ok (Err e) five = tt
-      ok (Ok v) five = joined five
+      ok : (result : Result T E) → OnOk result (t3 ≡ t2 ++ c) → OnOk result (t3 ≡ t0 ++ (a ++ b ++ c))
+      ok (Err e) three = tt
+      ok (Ok v) three = joined three
 
 -- the sum so far with one number more
 pub counted : {Y X : Type 0} (v : Y → X) (f : X → ℕ) (ys : List Y) (i n m : ℕ) (y : Y) → i < length ys → n ≡ told_number (sum_by f (take i (map v ys)))

@@ -1,11 +1,11 @@
 -- What is told of the half in use, and the figures of a store.
-use Rattle.std.specs.Prelude.{◌≡◌, ℕ, ◌+◌, min, List, [], ◌∷◌, ◌++◌, length, codes, decimal, Option, None, Some}
+use Rattle.std.specs.Prelude.{◌≡◌, ℕ, min, List, [], ◌∷◌, ◌++◌, length, codes, decimal, Option, None, Some}
 use Rattle.std.specs.List.{sum_by}
 use Rattle.disk_trait.specs.Disk.{Image}
 use Rattle.disk_trait.specs.declared.half.Half.{Half}
 use Rattle.disk_trait.specs.declared.half.Half.TheVariants.{A, B}
-use Rattle.gate_log.specs.Layout.{Contents, half_size}
-use Rattle.gate_log.specs.Log.{FilesMean, Holds, generation_in, records_in, size_in, version_in}
+use Rattle.gate_log.specs.Layout.{Contents}
+use Rattle.gate_log.specs.Log.{FilesMean, Holds, first_size_in, generation_in, records_in, size_in, version_in}
 use Rattle.log_look.specs.declared.host.Figures.{Figures}
 use Rattle.package_table.specs.Readers.{own_names, package_names}
 use Rattle.package_table.specs.Table.{Table}
@@ -24,6 +24,7 @@ pub record AreFiguresOf (image : Image) (figures : HalfFigures) : Type 0 where
   pub generation : figures.generation ≡ generation_in contents
   pub records : figures.records ≡ records_in contents
   pub bytes : figures.bytes ≡ size_in contents
+  pub first_bytes : figures.first_bytes ≡ first_size_in contents
 
 -- ---- the figures of a store, a line each
 
@@ -60,14 +61,13 @@ counts_in world = record {
   properties = told_number (property_count world);
 }
 
--- of the half in use
+-- of the half in use: its records, and the bytes with and before them
+abbrev pub sizes_text : HalfFigures → List ℕ
+sizes_text half = figure (codes "records") half.records ++ figure (codes "bytes") half.bytes ++ figure (codes "first-bytes") half.first_bytes
+
 abbrev pub half_text : HalfFigures → List ℕ
 half_text half =
-    half_line half.half
-    ++ figure (codes "version") half.version
-    ++ figure (codes "generation") half.generation
-    ++ figure (codes "records") half.records
-    ++ figure (codes "bytes") half.bytes
+    half_line half.half ++ figure (codes "version") half.version ++ figure (codes "generation") half.generation ++ sizes_text half
 
 -- of the world
 abbrev pub counts_text : Counts → List ℕ

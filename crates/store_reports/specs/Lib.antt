@@ -2,3 +2,4 @@ pub mod Backup
 pub mod Escaped
 pub mod Figures
 pub mod Log
+pub mod Shown

@@ -1,5 +1,5 @@
 -- The records of the half in use, a line each.
-use Rattle.std.specs.Prelude.{◌≡◌, ℕ, ◌+◌, Bool, if◌then◌else◌, List, [], ◌∷◌, ◌++◌, codes, decimal, nat_eq, nat_le, Option, Some}
+use Rattle.std.specs.Prelude.{◌≡◌, ℕ, ◌+◌, Bool, if◌then◌else◌, List, [], ◌∷◌, ◌++◌, codes, decimal, nat_eq, nat_le, Some}
 use Rattle.disk_trait.specs.Disk.{Image}
 use Rattle.gate_log.specs.Layout.{Contents, LogRecord}
 use Rattle.gate_log.specs.Log.{FilesMean}

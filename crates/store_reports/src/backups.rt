@@ -1,8 +1,8 @@
 //! A new store with the world of another one.
-ghost use Rattle.std.specs.Prelude.{◌≡◌, ◌-◌, ◌^◌, ◌<◌, IfOk, None, Some};
+ghost use Rattle.std.specs.Prelude.{◌≡◌, ◌-◌, ◌^◌, ◌<◌, IfErr, IfOk, None, Some};
 ghost use Rattle.disk_trait.specs.Disk.{IsHonest};
 ghost use Rattle.gate_log.specs.Log.{FilesMean};
-ghost use Rattle.store_reports.specs.Backup.{HoldsWorld};
+ghost use Rattle.store_reports.specs.Backup.{HoldsWorld, LeavesDisk};
 
 use disk_trait::{Disk, HostDisk, HostError, IfMissing};
 use gate_log::{Halves, OpenRefusal, ReadError, StartError, shown_is_meant};
@@ -26,7 +26,7 @@ pub enum BackupError {
     #[error("there is something of this name already; a backup is made in a new folder")]
     Exists,
     /// There is the folder of a backup to that place which was not finished, with this name: it was stopped, or is under way.
-    #[error("{0} is there already, as a backup leaves it that was stopped; take it away first")]
+    #[error("{0} is there already: a backup to this place was stopped, or is under way; if none is, take it away with rm -r")]
     Unfinished(String),
     /// The files were not made.
     #[error("{0}")]
@@ -49,7 +49,10 @@ pub struct NotBegun<D> {
 }
 
 impl<D> NotBegun<D> {
-    fn new(error: BackupError, disk: D) -> NotBegun<D> {
+    fn new(error: BackupError, disk: D) -> NotBegun<D>
+        ensures error { result.error ≡ error }
+        ensures disk { result.disk ≡ disk }
+    {
         NotBegun { error, disk }
     }
 }
@@ -128,6 +131,8 @@ pub fn backup_onto<D: Disk>(
     requires { (D.state disk).failures < 2 ^ 64 - 1 }
     ensures holds { IfOk result (λ back. IsHonest (D.state disk)
         → HoldsWorld world.now.0 (D.state back)) }
+    ensures left { IfErr result (λ refused. IsHonest (D.state disk)
+        → LeavesDisk refused.error (D.state disk) (D.state refused.disk)) }
 {
     shown_is_meant();
     let text = match write(alloc, world) {
@@ -159,8 +164,8 @@ pub fn backup_onto<D: Disk>(
 ///
 /// # Errors
 ///
-/// `Exists` where something is at `dir`, and `Unfinished` where something is beside it: none of that is touched. `Host` with the cause where a call of the system failed. `Refused` with its number. `Differs`
-/// where what was opened again has another text.
+/// `Exists` where something is at `dir`, and `Unfinished` where something is beside it: none of that is touched. `Host` with the cause
+/// where a call of the system failed. `Refused` with its number. `Differs` where what was opened again has another text.
 pub fn backup<R: Files<File = File> + AllocGlobal>(
     rt: &R,
     world: &World,

@@ -3,7 +3,7 @@ ghost use Rattle.std.specs.Prelude.{◌≡◌, ◌+◌, ◌-◌, ◌^◌, ◌<�
 ghost use Rattle.log_look.specs.Cut.{IsUnopened};
 ghost use Rattle.package_table.specs.Readers.{package_names};
 ghost use Rattle.plist_state.specs.Readers.{borrowed_symbols, symbols_with_properties};
-ghost use Rattle.store_reports.specs.Figures.{AreFiguresOf, counts_in, files_text, half_line, half_text, info_text, known_figure, property_count, symbol_count, told_number, world_text};
+ghost use Rattle.store_reports.specs.Figures.{AreFiguresOf, counts_in, files_text, half_line, half_text, info_text, sizes_text, known_figure, property_count, symbol_count, told_number, world_text};
 
 use crate::numbers::push_figure;
 use disk_trait::{Disk, Half};
@@ -21,6 +21,8 @@ pub struct HalfFigures {
     pub records: u64,
     /// The bytes up to its closed gate, and that: so many the next opening reads.
     pub bytes: u64,
+    /// The bytes that it had before its first record.
+    pub first_bytes: u64,
 }
 
 /// What is told of the half in use of what was seen, and the sight as it was. Where no half is open it is half A, and its numbers are 0.
@@ -42,6 +44,7 @@ pub fn half_figures(alloc: Global, sight: Sight) -> Result<(HalfFigures, Sight),
         generation: log.generation(),
         records: log.record_count(),
         bytes: log.size(),
+        first_bytes: log.first_size(),
     };
     Ok((figures, log.into_disk()))
 }
@@ -118,8 +121,15 @@ fn push_half(alloc: Global, text: &mut Vec<u8>, half: &HalfFigures) -> Result<()
     push_letter(text, half.half)?;
     push_figure(alloc, text, b"version", half.version as u64)?;
     push_figure(alloc, text, b"generation", half.generation)?;
+    push_sizes(alloc, text, half)
+}
+
+fn push_sizes(alloc: Global, text: &mut Vec<u8>, half: &HalfFigures) -> Result<(), AllocError>
+    ensures { OnOk result (text.new.items ≡ text.old.items ++ sizes_text half.now) }
+{
     push_figure(alloc, text, b"records", half.records)?;
-    push_figure(alloc, text, b"bytes", half.bytes)
+    push_figure(alloc, text, b"bytes", half.bytes)?;
+    push_figure(alloc, text, b"first-bytes", half.first_bytes)
 }
 
 // How much is in a world.

@@ -1,4 +1,6 @@
 //! Which properties are asked for, and how they are written.
+ghost use Rattle.std.specs.Prelude.{◌≡◌};
+ghost use Rattle.store_reports.specs.Shown.{begins_with, has_part, is_named, takes_symbol};
 
 /// How properties are written.
 #[derive(Clone, Copy, Debug, PartialEq, Eq)]
@@ -23,46 +25,54 @@ pub struct Selection<'a> {
 }
 
 // Whether a name is the one that is asked for, if one is.
-fn is_named(wanted: Option<&[u8]>, name: &[u8]) -> bool {
+fn is_named(wanted: Option<&[u8]>, name: &[u8]) -> bool
+    ensures { result ≡ is_named wanted.entry name.now }
+{
     match wanted {
         Some(wanted) => wanted == name,
         None => true,
     }
 }
 
-// Whether two texts of one length are the same but for the case of their letters.
-fn is_same_but_case(text: &[u8], other: &[u8]) -> bool {
-    text.iter()
-        .zip(other)
-        .all(|(one, another)| one.eq_ignore_ascii_case(another))
+// Whether a text begins with a part, in upper or lower case.
+fn begins_with(part: &[u8], text: &[u8]) -> bool
+    ensures { result ≡ begins_with part.now text.now }
+{
+    let front = &text[..part.len().min(text.len())];
+    front.eq_ignore_ascii_case(part)
 }
 
-// Whether a text has another in it, in upper or lower case.
-fn is_in(part: &[u8], text: &[u8]) -> bool {
-    if part.len() > text.len() {
-        return false;
+// Whether a text has a part in it, in upper or lower case.
+fn has_part(part: &[u8], text: &[u8]) -> bool
+    ensures { result ≡ has_part part.now text.now }
+{
+    let mut rest = text;
+    while !begins_with(part, rest) {
+        let [_, after @ ..] = rest else {
+            return false;
+        };
+        rest = after;
     }
-    let last = text.len() - part.len();
-    'places: for at in 0..=last {
-        if is_same_but_case(&text[at..at + part.len()], part) {
-            return true;
-        }
-    }
-    false
+    true
 }
 
 impl Selection<'_> {
     /// Whether properties of this symbol are asked for.
-    pub(crate) fn takes_symbol(&self, home: &[u8], name: &[u8]) -> bool {
+    #[tactic(auto, unfolding(crate::specs::Shown::takes_symbol))]
+    pub(crate) fn takes_symbol(&self, home: &[u8], name: &[u8]) -> bool
+        ensures { result ≡ takes_symbol self.now (home.now, name.now) }
+    {
         is_named(self.package, home)
             && match self.like {
-                Some(part) => is_in(part, name),
+                Some(part) => has_part(part, name),
                 None => true,
             }
     }
 
     /// Whether properties of an indicator of this name are.
-    pub(crate) fn takes_indicator(&self, name: &[u8]) -> bool {
+    pub(crate) fn takes_indicator(&self, name: &[u8]) -> bool
+        ensures { result ≡ is_named self.now.indicator name.now }
+    {
         is_named(self.indicator, name)
     }
 }

@@ -1,6 +1,11 @@
 //! Properties of a world.
-ghost use Rattle.std.specs.Prelude.{◌≡◌, true};
+ghost use Rattle.std.specs.Prelude.{◌≡◌, ◌++◌, true, IfErr, IfOk, OnOk};
+ghost use Rattle.std.specs.List.{flat_map};
 ghost use Rattle.lisp_object.specs.Datum.{is_proper};
+ghost use Rattle.plist_state.specs.Readers.{borrowed_symbols};
+ghost use Rattle.plist_state.specs.Shown.{property_of};
+ghost use Rattle.store_reports.specs.Shown.{has_wanted, property_text, shown_list, shown_property, shown_symbol, shown_text, IsShown, GivesSome, IsUnshown};
+ghost use Rattle.store_reports.specs.declared.showing.ShowError.TheVariants as showing;
 
 use crate::escaped::push_escaped;
 use crate::selection::{Layout, Selection};
@@ -8,7 +13,7 @@ use canon_printer::print;
 use lisp_object::{Bytes, Datum};
 use package_table::Packages;
 use package_table::standardized::COMMON_LISP_USER;
-use plist_state::{Property, World};
+use plist_state::{Property, PropertyList, World};
 use std::alloc::{AllocError, Global};
 use thiserror::Error;
 
@@ -27,6 +32,8 @@ pub enum ShowError {
 }
 
 impl From<AllocError> for ShowError {
+    ghost from_gives = { λ _ e. e ≡ showing.OutOfMemory };
+
     fn from(_error: AllocError) -> ShowError {
         ShowError::OutOfMemory
     }
@@ -39,27 +46,75 @@ impl From<AllocError> for ShowError {
 ///
 /// `NoPackage` where a package is asked for that there is not; `NoIndicator` where an indicator is asked for that none of the
 /// properties has. Out of memory.
-pub fn show(alloc: Global, world: &World, selection: &Selection<'_>) -> Result<Vec<u8>, ShowError> {
-    if let Some(package) = selection.package
-        && !world.packages().has_package(package)
-    {
+pub fn show(alloc: Global, world: &World, selection: &Selection<'_>) -> Result<Vec<u8>, ShowError>
+    ensures shown { IfOk result (λ text. IsShown selection.now world.now.0 text.items) }
+    ensures refused { IfErr result (IsUnshown selection.now world.now.0) }
+{
+    if !has_wanted(world, selection) {
         return Err(ShowError::NoPackage);
     }
-    let mut text = Vec::new(alloc);
-    let symbols = world.owners(alloc)?;
-    for symbol in symbols.as_slice() {
-        let (home, name) = symbol;
-        if selection.takes_symbol(home, name) {
-            push_list(alloc, &mut text, world, selection, home, name)?;
-        }
+    let text = shown_text(alloc, world, selection)?;
+    if selection.indicator.is_some() {
+        return some_text(text);
     }
-    if selection.indicator.is_some() && text.is_empty() {
+    Ok(text)
+}
+
+// The text of some properties.
+fn some_text(text: Vec<u8>) -> Result<Vec<u8>, ShowError>
+    ensures { GivesSome text.items result }
+{
+    if text.is_empty() {
         return Err(ShowError::NoIndicator);
     }
     Ok(text)
 }
 
+// The properties that are asked for.
+#[tactic(auto, unfolding(crate::specs::Shown::shown_text))]
+fn shown_text(
+    alloc: Global,
+    world: &World,
+    selection: &Selection<'_>,
+) -> Result<Vec<u8>, AllocError>
+    ensures { IfOk result (λ text. text.items ≡ shown_text selection.now world.now.0) }
+{
+    let mut text = Vec::new(alloc);
+    let symbols = world.owners(alloc)?;
+    push_lists(alloc, &mut text, world, selection, symbols.as_slice())?;
+    Ok(text)
+}
+
+// Whether the package that is asked for is there, if one is.
+fn has_wanted(world: &World, selection: &Selection<'_>) -> bool
+    ensures { result ≡ has_wanted selection.now world.now.0 }
+{
+    match selection.package {
+        Some(package) => world.packages().has_package(package),
+        None => true,
+    }
+}
+
+// Adds those properties of these symbols that are asked for.
+fn push_lists(
+    alloc: Global,
+    text: &mut Vec<u8>,
+    world: &World,
+    selection: &Selection<'_>,
+    symbols: &[(&[u8], &[u8])],
+) -> Result<(), AllocError>
+    ensures { OnOk result (text.new.items
+        ≡ text.old.items ++ flat_map (shown_list selection.now world.now.0) (borrowed_symbols symbols.now)) }
+{
+    for symbol in symbols {
+        let (home, name) = *symbol;
+        push_list(alloc, text, world, selection, home, name)?;
+    }
+    Ok(())
+}
+
 // Adds those properties of a symbol that are asked for.
+#[tactic(auto, unfolding(crate::specs::Shown::shown_list))]
 fn push_list(
     alloc: Global,
     text: &mut Vec<u8>,
@@ -67,51 +122,100 @@ fn push_list(
     selection: &Selection<'_>,
     home: &[u8],
     name: &[u8],
-) -> Result<(), AllocError> {
+) -> Result<(), AllocError>
+    ensures { OnOk result (text.new.items
+        ≡ text.old.items ++ shown_list selection.now world.now.0 (home.now, name.now)) }
+{
+    if !selection.takes_symbol(home, name) {
+        return Ok(());
+    }
     let symbol = symbol_text(alloc, world.packages(), home, name)?;
     let properties = world.plist_of(home, name);
+    push_properties(
+        alloc,
+        text,
+        world.packages(),
+        selection,
+        symbol.as_slice(),
+        &properties,
+    )
+}
+
+// Adds those of these properties that are asked for, of the symbol of this text.
+fn push_properties(
+    alloc: Global,
+    text: &mut Vec<u8>,
+    packages: &Packages,
+    selection: &Selection<'_>,
+    symbol: &[u8],
+    properties: &PropertyList<'_>,
+) -> Result<(), AllocError>
+    ensures { OnOk result (text.new.items ≡ text.old.items
+        ++ flat_map (shown_property selection.now packages.now.0 symbol.now) properties.now) }
+{
     for index in 0..properties.len() {
         let property = properties.at(index);
-        if selection.takes_indicator(property.name) {
-            push_property(
-                alloc,
-                text,
-                world.packages(),
-                selection.layout,
-                symbol.as_slice(),
-                &property,
-            )?;
-        }
+        push_wanted(alloc, text, packages, selection, symbol, &property)?;
     }
     Ok(())
 }
 
-// Adds a property of the symbol of this text.
-fn push_property(
+// Adds a property of the symbol of this text, if it is asked for.
+#[tactic(auto, unfolding(crate::specs::Shown::shown_property))]
+fn push_wanted(
     alloc: Global,
     text: &mut Vec<u8>,
     packages: &Packages,
-    layout: Layout,
+    selection: &Selection<'_>,
     symbol: &[u8],
     property: &Property<'_>,
 ) -> Result<(), AllocError>
     requires { is_proper property.now.value.now ≡ true }
+    ensures { OnOk result (text.new.items ≡ text.old.items
+        ++ shown_property selection.now packages.now.0 symbol.now (property_of property.now)) }
 {
+    if !selection.takes_indicator(property.name) {
+        return Ok(());
+    }
     packages.soundness();
     let indicator = symbol_text(alloc, packages, property.home, property.name)?;
     let value = print(alloc, property.value, packages, COMMON_LISP_USER)?;
+    push_property(
+        text,
+        selection.layout,
+        symbol,
+        indicator.as_slice(),
+        value.as_slice(),
+    )
+}
+
+// Adds a property, by the texts of its symbol, its indicator and its value.
+fn push_property(
+    text: &mut Vec<u8>,
+    layout: Layout,
+    symbol: &[u8],
+    indicator: &[u8],
+    value: &[u8],
+) -> Result<(), AllocError>
+    ensures { OnOk result (text.new.items
+        ≡ text.old.items ++ property_text layout symbol.now indicator.now value.now) }
+{
     match layout {
-        Layout::Lines => push_line(text, symbol, indicator.as_slice(), value.as_slice()),
-        Layout::Forms => push_form(text, symbol, indicator.as_slice(), value.as_slice()),
+        Layout::Lines => push_line(text, symbol, indicator, value),
+        Layout::Forms => push_form(text, symbol, indicator, value),
     }
 }
 
+#[tactic(auto, unfolding(crate::specs::Shown::property_text))]
 fn push_line(
     text: &mut Vec<u8>,
     symbol: &[u8],
     indicator: &[u8],
     value: &[u8],
-) -> Result<(), AllocError> {
+) -> Result<(), AllocError>
+    ensures { OnOk result (text.new.items
+        ≡ text.old.items ++ property_text Layout.Lines symbol.now indicator.now value.now) }
+{
     push_escaped(text, symbol)?;
     text.push(b' ')?;
     push_escaped(text, indicator)?;
@@ -121,12 +225,16 @@ fn push_line(
     Ok(())
 }
 
+#[tactic(auto, unfolding(crate::specs::Shown::property_text))]
 fn push_form(
     text: &mut Vec<u8>,
     symbol: &[u8],
     indicator: &[u8],
     value: &[u8],
-) -> Result<(), AllocError> {
+) -> Result<(), AllocError>
+    ensures { OnOk result (text.new.items
+        ≡ text.old.items ++ property_text Layout.Forms symbol.now indicator.now value.now) }
+{
     text.extend_from_slice(b"(SETF (GET '")?;
     text.extend_from_slice(symbol)?;
     text.extend_from_slice(b" '")?;
@@ -138,12 +246,15 @@ fn push_form(
 }
 
 // The text of a symbol in COMMON-LISP-USER. The names of a world are bytes below 128; of others nothing is written.
+#[tactic(auto, unfolding(crate::specs::Shown::shown_symbol))]
 fn symbol_text(
     alloc: Global,
     packages: &Packages,
     home: &[u8],
     name: &[u8],
-) -> Result<Vec<u8>, AllocError> {
+) -> Result<Vec<u8>, AllocError>
+    ensures { IfOk result (λ text. text.items ≡ shown_symbol packages.now.0 (home.now, name.now)) }
+{
     packages.soundness();
     let package = Bytes::from_slice(alloc, home)?;
     let name = Bytes::from_slice(alloc, name)?;

@@ -1,5 +1,5 @@
 // The answer to a form, and to a refusal of the reader.
-ghost use Rattle.std.specs.Prelude.{◌≡◌, Result, ◌≤◌, ◌<◌, ◌+◌, ◌^◌, ℕ, List, Some, IsSome, IfOk, IfErr, OnOk, true};
+ghost use Rattle.std.specs.Prelude.{◌≡◌, Result, ◌≤◌, ◌<◌, ◌+◌, ◌^◌, ℕ, List, Some, IsSome, IfOk, IfErr, OnOk, OnErr, true};
 ghost use Rattle.form_eval.specs.Laws.{MayEvaluate};
 ghost use Rattle.lisp_object.specs.Datum.{object_of};
 ghost use Rattle.lisp_object.specs.declared.refusal.TheConstants.{LOG_FULL};
@@ -10,11 +10,13 @@ ghost use Rattle.prevalence_store.specs.steps.Answer.{AnswersFault, AnswersForm,
 ghost use Rattle.prevalence_store.specs.steps.Batch.{IsMarkedFirst};
 ghost use Rattle.prevalence_store.specs.steps.Course.{course_of};
 ghost use Rattle.prevalence_store.specs.steps.Schedule.{pace_of};
+ghost use Rattle.prevalence_store.specs.steps.Standing.{AcknowledgesNone, HandsOn, StandsAtForm, StandsAtRefusal};
 
 use crate::batch::Batch;
 use crate::failure::Failure;
 use crate::mode::Mode;
 use crate::outcome::{Ended, Ending, Wanted};
+use crate::recipient::Recipient;
 use crate::session::course::Course;
 use crate::session::input::PlacedForm;
 use crate::session::output::{line_of_refusal, line_of_value};
@@ -25,7 +27,6 @@ use form_eval::ReadForm;
 use lisp_object::refusal::{LOG_FULL, NO_MEMORY, OUTPUT};
 use plist_state::World;
 use std::alloc::AllocError;
-use std::io::Write;
 use user_macros::MacroFunctions;
 
 /// What became of a form that was answered.
@@ -68,14 +69,23 @@ impl Answered {
 
 impl<D: Disk, R: MacroFunctions> Store<D, R> {
     // Answers a refusal of the reader, and ends the session.
-    pub(crate) fn answer_fault<W: Write>(&mut self, writer: &mut W, number: u16) -> Ending
+    pub(crate) fn answer_fault<W: Recipient<D, R>>(
+        &mut self,
+        writer: &mut W,
+        mode: Mode,
+        number: u16,
+    ) -> Ending
+        requires is_open { IsSome self.old.world }
+        requires stands { StandsAtRefusal R.Meaning.functions D.state (W.account writer.old) self.old mode number }
         ensures answers { AnswersFault number (W.contents writer.old) (W.contents writer.new) result }
+        ensures under_way { AcknowledgesNone R.Meaning.functions D.state (W.account writer.new) self.new }
         ensures same { self.new ≡ self.old }
     {
         let Ok(line) = line_of_refusal(self.alloc, number) else {
             return Ending::Store(NO_MEMORY);
         };
-        match self.write_lines(writer, line.as_slice()) {
+        self.keeps_its_world();
+        match writer.write_lines(self, line.as_slice(), 0) {
             Ok(()) => Ending::Reader(number),
             Err(_) => Ending::Store(OUTPUT),
         }
@@ -83,7 +93,7 @@ impl<D: Disk, R: MacroFunctions> Store<D, R> {
 
     // Answers a form that was read, and passes over its bytes. Gives how the session has ended, if it has: in a fault, or, if it
     // is strict, as the form was refused.
-    pub(crate) fn answer_read<W: Write>(
+    pub(crate) fn answer_read<W: Recipient<D, R>>(
         &mut self,
         writer: &mut W,
         wanted: Wanted,
@@ -91,6 +101,8 @@ impl<D: Disk, R: MacroFunctions> Store<D, R> {
         form: &PlacedForm,
     ) -> Result<(), Ended>
         requires form { IsFormOf R.Meaning.functions self.old.world wanted.mode form.now.read form.now.own.items }
+        requires stands { StandsAtForm R.Meaning.functions D.state (W.account writer.old) self.old
+            wanted.mode (object_of form.now.read.datum) form.now.own.items }
         requires order { form.now.start < form.now.next }
         requires forms { (course_of course.old).forms ≤ (course_of course.old).bytes }
         requires room { (course_of course.old).bytes + form.now.next < 2 ^ 63 }
@@ -99,6 +111,9 @@ impl<D: Disk, R: MacroFunctions> Store<D, R> {
             → begins.start ≡ form.now.start
             → AnswersRead R.Meaning.functions D.state (course_of course.old) (course_of course.new) self.old self.new w wanted
             text (W.contents writer.old) (W.contents writer.new) form.now.start form.now.next result }
+        ensures hands { OnOk result (HandsOn R.Meaning.functions D.state (course_of course.old).forms (course_of course.new).forms
+            (W.account writer.old) (W.account writer.new) self.new) }
+        ensures under_way { OnErr result (AcknowledgesNone R.Meaning.functions D.state (W.account writer.new) self.new) }
         ensures forms { (course_of course.new).forms ≤ (course_of course.new).bytes }
         ensures bytes { (course_of course.new).bytes ≤ (course_of course.old).bytes + form.now.next }
         ensures honest { (D.state self.new.disk).honest ≡ (D.state self.old.disk).honest }
@@ -123,7 +138,7 @@ impl<D: Disk, R: MacroFunctions> Store<D, R> {
 
     // Answers a form that was read, and takes a snapshot if one is due after it. Gives what became of it, or the number of the
     // fault that ends the session in it.
-    pub(crate) fn answer_form<W: Write>(
+    pub(crate) fn answer_form<W: Recipient<D, R>>(
         &mut self,
         writer: &mut W,
         mode: Mode,
@@ -132,10 +147,14 @@ impl<D: Disk, R: MacroFunctions> Store<D, R> {
         own: &[u8],
     ) -> Result<Answered, u16>
         requires form { IsFormOf R.Meaning.functions self.old.world mode form.now own.now }
+        requires stands { StandsAtForm R.Meaning.functions D.state (W.account writer.old) self.old
+            mode (object_of form.now.datum) own.now }
         ensures answers { (w : WorldState) → self.old.world ≡ Some w → (text : List ℕ) (next : ℕ)
             → BeginsWith R.Meaning.functions w mode text (object_of form.now.datum) own.now next
             → AnswersForm R.Meaning.functions D.state self.old self.new w mode (pace_of schedule.old) (pace_of schedule.new)
             text (W.contents writer.old) (W.contents writer.new) result }
+        ensures hands { OnOk result (HandsOn R.Meaning.functions D.state 0 1 (W.account writer.old) (W.account writer.new) self.new) }
+        ensures under_way { OnErr result (AcknowledgesNone R.Meaning.functions D.state (W.account writer.new) self.new) }
         ensures honest { (D.state self.new.disk).honest ≡ (D.state self.old.disk).honest }
         ensures macros { self.new.macros ≡ self.old.macros }
     {
@@ -150,7 +169,7 @@ impl<D: Disk, R: MacroFunctions> Store<D, R> {
 
     // Answers a form that was read. If the half has no room for it, it takes a snapshot, and tries once more. Gives what
     // became of the form, or the number of the fault that ends the session in it.
-    fn fit_form<W: Write>(
+    fn fit_form<W: Recipient<D, R>>(
         &mut self,
         writer: &mut W,
         mode: Mode,
@@ -158,11 +177,15 @@ impl<D: Disk, R: MacroFunctions> Store<D, R> {
         own: &[u8],
     ) -> Result<Answered, u16>
         requires form { IsFormOf R.Meaning.functions self.old.world mode form.now own.now }
+        requires stands { StandsAtForm R.Meaning.functions D.state (W.account writer.old) self.old
+            mode (object_of form.now.datum) own.now }
         ensures fits { (w : WorldState) → self.old.world ≡ Some w → (text : List ℕ) (next : ℕ)
             → BeginsWith R.Meaning.functions w mode text (object_of form.now.datum) own.now next
             → FitsForm R.Meaning.functions D.state self.old self.new w mode
             text (W.contents writer.old) (W.contents writer.new) result }
         ensures is_open { OnOk result (IsSome self.new.world) }
+        ensures hands { OnOk result (HandsOn R.Meaning.functions D.state 0 1 (W.account writer.old) (W.account writer.new) self.new) }
+        ensures under_way { OnErr result (AcknowledgesNone R.Meaning.functions D.state (W.account writer.new) self.new) }
         ensures honest { (D.state self.new.disk).honest ≡ (D.state self.old.disk).honest }
         ensures macros { self.new.macros ≡ self.old.macros }
     {
@@ -183,7 +206,7 @@ impl<D: Disk, R: MacroFunctions> Store<D, R> {
 
     // Evaluates a form that was read, logs it if it writes, and answers it. Gives what became of it, or the number of the
     // fault that ends the session in it; with 64 nothing was done.
-    fn try_form<W: Write>(
+    fn try_form<W: Recipient<D, R>>(
         &mut self,
         writer: &mut W,
         mode: Mode,
@@ -191,25 +214,28 @@ impl<D: Disk, R: MacroFunctions> Store<D, R> {
         own: &[u8],
     ) -> Result<Answered, u16>
         requires form { IsFormOf R.Meaning.functions self.old.world mode form.now own.now }
+        requires stands { StandsAtForm R.Meaning.functions D.state (W.account writer.old) self.old
+            mode (object_of form.now.datum) own.now }
         ensures tries { (w : WorldState) → self.old.world ≡ Some w → (text : List ℕ) (next : ℕ)
             → BeginsWith R.Meaning.functions w mode text (object_of form.now.datum) own.now next
             → TriesForm R.Meaning.functions D.state self.old self.new w mode
             text (W.contents writer.old) (W.contents writer.new) result }
         ensures unchanged { IfErr result (λ number. number ≡ LOG_FULL → self.new ≡ self.old) }
-        ensures quiet { IfErr result (λ number. number ≡ LOG_FULL
-            → W.contents writer.new ≡ W.contents writer.old) }
+        ensures quiet { IfErr result (λ number. number ≡ LOG_FULL → writer.new ≡ writer.old) }
         ensures is_open { OnOk result (IsSome self.new.world) }
+        ensures hands { OnOk result (HandsOn R.Meaning.functions D.state 0 1 (W.account writer.old) (W.account writer.new) self.new) }
+        ensures under_way { OnErr result (AcknowledgesNone R.Meaning.functions D.state (W.account writer.new) self.new) }
         ensures honest { (D.state self.new.disk).honest ≡ (D.state self.old.disk).honest }
         ensures macros { self.new.macros ≡ self.old.macros }
     {
         self.world.soundness();
-        self.keeps_its_world();
         let reply = match self.take_reply(mode, form, own) {
             Ok(reply) => reply,
             Err(failure) => return Err(failure.number()),
         };
+        self.keeps_its_world();
         // what is answered is stored: a line comes after its record
-        match self.write_lines(writer, reply.line.as_slice()) {
+        match writer.write_lines(self, reply.line.as_slice(), 1) {
             Ok(()) => Ok(reply.answered),
             Err(_) => Err(OUTPUT),
         }

@@ -3,24 +3,17 @@ ghost use Rattle.std.specs.Prelude.{◌≡◌, OnOk, OnErr, IfOk, true};
 ghost use Rattle.lisp_object.specs.Datum.{object_of, is_proper};
 ghost use Rattle.prevalence_store.specs.meaning.Answers.{refusal_line, value_line};
 ghost use Rattle.prevalence_store.specs.calls.Streams.{Writes, WritesPart};
-ghost use Rattle.prevalence_store.specs.steps.Writing.{MayBeWritten};
 
-use crate::store::Store;
+use crate::recipient::OutputFault;
 use canon_printer::print;
-use disk_trait::Disk;
 use form_eval::Evaluated;
 use lisp_object::refusal::name_of;
 use plist_state::World;
 use std::alloc::{AllocError, Global};
 use std::io::Write;
-use user_macros::MacroFunctions;
 
-/// A write failed, or took nothing.
-#[derive(Clone, Copy)]
-pub(crate) struct OutputFault;
-
-// Writes the text whole, or a part of it from its front.
-fn write_text<W: Write>(writer: &mut W, text: &[u8]) -> Result<(), OutputFault>
+/// Writes the text whole, or a part of it from its front.
+pub(crate) fn write_text<W: Write>(writer: &mut W, text: &[u8]) -> Result<(), OutputFault>
     ensures whole { OnOk result (Writes (W.contents writer.old) (W.contents writer.new) text.now) }
     ensures part { OnErr result
         (WritesPart (W.contents writer.old) (W.contents writer.new) text.now) }
@@ -36,27 +29,6 @@ fn write_text<W: Write>(writer: &mut W, text: &[u8]) -> Result<(), OutputFault>
         rest = &rest[count..];
     }
     Ok(())
-}
-
-impl<D: Disk, R: MacroFunctions> Store<D, R> {
-    /// Writes the lines of forms whole, or a part of them from their front, and flushes what was written whole. All that a
-    /// session writes goes out here. It asks that whatever a crash leaves now means the world after all forms whose lines these
-    /// are; the line of a refusal acknowledges none. It does not touch the disk.
-    pub(crate) fn write_lines<W: Write>(
-        &self,
-        writer: &mut W,
-        lines: &[u8],
-    ) -> Result<(), OutputFault>
-        requires stored { MayBeWritten R.Meaning.functions (D.state self.now.disk) lines.now }
-        ensures whole { OnOk result (Writes (W.contents writer.old) (W.contents writer.new) lines.now) }
-        ensures part { OnErr result
-            (WritesPart (W.contents writer.old) (W.contents writer.new) lines.now) }
-    {
-        write_text(writer, lines)?;
-        // the lines were taken, so a flush that fails ends no session
-        let _flushed = writer.flush();
-        Ok(())
-    }
 }
 
 /// The line that answers a form which was accepted: its value, as it is printed in the world after the form.

@@ -1,19 +1,22 @@
 // A session: forms from a reader, answers to a writer.
-ghost use Rattle.std.specs.Prelude.{◌≡◌, ◌≤◌, ◌<◌, ◌+◌, ◌^◌, ℕ, List, ◌++◌, None, Some, IfOk, true, false, cond, length, take};
+ghost use Rattle.std.specs.Prelude.{◌≡◌, ◌≤◌, ◌<◌, ◌+◌, ◌^◌, ℕ, List, [], ◌++◌, None, Some, IfOk, OnOk, OnErr, IsSome, true, false, cond, length, take};
 ghost use Rattle.std.specs.Io.{ReadsAtMost};
 ghost use Rattle.std.specs.Io.KnownBytes.{ReadConsumes};
 ghost use Rattle.lisp_object.specs.declared.refusal.TheConstants.{REOPEN};
 ghost use Rattle.plist_state.specs.State.{WorldState};
 ghost use Rattle.form_reader.specs.Reader.{fed};
+ghost use Rattle.prevalence_store.specs.calls.Account.{Account, AreUnderWay, first_account};
 ghost use Rattle.prevalence_store.specs.calls.Pace.{first_pace};
 ghost use Rattle.prevalence_store.specs.calls.Serve.{ServesInput, ServesWanted};
 ghost use Rattle.prevalence_store.specs.steps.Input.{AreAllThere, AwaitsMore, IsPending, IsSoundFed, IsWithin, Feeds, FeedsPart, Finishes};
 ghost use Rattle.prevalence_store.specs.steps.Course.{course_of};
 ghost use Rattle.prevalence_store.specs.steps.Serve.{Answers, ComesTo, EndsAt, MovesOn};
+ghost use Rattle.prevalence_store.specs.steps.Standing.{AcknowledgesNone, HandsOn, StandsInPiece};
 ghost use Rattle.user_macros.specs.Functions.{are_registered};
 
 use crate::mode::Mode;
 use crate::outcome::{Ended, Ending, Wanted};
+use crate::recipient::Recipient;
 use crate::session::course::Course;
 use crate::session::input::{Fed, FedPiece, Pending};
 use crate::session::together::Grouped;
@@ -22,7 +25,7 @@ use disk_trait::Disk;
 use lisp_object::refusal::{INPUT, NO_MEMORY, REOPEN};
 use std::alloc::AllocError;
 use std::io;
-use std::io::{Read, Write};
+use std::io::Read;
 use user_macros::MacroFunctions;
 
 /// The most reads of a session.
@@ -47,7 +50,7 @@ impl<D: Disk, R: MacroFunctions> Store<D, R> {
     /// the text of the world has no room for a record; 65 if a record has no room, and there is no half for a snapshot; 60
     /// if the device failed; 67 if a read failed, or after 2^40 reads; 68 if a write failed or took nothing; 90 if
     /// a growth was refused. Of these nothing is written.
-    pub fn serve<I: Read, W: Write>(
+    pub fn serve<I: Read, W: Recipient<D, R>>(
         &mut self,
         reader: &mut I,
         writer: &mut W,
@@ -56,12 +59,17 @@ impl<D: Disk, R: MacroFunctions> Store<D, R> {
     ) -> Ending
         requires answers { R.answers self.old.macros }
         requires whole { are_registered R.Meaning.functions (R.functions self.old.macros) ≡ true }
+        requires begins { (world : WorldState) → self.old.world ≡ Some world
+            → (kept : Account D) → W.account writer.old ≡ Some kept
+            → kept ≡ first_account world mode (I.remaining reader.old) self.old.disk }
         ensures reopen { self.old.world ≡ None
             → (result ≡ Ending.Store REOPEN) × (self.new ≡ self.old)
             × (reader.new ≡ reader.old) × (writer.new ≡ writer.old) }
         ensures serves { (world : WorldState) → self.old.world ≡ Some world
             → ServesInput R.Meaning.functions D.state false (first_pace snapshot_every 0) self.old self.new world mode
             (I.remaining reader.old) (I.remaining reader.new) (W.contents writer.old) (W.contents writer.new) result }
+        ensures under_way { IsSome self.old.world → (kept : Account D) → W.account writer.new ≡ Some kept
+            → AreUnderWay R.Meaning.functions D.state kept self.new }
         ensures honest { (D.state self.new.disk).honest ≡ (D.state self.old.disk).honest }
         ensures macros { self.new.macros ≡ self.old.macros }
     {
@@ -93,7 +101,7 @@ impl<D: Disk, R: MacroFunctions> Store<D, R> {
     /// form that is not whole or is refused by the reader, before one that is refused if the session is strict, before one for whose
     /// record the half has no room, before the form after which a snapshot may be due, and once 65,536 bytes of lines are held back. Where
     /// its first form cannot be in it, or memory runs out in it, that form is answered by itself.
-    pub fn serve_wanted<I: Read, W: Write>(
+    pub fn serve_wanted<I: Read, W: Recipient<D, R>>(
         &mut self,
         reader: &mut I,
         writer: &mut W,
@@ -101,18 +109,24 @@ impl<D: Disk, R: MacroFunctions> Store<D, R> {
     ) -> Ended
         requires answers { R.answers self.old.macros }
         requires whole { are_registered R.Meaning.functions (R.functions self.old.macros) ≡ true }
+        requires begins { (world : WorldState) → self.old.world ≡ Some world
+            → (kept : Account D) → W.account writer.old ≡ Some kept
+            → kept ≡ first_account world wanted.mode (I.remaining reader.old) self.old.disk }
         ensures reopen { self.old.world ≡ None
             → (result ≡ Ended.Store REOPEN) × (self.new ≡ self.old)
             × (reader.new ≡ reader.old) × (writer.new ≡ writer.old) }
         ensures serves { (world : WorldState) → self.old.world ≡ Some world
             → ServesWanted R.Meaning.functions D.state wanted self.old self.new world
             (I.remaining reader.old) (I.remaining reader.new) (W.contents writer.old) (W.contents writer.new) result }
+        ensures under_way { IsSome self.old.world → (kept : Account D) → W.account writer.new ≡ Some kept
+            → AreUnderWay R.Meaning.functions D.state kept self.new }
         ensures honest { (D.state self.new.disk).honest ≡ (D.state self.old.disk).honest }
         ensures macros { self.new.macros ≡ self.old.macros }
     {
         if !self.is_open() {
             return Ended::Store(REOPEN);
         }
+        self.keeps_its_world();
         let mut pending = Pending::new(self.alloc);
         let mut course = Course::new(wanted);
         let mut buffer = [0u8; 65536];
@@ -136,7 +150,7 @@ impl<D: Disk, R: MacroFunctions> Store<D, R> {
     }
 
     // Answers what these bytes decide, with those that are pending.
-    fn answer_piece<W: Write>(
+    fn answer_piece<W: Recipient<D, R>>(
         &mut self,
         pending: &mut Pending,
         writer: &mut W,
@@ -147,12 +161,19 @@ impl<D: Disk, R: MacroFunctions> Store<D, R> {
         requires answers { R.answers self.old.macros }
         requires whole { are_registered R.Meaning.functions (R.functions self.old.macros) ≡ true }
         requires pending { AwaitsMore R.Meaning.functions self.old.world wanted.mode pending.old }
+        requires stands { StandsInPiece R.Meaning.functions D.state (W.account writer.old) self.old
+            wanted.mode pending.old piece.now }
         requires forms { (course_of course.old).forms ≤ (course_of course.old).bytes }
         requires count { (course_of course.old).bytes + fed pending.old.reader + length piece.now < 2 ^ 63 }
         ensures answers { (w : WorldState) → self.old.world ≡ Some w → (bytes : List ℕ)
             → IsPending R.Meaning.functions w wanted.mode pending.old bytes
             → Answers R.Meaning.functions D.state wanted (course_of course.old) (course_of course.new) self.old self.new w wanted.mode
             (bytes ++ piece.now) (W.contents writer.old) (W.contents writer.new) pending.new result }
+        ensures hands { result ≡ None
+            → HandsOn R.Meaning.functions D.state (course_of course.old).forms (course_of course.new).forms
+            (W.account writer.old) (W.account writer.new) self.new }
+        ensures under_way { IsSome result
+            → AcknowledgesNone R.Meaning.functions D.state (W.account writer.new) self.new }
         ensures forms { (course_of course.new).forms ≤ (course_of course.new).bytes }
         ensures count { (course_of course.new).bytes + fed pending.new.reader
             ≤ (course_of course.old).bytes + fed pending.old.reader + length piece.now }
@@ -171,7 +192,7 @@ impl<D: Disk, R: MacroFunctions> Store<D, R> {
 
     // Feeds a piece up to the first byte that decides something, and answers the form that it ends. Gives how many bytes of the
     // piece are done with, or how the session has ended.
-    fn answer_next<W: Write>(
+    fn answer_next<W: Recipient<D, R>>(
         &mut self,
         pending: &mut Pending,
         writer: &mut W,
@@ -182,6 +203,8 @@ impl<D: Disk, R: MacroFunctions> Store<D, R> {
         requires answers { R.answers self.old.macros }
         requires whole { are_registered R.Meaning.functions (R.functions self.old.macros) ≡ true }
         requires pending { AwaitsMore R.Meaning.functions self.old.world wanted.mode pending.old }
+        requires stands { StandsInPiece R.Meaning.functions D.state (W.account writer.old) self.old
+            wanted.mode pending.old piece.now }
         requires some { 0 < length piece.now }
         requires forms { (course_of course.old).forms ≤ (course_of course.old).bytes }
         requires count { (course_of course.old).bytes + fed pending.old.reader + length piece.now < 2 ^ 63 }
@@ -191,6 +214,9 @@ impl<D: Disk, R: MacroFunctions> Store<D, R> {
             (bytes ++ piece.now) (W.contents writer.old) (W.contents writer.new) pending.new piece.now result }
         ensures some { MovesOn (fed pending.old.reader) (fed pending.new.reader)
             (length piece.now) result }
+        ensures hands { OnOk result (HandsOn R.Meaning.functions D.state (course_of course.old).forms (course_of course.new).forms
+            (W.account writer.old) (W.account writer.new) self.new) }
+        ensures under_way { OnErr result (AcknowledgesNone R.Meaning.functions D.state (W.account writer.new) self.new) }
         ensures forms { (course_of course.new).forms ≤ (course_of course.new).bytes }
         ensures count { IfOk result (λ count. (course_of course.new).bytes + fed pending.new.reader
             ≤ (course_of course.old).bytes + fed pending.old.reader + count) }
@@ -207,7 +233,7 @@ impl<D: Disk, R: MacroFunctions> Store<D, R> {
             Fed::Nothing => Ok(count),
             Fed::Refused { number, start, at } => {
                 let place = course.place(start, at);
-                Err(self.answer_fault(writer, number).at(place))
+                Err(self.answer_fault(writer, wanted.mode, number).at(place))
             }
             Fed::Form { form, left } => {
                 let count = before_left(count, left);
@@ -244,7 +270,7 @@ impl<D: Disk, R: MacroFunctions> Store<D, R> {
     }
 
     // Answers what is pending at the end of the input.
-    fn answer_end<W: Write>(
+    fn answer_end<W: Recipient<D, R>>(
         &mut self,
         pending: Pending,
         writer: &mut W,
@@ -254,12 +280,15 @@ impl<D: Disk, R: MacroFunctions> Store<D, R> {
         requires answers { R.answers self.old.macros }
         requires whole { are_registered R.Meaning.functions (R.functions self.old.macros) ≡ true }
         requires pending { AwaitsMore R.Meaning.functions self.old.world wanted.mode pending }
+        requires stands { StandsInPiece R.Meaning.functions D.state (W.account writer.old) self.old
+            wanted.mode pending [] }
         requires forms { (course_of course.old).forms ≤ (course_of course.old).bytes }
         requires count { (course_of course.old).bytes + fed pending.reader < 2 ^ 63 }
         ensures ends { (w : WorldState) → self.old.world ≡ Some w → (bytes : List ℕ)
             → IsPending R.Meaning.functions w wanted.mode pending bytes
             → EndsAt R.Meaning.functions D.state wanted (course_of course.old) self.old self.new w wanted.mode
             bytes (W.contents writer.old) (W.contents writer.new) result }
+        ensures under_way { AcknowledgesNone R.Meaning.functions D.state (W.account writer.new) self.new }
         ensures honest { (D.state self.new.disk).honest ≡ (D.state self.old.disk).honest }
         ensures macros { self.new.macros ≡ self.old.macros }
     {
@@ -271,7 +300,7 @@ impl<D: Disk, R: MacroFunctions> Store<D, R> {
             Fed::Nothing => Ended::End,
             Fed::Refused { number, start, at } => {
                 let place = course.place(start, at);
-                self.answer_fault(writer, number).at(place)
+                self.answer_fault(writer, wanted.mode, number).at(place)
             }
             Fed::Form { form, .. } => match self.answer_read(writer, wanted, course, &form) {
                 Ok(()) => Ended::End,

@@ -2,20 +2,22 @@
 ghost use Rattle.std.specs.Prelude.{◌≡◌, ◌+◌, ◌<◌, ◌≤◌, ◌^◌, List, ℕ, Some, true, drop, length};
 ghost use Rattle.lisp_object.specs.Datum.{object_of};
 ghost use Rattle.plist_state.specs.State.{WorldState};
-ghost use Rattle.prevalence_store.specs.declared.session.together.Grouped.TheVariants.{Answered, Left};
+ghost use Rattle.prevalence_store.specs.declared.session.together.Grouped.TheVariants.{Answered, Left, Ended as HasEnded};
+ghost use Rattle.prevalence_store.specs.declared.outcome.Ended.{Ended};
 ghost use Rattle.prevalence_store.specs.steps.Answer.{IsFormOf};
 ghost use Rattle.prevalence_store.specs.steps.Course.{course_of};
 ghost use Rattle.prevalence_store.specs.steps.Gather.{AnswersGroup, BeginsWhole};
+ghost use Rattle.prevalence_store.specs.steps.Standing.{AcknowledgesNone, HandsOn, StandsAtWhole};
 ghost use Rattle.user_macros.specs.Functions.{are_registered};
 
 use crate::outcome::{Ended, Wanted};
+use crate::recipient::Recipient;
 use crate::session::course::Course;
 use crate::session::gather::GroupLimit;
 use crate::session::input::PlacedForm;
 use crate::store::Store;
 use disk_trait::Disk;
 use lisp_object::refusal::{DEVICE, OUTPUT};
-use std::io::Write;
 use user_macros::MacroFunctions;
 
 /// What became of a group.
@@ -33,7 +35,7 @@ impl<D: Disk, R: MacroFunctions> Store<D, R> {
     // Answers a form that was read, and those that stand whole after it in a piece, once they are logged together. They are left if
     // the session has no groups, if a snapshot is due after the first if it writes, if the half has no room for them, if memory
     // runs out, or if the first is refused and the session is strict.
-    pub(crate) fn answer_group<W: Write>(
+    pub(crate) fn answer_group<W: Recipient<D, R>>(
         &mut self,
         writer: &mut W,
         wanted: Wanted,
@@ -47,6 +49,8 @@ impl<D: Disk, R: MacroFunctions> Store<D, R> {
         requires begins { (world : WorldState) → self.old.world ≡ Some world
             → (text : List ℕ) × (BeginsWhole R.Meaning.functions world wanted.mode text
             (object_of first.now.read.datum) first.now.own.items first.now.next × (drop first.now.next text ≡ rest.now)) }
+        requires stands { StandsAtWhole R.Meaning.functions D.state (W.account writer.old) self.old
+            wanted.mode (object_of first.now.read.datum) first.now.own.items first.now.next rest.now }
         requires some { 0 < first.now.next }
         requires forms { (course_of course.old).forms ≤ (course_of course.old).bytes }
         requires room { (course_of course.old).bytes + first.now.next + length rest.now < 2 ^ 63 }
@@ -57,6 +61,11 @@ impl<D: Disk, R: MacroFunctions> Store<D, R> {
             self.old self.new world text rest.now (W.contents writer.old) (W.contents writer.new) result }
         ensures left { result ≡ Left
             → (self.new ≡ self.old) × (writer.new ≡ writer.old) × (course.new ≡ course.old) }
+        ensures hands { (count : ℕ) → result ≡ Answered count
+            → HandsOn R.Meaning.functions D.state (course_of course.old).forms (course_of course.new).forms
+            (W.account writer.old) (W.account writer.new) self.new }
+        ensures under_way { (ended : Ended) → result ≡ HasEnded ended
+            → AcknowledgesNone R.Meaning.functions D.state (W.account writer.new) self.new }
         ensures within { (count : ℕ) → result ≡ Answered count → count ≤ length rest.now }
         ensures forms { (course_of course.new).forms ≤ (course_of course.new).bytes }
         ensures bytes { (count : ℕ) → result ≡ Answered count
@@ -72,7 +81,6 @@ impl<D: Disk, R: MacroFunctions> Store<D, R> {
         }
         let bytes = self.room_before_grown(course.schedule.ratio);
         let limit = GroupLimit { forms, bytes };
-        self.keeps_its_world();
         let gathered = match self.take_group(wanted, limit, first, rest) {
             Ok(gathered) => gathered,
             Err(failure) => {
@@ -82,8 +90,9 @@ impl<D: Disk, R: MacroFunctions> Store<D, R> {
                 return Grouped::Left;
             }
         };
+        self.keeps_its_world();
         // what is answered is stored: the lines come after the records
-        match self.write_lines(writer, gathered.lines.as_slice()) {
+        match writer.write_lines(self, gathered.lines.as_slice(), gathered.forms) {
             Ok(()) => {
                 course.schedule.pass(gathered.batch.records.len() as u64);
                 course.pass_all(gathered.forms, gathered.bytes);

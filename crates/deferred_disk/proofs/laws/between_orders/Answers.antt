@@ -1,5 +1,11 @@
-use Rattle.deferred_disk.proofs.Between.{left_between}
+use Rattle.deferred_disk.specs.Disk.{calls_of}
+use Rattle.deferred_disk.proofs.Between.{left_none, left_some}
 use Rattle.deferred_disk.proofs.laws.between_orders.Goals as goal
 
-pub returns : goal.returns
-returns c = λ start image done first later failures left. left_between start image done first later left
+pub returns-clause-none_open : goal.returns-clause-none_open
+returns-clause-none_open c = λ old new first later image same none parts left.
+    left_none (calls_of old) (calls_of new) old.failures new.failures first later image same parts left none
+
+pub returns-clause-some_open : goal.returns-clause-some_open
+returns-clause-some_open c = λ old new first later image same parts left.
+    left_some (calls_of old) (calls_of new) old.failures new.failures first later image same parts left

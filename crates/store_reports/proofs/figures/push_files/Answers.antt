@@ -1,4 +1,4 @@
-use Rattle.store_reports.proofs.Joined.{after_four, after_five}
+use Rattle.store_reports.proofs.Joined.{after_four}
 use Rattle.store_reports.proofs.figures.push_files.Goals as goal
 
 pub returns : goal.returns

@@ -1,4 +1,4 @@
-use Rattle.std.proofs.Common.{◌≡◌, ◌-◌, Bool, true, false, not, length, inr, refl, sym, ap, subst, ◌∙◌, arith}
+use Rattle.std.proofs.Common.{◌≡◌, ◌-◌, Bool, true, false, not, length, refl, sym, ap, subst, ◌∙◌, arith}
 use Rattle.prevalence_store.specs.calls.Pace.{Pace}
 use Rattle.prevalence_store.specs.calls.Streams.{Writes, WritesPart}
 use Rattle.prevalence_store.specs.steps.Course.{Course, course_of}
@@ -6,7 +6,7 @@ use Rattle.prevalence_store.specs.steps.Schedule.{CountsAll, pace_of}
 use Rattle.prevalence_store.proofs.calls.Executing.{known_world}
 use Rattle.prevalence_store.proofs.steps.Counting.{fewer_before_due}
 use Rattle.prevalence_store.proofs.steps.Gathered.{group_answered, group_stopped, group_unwritten}
-use Rattle.prevalence_store.proofs.steps.Storing.{lines_stored}
+use Rattle.prevalence_store.proofs.steps.Handing.{hands_lines, lines_stored, none_handed, none_of_group}
 use Rattle.prevalence_store.proofs.store.Store.answer_group.Goals as goal
 
 grouped : (group : Bool) → not group ≡ false → group ≡ true
@@ -17,7 +17,7 @@ grouped false is = absurd (cc)
 pub returns-then-is_device-clause-answers : goal.returns-then-is_device-clause-answers
 returns-then-is_device-clause-answers g c = λ w known text begins pending.
     let functions = g.R.Meaning.Meaning.functions in
-    let held = g.W.Write.contents c.args.writer.now in
+    let held = g.W.Recipient.contents c.args.writer.now in
     let course = course_of c.args.course.now in
     group_stopped functions g.D.Disk.state g.met.D.Disk.sound c.args.wanted course course c.args.self.now c.take_group.new.self w text c.args.rest.now held held known (grouped c.args.wanted.group c.if-not-wanted.false)
     ((c.in-Err.ensures.takes w known text begins pending).stopped (sym c.is_device.ensures ∙ c.if-is_device.true)) refl
@@ -33,22 +33,22 @@ pub returns-in-Err-clause-answers : goal.returns-in-Err-clause-answers
 returns-in-Err-clause-answers g c = λ w known text begins pending.
     ((c.in-Err.ensures.takes w known text begins pending).unchanged (sym c.is_device.ensures ∙ c.if-is_device.false), refl, refl)
 
--- their lines may be written
+-- their lines may be handed on
 pub write_lines-requires : goal.write_lines-requires
 write_lines-requires g c = record {
-  stored =
+  stored = λ kept is.
       let here = known_world c.args.self.now.world c.requires.form.is_open in
-      let b = c.requires.begins here.0 here.1 in
-      inr (lines_stored g.R.Meaning.Meaning.functions g.D.Disk.state c.args.self.now c.take_group.new.self here.0 here.1 c.take_group.ensures.honest (c.keeps_its_world.ensures here.0 here.1) c.args.wanted b.0
-      c.in-Ok.gathered _ (c.in-Ok.ensures.takes here.0 here.1 b.0 b.1.0 b.1.1).together c.as_slice.ensures.value);
+      let s = c.requires.stands here.0 here.1 in
+      lines_stored g.R.Meaning.Meaning.functions g.D.Disk.state g.met.D.Disk.sound kept c.args.self.now c.take_group.new.self here.0 c.args.wanted.mode s.0 _ (s.3 kept is) here.1
+      c.args.wanted c.in-Ok.gathered refl (c.in-Ok.ensures.takes here.0 here.1 s.0 s.1 s.2).together c.as_slice.ensures.value;
 }
 
 -- they were answered
 pub returns-in-Ok-write_lines-clause-answers : goal.returns-in-Ok-write_lines-clause-answers
 returns-in-Ok-write_lines-clause-answers g c = λ w known text begins pending.
     let functions = g.R.Meaning.Meaning.functions in
-    let held = g.W.Write.contents c.args.writer.now in
-    let written = g.W.Write.contents c.write_lines.new.writer in
+    let held = g.W.Recipient.contents c.args.writer.now in
+    let written = g.W.Recipient.contents c.write_lines.new.self in
     let course = course_of c.args.course.now in
     let later = course_of c.pass_all.new.self in
     let gathered = c.in-Ok.gathered in
@@ -62,12 +62,18 @@ returns-in-Ok-write_lines-clause-answers g c = λ w known text begins pending.
     c.room_before_grown-bytes.result c.room_before_grown-bytes.ensures.grown c.in-Ok.ensures.counts.record_bytes
     (ap (λ (k : Course). k.forms) passed) (ap (λ (k : Course). k.bytes) passed)
 
+pub returns-in-Ok-write_lines-clause-hands : goal.returns-in-Ok-write_lines-clause-hands
+returns-in-Ok-write_lines-clause-hands g c = λ count is.
+    let forms = ap (λ (k : Course). k.forms) c.pass_all.ensures in
+    hands_lines g.R.Meaning.Meaning.functions g.D.Disk.state g.met.D.Disk.sound c.in-Ok.gathered.forms (course_of c.args.course.now).forms (course_of c.pass_all.new.self).forms
+    (g.W.Recipient.account c.args.writer.now) (g.W.Recipient.account c.write_lines.new.self) c.take_group.new.self c.write_lines.ensures.kept forms c.keeps_its_world.ensures
+
 -- the writer failed in their lines
 pub returns-clause-answers : goal.returns-clause-answers
 returns-clause-answers g c = λ w known text begins pending.
     let functions = g.R.Meaning.Meaning.functions in
-    let held = g.W.Write.contents c.args.writer.now in
-    let written = g.W.Write.contents c.write_lines.new.writer in
+    let held = g.W.Recipient.contents c.args.writer.now in
+    let written = g.W.Recipient.contents c.write_lines.new.self in
     let course = course_of c.args.course.now in
     let gathered = c.in-Ok.gathered in
     let counts = c.in-Ok.ensures.counts in
@@ -76,3 +82,19 @@ returns-clause-answers g c = λ w known text begins pending.
     (subst (WritesPart held written) c.as_slice.ensures.value c.in-Err-write_lines.ensures.part)
     (fewer_before_due course.pace (length gathered.batch.records.items) c.before_due-forms.result counts.records c.before_due-forms.ensures)
     c.room_before_grown-bytes.result c.room_before_grown-bytes.ensures.grown counts.record_bytes
+
+pub returns-then-is_device-clause-under_way : goal.returns-then-is_device-clause-under_way
+returns-then-is_device-clause-under_way g c = λ ended is.
+    let here = known_world c.args.self.now.world c.requires.form.is_open in
+    let s = c.requires.stands here.0 here.1 in
+    none_of_group g.R.Meaning.Meaning.functions g.D.Disk.state g.met.D.Disk.sound (g.W.Recipient.account c.args.writer.now) c.args.self.now c.take_group.new.self here.0 c.args.wanted.mode s.0 s.0 c.args.wanted here.1 s.3
+    ((c.in-Err.ensures.takes here.0 here.1 s.0 s.1 s.2).stopped (sym c.is_device.ensures ∙ c.if-is_device.true))
+
+pub returns-clause-under_way : goal.returns-clause-under_way
+returns-clause-under_way g c = λ ended is.
+    let here = known_world c.args.self.now.world c.requires.form.is_open in
+    let s = c.requires.stands here.0 here.1 in
+    let took = (c.in-Ok.ensures.takes here.0 here.1 s.0 s.1 s.2).together in
+    none_handed g.R.Meaning.Meaning.functions g.D.Disk.state g.met.D.Disk.sound 0 c.in-Ok.gathered.forms (g.W.Recipient.account c.args.writer.now) (g.W.Recipient.account c.write_lines.new.self) c.take_group.new.self took.gathers.far.world took.logs.left
+    (hands_lines g.R.Meaning.Meaning.functions g.D.Disk.state g.met.D.Disk.sound c.in-Ok.gathered.forms 0 c.in-Ok.gathered.forms (g.W.Recipient.account c.args.writer.now) (g.W.Recipient.account c.write_lines.new.self) c.take_group.new.self
+    c.write_lines.ensures.kept (omega arith) c.keeps_its_world.ensures)

@@ -8,12 +8,15 @@ use Rattle.prevalence_store.specs.steps.Course.{course_of}
 use Rattle.prevalence_store.specs.steps.Input.{AreAllThere, Feeds, IsSoundFed, IsWithin}
 use Rattle.prevalence_store.specs.declared.session.together.Grouped.{Grouped}
 use Rattle.prevalence_store.specs.calls.Store.{StoreView}
-use Rattle.prevalence_store.specs.steps.Answer.{IsFormOf}
+use Rattle.prevalence_store.specs.meaning.Acceptance.{read_in}
+use Rattle.prevalence_store.specs.steps.Answer.{BeginsWith, IsFormOf}
+use Rattle.prevalence_store.specs.steps.Standing.{HandsOn, StandsBefore}
+use Rattle.prevalence_store.proofs.steps.Handing.{hands_nothing, none_standing}
 use Rattle.prevalence_store.specs.steps.Gather.{AnswersGroup}
 use Rattle.prevalence_store.specs.steps.Serve.{Answers, GoesOn, ended_at}
 use Rattle.prevalence_store.proofs.steps.Answering.{answered_within, ended_within, form_answered, nothing_answered}
 use Rattle.prevalence_store.proofs.steps.EndedAt.{at_starts, fault_ended, memory_ended, read_ended, read_from}
-use Rattle.prevalence_store.proofs.steps.Pieces.{begins_here_start, begins_start, form_begins, form_begins_here, form_takes, moves_further, text_stays, whole_begins}
+use Rattle.prevalence_store.proofs.steps.Pieces.{begins_here_start, begins_start, form_begins, form_begins_here, form_takes, moves_further, piece_whole, text_stays, whole_begins}
 use Rattle.prevalence_store.proofs.calls.Executing.{known_world}
 use Rattle.prevalence_store.proofs.calls.StreamLemmas.{behind_piece}
 use Rattle.prevalence_store.proofs.store.Store.answer_next.Goals as goal
@@ -21,7 +24,7 @@ use Rattle.prevalence_store.proofs.store.Store.answer_next.Goals as goal
 pub returns-in-Err-clause-answers : goal.returns-in-Err-clause-answers
 returns-in-Err-clause-answers g c = λ w known bytes p more.
     let functions = g.R.Meaning.Meaning.functions in
-    let held = g.W.Write.contents c.args.writer.now in
+    let held = g.W.Recipient.contents c.args.writer.now in
     memory_ended functions g.D.Disk.state g.met.D.Disk.sound c.args.wanted (course_of c.args.course.now) c.args.self.now w c.args.wanted.mode ((bytes ++ c.args.piece.now) ++ more) held known
 
 pub returns-in-Nothing-clause-answers : goal.returns-in-Nothing-clause-answers
@@ -29,7 +32,7 @@ returns-in-Nothing-clause-answers g c = λ w known bytes p.
     let functions = g.R.Meaning.Meaning.functions in
     let n = c.in-Ok.part.count in
     let text = bytes ++ take n c.args.piece.now in
-    let held = g.W.Write.contents c.args.writer.now in
+    let held = g.W.Recipient.contents c.args.writer.now in
     let course = course_of c.args.course.now in
     answered_within functions g.D.Disk.state c.args.wanted.strict course course c.args.self.now c.args.self.now w c.args.wanted.mode held held c.feed.new.pending bytes c.args.piece.now [] n
     (nothing_answered functions g.D.Disk.state g.met.D.Disk.sound c.args.wanted.strict course c.args.self.now w c.args.wanted.mode text held c.feed.new.pending known
@@ -41,8 +44,8 @@ returns-in-Refused-clause-answers g c = λ w known bytes p.
     let n = c.in-Ok.part.count in
     let piece = c.args.piece.now in
     let text = bytes ++ take n piece in
-    let held = g.W.Write.contents c.args.writer.now in
-    let written = g.W.Write.contents c.answer_fault.new.writer in
+    let held = g.W.Recipient.contents c.args.writer.now in
+    let written = g.W.Recipient.contents c.answer_fault.new.writer in
     let course = course_of c.args.course.now in
     let f = c.in-Refused in
     let refuses = subst (λ (fed : Fed). Feeds functions w c.args.wanted.mode c.feed.new.pending text fed) f.is (c.in-Ok.ensures.feeds w known bytes p) in
@@ -100,8 +103,8 @@ returns-in-Answered-clause-answers g c = λ w known bytes p.
     let f = c.in-Form in
     let has = subst (λ (fed : Fed). Feeds functions w c.args.wanted.mode c.feed.new.pending text fed) f.is (c.in-Ok.ensures.feeds w known bytes p) in
     let begins = whole_begins functions w c.args.wanted.mode c.feed.new.pending text (object_of f.form.read.datum) f.form.own.items f.left has.0 bytes piece n count refl c.in-Ok.ensures.part.within c.before_left-count.ensures f.form.next has.2 in
-    let held = g.W.Write.contents c.args.writer.now in
-    let written = g.W.Write.contents c.answer_group.new.writer in
+    let held = g.W.Recipient.contents c.args.writer.now in
+    let written = g.W.Recipient.contents c.answer_group.new.writer in
     let course = course_of c.args.course.now in
     let later = course_of c.answer_group.new.course in
     let rest = take (length piece - count) (drop count piece) in
@@ -121,11 +124,36 @@ returns-in-Ended-clause-answers g c = λ w known bytes p.
     let f = c.in-Form in
     let has = subst (λ (fed : Fed). Feeds functions w c.args.wanted.mode c.feed.new.pending text fed) f.is (c.in-Ok.ensures.feeds w known bytes p) in
     let begins = whole_begins functions w c.args.wanted.mode c.feed.new.pending text (object_of f.form.read.datum) f.form.own.items f.left has.0 bytes piece n count refl c.in-Ok.ensures.part.within c.before_left-count.ensures f.form.next has.2 in
-    let held = g.W.Write.contents c.args.writer.now in
-    let written = g.W.Write.contents c.answer_group.new.writer in
+    let held = g.W.Recipient.contents c.args.writer.now in
+    let written = g.W.Recipient.contents c.answer_group.new.writer in
     let rest = take (length piece - count) (drop count piece) in
     subst (λ (r : Grouped). AnswersGroup functions c.args.wanted g.D.Disk.state (course_of c.args.course.now) (course_of c.answer_group.new.course) c.args.self.now c.answer_group.new.self w (bytes ++ piece) rest held written r) c.in-Ended.is
     (c.answer_group.ensures.answers w known (bytes ++ piece) begins.0 (begins.1 ∙ sym (behind_piece piece count)))
+
+pub answer_group-requires-clause-stands : goal.answer_group-requires-clause-stands
+answer_group-requires-clause-stands g c = λ w known.
+    let functions = g.R.Meaning.Meaning.functions in
+    let s = c.requires.stands w known in
+    let piece = c.args.piece.now in
+    let n = c.in-Ok.part.count in
+    let count = c.before_left-count.result in
+    let text = s.0 ++ take n piece in
+    let f = c.in-Form in
+    let has = subst (λ (fed : Fed). Feeds functions w c.args.wanted.mode c.feed.new.pending text fed) f.is (c.in-Ok.ensures.feeds w known s.0 s.1) in
+    let begins = whole_begins functions w c.args.wanted.mode c.feed.new.pending text (object_of f.form.read.datum) f.form.own.items f.left has.0 s.0 piece n count refl c.in-Ok.ensures.part.within c.before_left-count.ensures f.form.next has.2 in
+    (s.0 ++ piece, begins.0, begins.1 ∙ sym (behind_piece piece count), s.2)
+
+-- ---- what the reader refuses
+
+pub answer_fault-requires-clause-stands : goal.answer_fault-requires-clause-stands
+answer_fault-requires-clause-stands g c = λ w known.
+    let functions = g.R.Meaning.Meaning.functions in
+    let s = c.requires.stands w known in
+    let piece = c.args.piece.now in
+    let n = c.in-Ok.part.count in
+    let text = s.0 ++ take n piece in
+    let refuses = (subst (λ (fed : Fed). Feeds functions w c.args.wanted.mode c.feed.new.pending text fed) c.in-Refused.is (c.in-Ok.ensures.feeds w known s.0 s.1)).0 in
+    (s.0 ++ piece, refuses.at, ap (read_in functions w c.args.wanted.mode) (sym (piece_whole s.0 piece n)) ∙ refuses.reads (drop n piece), s.2)
 
 -- ---- the form alone
 
@@ -146,6 +174,21 @@ answer_read-requires g c =
         sound = (subst IsSoundFed f.is c.in-Ok.ensures.part.sound).1;
         all_there = λ w here. subst (AreAllThere w) f.is (c.in-Ok.ensures.all_there w here);
       });
+      stands = λ w there.
+          let functions = g.R.Meaning.Meaning.functions in
+          let known = sym (ap (λ (s : StoreView g.row.D.Denot g.row.R.Denot). s.world) left.0) ∙ there in
+          let s = c.requires.stands w known in
+          let piece = c.args.piece.now in
+          let n = c.in-Ok.part.count in
+          let text = s.0 ++ take n piece in
+          let has = (subst (λ (fed : Fed). Feeds functions w c.args.wanted.mode c.feed.new.pending text fed) f.is (c.in-Ok.ensures.feeds w known s.0 s.1)).0 in (
+            s.0 ++ piece,
+            has.next,
+            subst (λ t. BeginsWith functions w c.args.wanted.mode t (object_of f.form.read.datum) f.form.own.items has.next) (piece_whole s.0 piece n)
+                (form_begins functions w c.args.wanted.mode c.feed.new.pending text (object_of f.form.read.datum) f.form.own.items f.left has f.form.own.items (drop n piece) refl),
+            subst (λ (v : g.row.W.Denot). StandsBefore functions g.D.Disk.state (g.W.Recipient.account v) c.answer_group.new.self w c.args.wanted.mode (s.0 ++ piece)) (sym left.1)
+                (subst (λ (store : StoreView g.row.D.Denot g.row.R.Denot). StandsBefore functions g.D.Disk.state (g.W.Recipient.account c.args.writer.now) store w c.args.wanted.mode (s.0 ++ piece)) (sym left.0) s.2),
+          );
       order = within.0;
       forms = c.answer_group.ensures.forms;
       room = subst (λ k. (course_of k).bytes + f.form.next < 9223372036854775808) (sym left.2) (omega (arith, within.1, c.requires.count, c.in-Ok.ensures.part.within));
@@ -157,9 +200,9 @@ returns-clause-answers g c = λ w known bytes p.
     let n = c.in-Ok.part.count in
     let piece = c.args.piece.now in
     let text = bytes ++ take n piece in
-    let held = g.W.Write.contents c.args.writer.now in
-    let between = g.W.Write.contents c.answer_group.new.writer in
-    let written = g.W.Write.contents c.answer_read.new.writer in
+    let held = g.W.Recipient.contents c.args.writer.now in
+    let between = g.W.Recipient.contents c.answer_group.new.writer in
+    let written = g.W.Recipient.contents c.answer_read.new.writer in
     let course = course_of c.args.course.now in
     let mid = course_of c.answer_group.new.course in
     let later = course_of c.answer_read.new.course in
@@ -171,7 +214,7 @@ returns-clause-answers g c = λ w known bytes p.
     ended_within functions g.D.Disk.state c.args.wanted course later c.args.self.now c.answer_read.new.self w c.args.wanted.mode held written c.feed.new.pending bytes piece n c.in-Err-answer_read.ended
     (λ more. read_ended functions g.D.Disk.state c.args.wanted course later c.args.self.now c.answer_read.new.self w (text ++ more) held written f.form.start f.form.next c.in-Err-answer_read.ended
     (read_from functions g.D.Disk.state course mid later c.args.self.now c.answer_group.new.self c.answer_read.new.self w c.args.wanted (text ++ more) held between written f.form.start f.form.next (Err c.in-Err-answer_read.ended)
-    left.0 (ap (λ v. g.W.Write.contents v) left.1) (ap (λ k. course_of k) left.2)
+    left.0 (ap (λ v. g.W.Recipient.contents v) left.1) (ap (λ k. course_of k) left.2)
     (c.in-Err-answer_read.ensures.answers w still (text ++ more) has.0.next
     (form_begins functions w c.args.wanted.mode c.feed.new.pending text (object_of f.form.read.datum) f.form.own.items f.left has.0 f.form.own.items more refl)
     (begins_start functions w c.args.wanted.mode c.feed.new.pending text (object_of f.form.read.datum) f.form.own.items f.left has.0 f.form.own.items more refl ∙ has.1)))
@@ -189,13 +232,13 @@ returns-in-Ok-answer_read-clause-answers g c = λ w known bytes p.
     let course = course_of c.args.course.now in
     let mid = course_of c.answer_group.new.course in
     let later = course_of c.answer_read.new.course in
-    let held = g.W.Write.contents c.args.writer.now in
-    let between = g.W.Write.contents c.answer_group.new.writer in
-    let written = g.W.Write.contents c.answer_read.new.writer in
+    let held = g.W.Recipient.contents c.args.writer.now in
+    let between = g.W.Recipient.contents c.answer_group.new.writer in
+    let written = g.W.Recipient.contents c.answer_read.new.writer in
     let left = c.answer_group.ensures.left c.in-Left.is in
     let still = ap (λ (s : StoreView g.row.D.Denot g.row.R.Denot). s.world) left.0 ∙ known in
     let passed = read_from functions g.D.Disk.state course mid later c.args.self.now c.answer_group.new.self c.answer_read.new.self w c.args.wanted text held between written f.form.start f.form.next (Ok tt)
-    left.0 (ap (λ v. g.W.Write.contents v) left.1) (ap (λ k. course_of k) left.2)
+    left.0 (ap (λ v. g.W.Recipient.contents v) left.1) (ap (λ k. course_of k) left.2)
     (c.in-Ok-answer_read.ensures.answers w still text has.0.next
     (form_begins_here functions w c.args.wanted.mode c.feed.new.pending text (object_of f.form.read.datum) f.form.own.items f.left has.0 f.form.own.items refl)
     (begins_here_start functions w c.args.wanted.mode c.feed.new.pending text (object_of f.form.read.datum) f.form.own.items f.left has.0 f.form.own.items refl ∙ has.1)) in
@@ -231,3 +274,81 @@ returns-in-Ok-answer_read-clause-some g c =
     let has = (subst (λ (fed : Fed). Feeds functions old.0 c.args.wanted.mode c.feed.new.pending text fed) f.is (c.in-Ok.ensures.feeds old.0 old.1 p.0 p.1)).0 in
     form_takes functions old.0 c.args.wanted.mode c.feed.new.pending text (object_of f.form.read.datum) f.form.own.items f.left has p.0 c.args.piece.now n c.before_left-count.result refl c.in-Ok.ensures.part.within
     c.before_left-count.ensures c.args.pending.now p.1
+
+pub returns-in-Answered-clause-count : goal.returns-in-Answered-clause-count
+returns-in-Answered-clause-count g c =
+    let functions = g.R.Meaning.Meaning.functions in
+    let old = known_world c.args.self.now.world c.requires.pending.is_open in
+    let p = c.requires.pending.some old.0 old.1 in
+    let piece = c.args.piece.now in
+    let n = c.in-Ok.part.count in
+    let f = c.in-Form in
+    let has = subst (λ (fed : Fed). Feeds functions old.0 c.args.wanted.mode c.feed.new.pending (p.0 ++ take n piece) fed) f.is (c.in-Ok.ensures.feeds old.0 old.1 p.0 p.1) in
+    let none = (has.0.none old.0 c.args.wanted.mode).count in
+    omega (arith, c.answer_group.ensures.bytes c.in-Answered.more c.in-Answered.is, has.0.next_is, has.2, length-append p.0 (take n piece), length-take-le n piece c.in-Ok.ensures.part.within, p.1.count, c.before_left-count.ensures, none)
+
+pub returns-in-Answered-clause-most : goal.returns-in-Answered-clause-most
+returns-in-Answered-clause-most g c =
+    let functions = g.R.Meaning.Meaning.functions in
+    let old = known_world c.args.self.now.world c.requires.pending.is_open in
+    let p = c.requires.pending.some old.0 old.1 in
+    let piece = c.args.piece.now in
+    let n = c.in-Ok.part.count in
+    let f = c.in-Form in
+    let has = subst (λ (fed : Fed). Feeds functions old.0 c.args.wanted.mode c.feed.new.pending (p.0 ++ take n piece) fed) f.is (c.in-Ok.ensures.feeds old.0 old.1 p.0 p.1) in
+    let none = (has.0.none old.0 c.args.wanted.mode).count in
+    omega (arith, c.answer_group.ensures.most, length-drop c.before_left-count.result piece, ap length (behind_piece piece c.before_left-count.result), c.in-Ok.ensures.part.within, has.0.next_is, has.2, length-append p.0 (take n piece), length-take-le n piece c.in-Ok.ensures.part.within, p.1.count, c.before_left-count.ensures, none)
+
+pub returns-in-Ended-clause-most : goal.returns-in-Ended-clause-most
+returns-in-Ended-clause-most g c =
+    let functions = g.R.Meaning.Meaning.functions in
+    let old = known_world c.args.self.now.world c.requires.pending.is_open in
+    let p = c.requires.pending.some old.0 old.1 in
+    let piece = c.args.piece.now in
+    let n = c.in-Ok.part.count in
+    let f = c.in-Form in
+    let has = subst (λ (fed : Fed). Feeds functions old.0 c.args.wanted.mode c.feed.new.pending (p.0 ++ take n piece) fed) f.is (c.in-Ok.ensures.feeds old.0 old.1 p.0 p.1) in
+    let none = (has.0.none old.0 c.args.wanted.mode).count in
+    omega (arith, c.answer_group.ensures.most, length-drop c.before_left-count.result piece, ap length (behind_piece piece c.before_left-count.result), c.in-Ok.ensures.part.within, has.0.next_is, has.2, length-append p.0 (take n piece), length-take-le n piece c.in-Ok.ensures.part.within, p.1.count, c.before_left-count.ensures, none)
+
+pub returns-in-Ok-answer_read-clause-count : goal.returns-in-Ok-answer_read-clause-count
+returns-in-Ok-answer_read-clause-count g c =
+    let functions = g.R.Meaning.Meaning.functions in
+    let old = known_world c.args.self.now.world c.requires.pending.is_open in
+    let p = c.requires.pending.some old.0 old.1 in
+    let piece = c.args.piece.now in
+    let n = c.in-Ok.part.count in
+    let f = c.in-Form in
+    let has = subst (λ (fed : Fed). Feeds functions old.0 c.args.wanted.mode c.feed.new.pending (p.0 ++ take n piece) fed) f.is (c.in-Ok.ensures.feeds old.0 old.1 p.0 p.1) in
+    let none = (has.0.none old.0 c.args.wanted.mode).count in
+    omega (arith, c.answer_read.ensures.bytes, ap (λ k. (course_of k).bytes) (c.answer_group.ensures.left c.in-Left.is).2, has.0.next_is, has.2, length-append p.0 (take n piece), length-take-le n piece c.in-Ok.ensures.part.within, p.1.count, c.before_left-count.ensures, none)
+
+-- ---- what was handed on
+
+pub returns-in-Nothing-clause-hands : goal.returns-in-Nothing-clause-hands
+returns-in-Nothing-clause-hands g c =
+    hands_nothing g.R.Meaning.Meaning.functions g.D.Disk.state g.met.D.Disk.sound (course_of c.args.course.now).forms (g.W.Recipient.account c.args.writer.now) c.args.self.now c.args.wanted.mode
+    (λ w known. (c.requires.stands w known).0 ++ c.args.piece.now) (λ w known. (c.requires.stands w known).2)
+
+pub returns-in-Answered-clause-hands : goal.returns-in-Answered-clause-hands
+returns-in-Answered-clause-hands g c = c.answer_group.ensures.hands c.in-Answered.more c.in-Answered.is
+
+pub returns-in-Ok-answer_read-clause-hands : goal.returns-in-Ok-answer_read-clause-hands
+returns-in-Ok-answer_read-clause-hands g c =
+    let functions = g.R.Meaning.Meaning.functions in
+    let left = c.answer_group.ensures.left c.in-Left.is in
+    let later = (course_of c.answer_read.new.course).forms in
+    let now = g.W.Recipient.account c.answer_read.new.writer in
+    subst (λ k. HandsOn functions g.D.Disk.state (course_of k).forms later (g.W.Recipient.account c.args.writer.now) now c.answer_read.new.self) left.2
+    (subst (λ (v : g.row.W.Denot). HandsOn functions g.D.Disk.state (course_of c.answer_group.new.course).forms later (g.W.Recipient.account v) now c.answer_read.new.self) left.1 c.in-Ok-answer_read.ensures.hands)
+
+-- ---- what was done since
+
+pub returns-in-Err-clause-under_way : goal.returns-in-Err-clause-under_way
+returns-in-Err-clause-under_way g c =
+    let here = known_world c.args.self.now.world c.requires.pending.is_open in
+    let s = c.requires.stands here.0 here.1 in
+    none_standing g.R.Meaning.Meaning.functions g.D.Disk.state g.met.D.Disk.sound (g.W.Recipient.account c.args.writer.now) c.args.self.now here.0 c.args.wanted.mode (s.0 ++ c.args.piece.now) here.1 s.2
+
+pub returns-in-Ended-clause-under_way : goal.returns-in-Ended-clause-under_way
+returns-in-Ended-clause-under_way g c = c.answer_group.ensures.under_way c.in-Ended.ended c.in-Ended.is

@@ -4,6 +4,7 @@ use Rattle.form_reader.specs.Reader.{fed}
 use Rattle.prevalence_store.specs.steps.Input.{IsPending}
 use Rattle.prevalence_store.specs.steps.Serve.{GoesOn}
 use Rattle.prevalence_store.specs.steps.Course.{course_of}
+use Rattle.prevalence_store.specs.steps.Standing.{HandsOn}
 use Rattle.prevalence_store.proofs.steps.Pieces.{to_take}
 use Rattle.prevalence_store.proofs.store.Store.answer_piece.Given as goal
 
@@ -18,7 +19,8 @@ invariant-forms g l = record {
   goes : (w : WorldState) → l.fn.self.world ≡ Some w → (bytes : List ℕ)
       → IsPending g.R.Meaning.Meaning.functions w l.wanted.mode l.fn.pending bytes
       → GoesOn g.R.Meaning.Meaning.functions g.D.Disk.state l.wanted.strict (course_of l.fn.course) (course_of l.course) l.fn.self l.self w l.wanted.mode (bytes ++ l.piece)
-      (g.W.Write.contents l.fn.writer) (g.W.Write.contents l.writer) l.pending l.rest;
+      (g.W.Recipient.contents l.fn.writer) (g.W.Recipient.contents l.writer) l.pending l.rest;
+  hands : HandsOn g.R.Meaning.Meaning.functions g.D.Disk.state (course_of l.fn.course).forms (course_of l.course).forms (g.W.Recipient.account l.fn.writer) (g.W.Recipient.account l.writer) l.self;
 }
 
 abbrev pub decreases-forms : goal.decreases-forms

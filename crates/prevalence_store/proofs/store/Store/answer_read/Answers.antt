@@ -1,11 +1,13 @@
-use Rattle.std.proofs.Common.{◌≤◌, arith, refl, subst, sym}
+use Rattle.std.proofs.Common.{◌≤◌, ap, arith, refl, subst, sym}
 use Rattle.lisp_object.specs.Datum.{object_of}
 use Rattle.prevalence_store.specs.declared.session.answer.Answered.{Answered}
 use Rattle.prevalence_store.specs.steps.Answer.{TellsForm}
 use Rattle.prevalence_store.specs.steps.Course.{Course, course_of}
 use Rattle.prevalence_store.specs.steps.Schedule.{pace_of}
 use Rattle.prevalence_store.proofs.steps.EndedAt.{passes_form, refused_there, tells_accepted}
+use Rattle.prevalence_store.proofs.steps.Handing.{hands_from, none_handed}
 use Rattle.prevalence_store.proofs.steps.Pieces.{begins_as}
+use Rattle.prevalence_store.proofs.calls.Executing.{known_world}
 use Rattle.prevalence_store.proofs.store.Store.answer_read.Goals as goal
 
 pub returns-in-Err-clause-answers : goal.returns-in-Err-clause-answers
@@ -19,8 +21,8 @@ returns-in-Refused-clause-answers g c = λ w known text next begins start_is.
     let course = course_of c.args.course.now in
     let mid : Course = record { pace = pace_of c.answer_form.new.schedule; forms = course.forms; bytes = course.bytes } in
     let later = course_of c.pass.new.self in
-    let held = g.W.Write.contents c.args.writer.now in
-    let written = g.W.Write.contents c.answer_form.new.writer in
+    let held = g.W.Recipient.contents c.args.writer.now in
+    let written = g.W.Recipient.contents c.answer_form.new.writer in
     let it = c.args.form.now in
     let again = begins_as functions w c.args.wanted.mode text (object_of it.read.datum) it.own.items c.as_slice-own.result.now next begins c.as_slice-own.ensures.value in
     let passed = passes_form functions g.D.Disk.state course mid later c.args.self.now c.answer_form.new.self w c.args.wanted text held written it.start it.next c.in-Ok.answered
@@ -35,8 +37,8 @@ returns-in_default-clause-answers g c = λ w known text next begins start_is.
     let course = course_of c.args.course.now in
     let mid : Course = record { pace = pace_of c.answer_form.new.schedule; forms = course.forms; bytes = course.bytes } in
     let later = course_of c.pass.new.self in
-    let held = g.W.Write.contents c.args.writer.now in
-    let written = g.W.Write.contents c.answer_form.new.writer in
+    let held = g.W.Recipient.contents c.args.writer.now in
+    let written = g.W.Recipient.contents c.answer_form.new.writer in
     let it = c.args.form.now in
     let again = begins_as functions w c.args.wanted.mode text (object_of it.read.datum) it.own.items c.as_slice-own.result.now next begins c.as_slice-own.ensures.value in
     let passed = passes_form functions g.D.Disk.state course mid later c.args.self.now c.answer_form.new.self w c.args.wanted text held written it.start it.next c.in-Ok.answered
@@ -49,8 +51,8 @@ returns-else-wanted-clause-answers g c = λ w known text next begins start_is.
     let course = course_of c.args.course.now in
     let mid : Course = record { pace = pace_of c.answer_form.new.schedule; forms = course.forms; bytes = course.bytes } in
     let later = course_of c.pass.new.self in
-    let held = g.W.Write.contents c.args.writer.now in
-    let written = g.W.Write.contents c.answer_form.new.writer in
+    let held = g.W.Recipient.contents c.args.writer.now in
+    let written = g.W.Recipient.contents c.answer_form.new.writer in
     let it = c.args.form.now in
     let again = begins_as functions w c.args.wanted.mode text (object_of it.read.datum) it.own.items c.as_slice-own.result.now next begins c.as_slice-own.ensures.value in
     let passed = passes_form functions g.D.Disk.state course mid later c.args.self.now c.answer_form.new.self w c.args.wanted text held written it.start it.next c.in-Ok.answered
@@ -65,3 +67,31 @@ returns-in_default-clause-forms g c = subst (λ (k : Course). k.forms ≤ k.byte
 
 pub returns-else-wanted-clause-forms : goal.returns-else-wanted-clause-forms
 returns-else-wanted-clause-forms g c = subst (λ (k : Course). k.forms ≤ k.bytes) (sym c.pass.ensures) (omega (arith, c.requires.forms, c.requires.order))
+
+pub returns-in_default-clause-hands : goal.returns-in_default-clause-hands
+returns-in_default-clause-hands g c =
+    hands_from g.R.Meaning.Meaning.functions g.D.Disk.state g.met.D.Disk.sound 0 1 (course_of c.args.course.now).forms (course_of c.pass.new.self).forms
+    (g.W.Recipient.account c.args.writer.now) (g.W.Recipient.account c.answer_form.new.writer) c.answer_form.new.self
+    (omega (arith, ap (λ (k : Course). k.forms) c.pass.ensures)) c.in-Ok.ensures.hands
+
+pub returns-else-wanted-clause-hands : goal.returns-else-wanted-clause-hands
+returns-else-wanted-clause-hands g c =
+    hands_from g.R.Meaning.Meaning.functions g.D.Disk.state g.met.D.Disk.sound 0 1 (course_of c.args.course.now).forms (course_of c.pass.new.self).forms
+    (g.W.Recipient.account c.args.writer.now) (g.W.Recipient.account c.answer_form.new.writer) c.answer_form.new.self
+    (omega (arith, ap (λ (k : Course). k.forms) c.pass.ensures)) c.in-Ok.ensures.hands
+
+pub answer_form-requires-clause-stands : goal.answer_form-requires-clause-stands
+answer_form-requires-clause-stands g c = λ w known.
+    let s = c.requires.stands w known in
+    let it = c.args.form.now in
+    (s.0, s.1, begins_as g.R.Meaning.Meaning.functions w c.args.wanted.mode s.0 (object_of it.read.datum) it.own.items c.as_slice-own.result.now s.1 s.2 c.as_slice-own.ensures.value, s.3)
+
+-- the session is strict
+pub returns-in-Refused-clause-under_way : goal.returns-in-Refused-clause-under_way
+returns-in-Refused-clause-under_way g c =
+    let here = known_world c.args.self.now.world c.requires.form.is_open in
+    let s = c.requires.stands here.0 here.1 in
+    let it = c.args.form.now in
+    let begins = begins_as g.R.Meaning.Meaning.functions here.0 c.args.wanted.mode s.0 (object_of it.read.datum) it.own.items c.as_slice-own.result.now s.1 s.2 c.as_slice-own.ensures.value in
+    let answered = c.in-Ok.ensures.answers here.0 here.1 s.0 s.1 begins in
+    none_handed g.R.Meaning.Meaning.functions g.D.Disk.state g.met.D.Disk.sound 0 1 (g.W.Recipient.account c.args.writer.now) (g.W.Recipient.account c.answer_form.new.writer) c.answer_form.new.self answered.0.world answered.1.after.left c.in-Ok.ensures.hands

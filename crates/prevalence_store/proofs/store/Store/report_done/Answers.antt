@@ -1,5 +1,5 @@
 use Rattle.std.proofs.Common.{[], Option, Some, ap, sym, subst, ◌∙◌}
-use Rattle.disk_trait.specs.Disk.{IsHonest}
+use Rattle.disk_trait.specs.Disk.{IsHonest, but_for_reports}
 use Rattle.plist_state.specs.State.{WorldState}
 use Rattle.prevalence_store.specs.calls.Store.{StoreView}
 use Rattle.prevalence_store.specs.Theorem.{Keeps, Survives}
@@ -15,9 +15,9 @@ returns-clause-survives g c = λ world known honest keeps.
     let is_world = ap (λ (s : StoreView g.row.D.Denot g.row.R.Denot). s.world) c.self.view_is ∙ known in
     let then = state done.new.self.disk in
     let start = state c.self.inside.log.halves.disk in
-    subst (λ (left : Option WorldState). Survives functions (state c.args.self.now.disk) then world [] 0 left) (sym is_world)
-    (subst (λ (d : g.row.D.Denot). Survives functions (state d) then world [] 0 (Some world)) is_disk
-    (rested_survives functions start then world
+    subst (λ (left : Option WorldState). Survives functions (but_for_reports (state c.args.self.now.disk)) (but_for_reports then) world [] 0 left) (sym is_world)
+    (subst (λ (d : g.row.D.Denot). Survives functions (but_for_reports (state d)) (but_for_reports then) world [] 0 (Some world)) is_disk
+    (rested_survives functions (but_for_reports start) (but_for_reports then) world
     (done.ensures.rests (subst (λ (d : g.row.D.Denot). IsHonest (state d)) (sym is_disk) honest))
     done.ensures.tells.honest done.ensures.tells.failures
     (subst (λ (d : g.row.D.Denot). Keeps functions (state d) world) (sym is_disk) keeps)))

@@ -4,6 +4,7 @@ use Rattle.form_reader.specs.Reader.{fed}
 use Rattle.prevalence_store.specs.calls.Serve.{pace_wanted}
 use Rattle.prevalence_store.specs.steps.Serve.{GoesOn}
 use Rattle.prevalence_store.specs.steps.Course.{course_of, first_course}
+use Rattle.prevalence_store.specs.steps.Standing.{HandsOn}
 use Rattle.prevalence_store.proofs.store.Store.serve_wanted.Given as goal
 
 -- what was read was answered, as far as it decides; and what is left to read
@@ -17,8 +18,9 @@ invariant-reads g l = record {
   count : (course_of l.course).bytes + fed l.pending.reader ≤ 65536 * l.reads;
   far : (w : WorldState) → l.fn.self.world ≡ Some w → (text : List ℕ)
       × (GoesOn g.R.Meaning.Meaning.functions g.D.Disk.state l.wanted.strict (first_course (pace_wanted l.wanted)) (course_of l.course) l.fn.self l.self w l.wanted.mode text
-      (g.W.Write.contents l.fn.writer) (g.W.Write.contents l.writer) l.pending []
+      (g.W.Recipient.contents l.fn.writer) (g.W.Recipient.contents l.writer) l.pending []
       × ((all : List ℕ) → g.I.Read.remaining l.fn.reader ≡ Some all → (left : List ℕ) × ((g.I.Read.remaining l.reader ≡ Some left) × (all ≡ text ++ left))));
+  hands : HandsOn g.R.Meaning.Meaning.functions g.D.Disk.state 0 (course_of l.course).forms (g.W.Recipient.account l.fn.writer) (g.W.Recipient.account l.writer) l.self;
 }
 
 abbrev pub decreases-reads : goal.decreases-reads

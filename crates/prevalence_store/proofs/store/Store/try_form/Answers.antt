@@ -1,4 +1,4 @@
-use Rattle.std.proofs.Common.{[], Some, inr, refl, sym, subst}
+use Rattle.std.proofs.Common.{[], Some, refl, subst}
 use Rattle.lisp_object.specs.Datum.{object_of}
 use Rattle.plist_state.specs.Sound.{IsSound}
 use Rattle.plist_state.specs.State.{WorldState}
@@ -6,8 +6,7 @@ use Rattle.prevalence_store.specs.calls.Streams.{Writes, WritesPart}
 use Rattle.prevalence_store.proofs.calls.Executing.{known_world, world_inside}
 use Rattle.prevalence_store.proofs.steps.Pendings.{begins_whole, may_evaluate}
 use Rattle.prevalence_store.proofs.steps.FormAnswers.{form_answered, form_stops, form_unwritten, full_unchanged, line_known}
-use Rattle.prevalence_store.proofs.steps.Storing.{line_stored, written_alone}
-use Rattle.prevalence_store.specs.steps.Writing.{AreStored}
+use Rattle.prevalence_store.proofs.steps.Handing.{hands_lines, line_stored, written_alone, none_handed, none_of_form}
 use Rattle.prevalence_store.proofs.store.Store.try_form.Goals as goal
 
 pub take_reply-requires : goal.take_reply-requires
@@ -28,24 +27,27 @@ take_reply-requires g c =
 
 pub write_lines-requires : goal.write_lines-requires
 write_lines-requires g c = record {
-  stored =
+  stored = λ kept is.
       let functions = g.R.Meaning.Meaning.functions in
       let here = known_world c.args.self.now.world c.requires.form.is_open in
-      let b = c.requires.form.begins here.0 here.1 in
-      let e = c.take_reply.ensures in
+      let s = c.requires.stands here.0 here.1 in
       let r = c.in-Ok.ensures.takes in
       let line = c.in-Ok.reply.line.items in
-      inr (subst (AreStored functions (g.D.Disk.state c.take_reply.new.self.disk)) (sym c.as_slice.ensures.value)
-      (line_stored functions g.D.Disk.state c.args.self.now c.take_reply.new.self here.0 here.1 e.honest (c.keeps_its_world.ensures here.0 here.1) c.args.mode b.0 line _
-      (form_answered functions g.D.Disk.state g.met.D.Disk.sound c.args.self.now c.take_reply.new.self here.0 c.args.mode b.0 (Some []) (Some line)
-      here.1 b.1.1.start b.1.1.stop b.1.0 (object_of c.args.form.now.datum) b.1.1.reads c.args.own.now b.1.1.is_own r.answer line
-      r.takes r.line (written_alone line) _ refl)));
+      line_stored functions g.D.Disk.state g.met.D.Disk.sound kept c.args.self.now c.take_reply.new.self here.0 c.args.mode s.0 _ (s.3 kept is) here.1 line _
+      (form_answered functions g.D.Disk.state g.met.D.Disk.sound c.args.self.now c.take_reply.new.self here.0 c.args.mode s.0 (Some []) (Some line)
+      here.1 s.2.start s.2.stop s.1 (object_of c.args.form.now.datum) s.2.reads c.args.own.now s.2.is_own r.answer line
+      r.takes r.line (written_alone line) _ refl) c.as_slice.ensures.value;
 }
+
+pub returns-in-Ok-write_lines-clause-hands : goal.returns-in-Ok-write_lines-clause-hands
+returns-in-Ok-write_lines-clause-hands g c =
+    hands_lines g.R.Meaning.Meaning.functions g.D.Disk.state g.met.D.Disk.sound 1 0 1 (g.W.Recipient.account c.args.writer.now) (g.W.Recipient.account c.write_lines.new.self) c.take_reply.new.self
+    c.write_lines.ensures.kept refl c.keeps_its_world.ensures
 
 pub returns-in-Err-clause-tries : goal.returns-in-Err-clause-tries
 returns-in-Err-clause-tries g c = λ w known text next begins.
     let functions = g.R.Meaning.Meaning.functions in
-    form_stops functions g.D.Disk.state g.met.D.Disk.sound c.args.self.now c.take_reply.new.self w c.args.mode text (g.W.Write.contents c.args.writer.now) (g.W.Write.contents c.args.writer.now)
+    form_stops functions g.D.Disk.state g.met.D.Disk.sound c.args.self.now c.take_reply.new.self w c.args.mode text (g.W.Recipient.contents c.args.writer.now) (g.W.Recipient.contents c.args.writer.now)
     known begins.start begins.stop next (object_of c.args.form.now.datum) begins.reads c.args.own.now begins.is_own c.in-Err.failure _
     c.in-Err.ensures.left c.number.ensures refl
 
@@ -53,10 +55,10 @@ pub returns-in-Ok-write_lines-clause-tries : goal.returns-in-Ok-write_lines-clau
 returns-in-Ok-write_lines-clause-tries g c = λ w known text next begins.
     let functions = g.R.Meaning.Meaning.functions in
     let r = c.in-Ok.ensures.takes in
-    form_answered functions g.D.Disk.state g.met.D.Disk.sound c.args.self.now c.take_reply.new.self w c.args.mode text (g.W.Write.contents c.args.writer.now) (g.W.Write.contents c.write_lines.new.writer)
+    form_answered functions g.D.Disk.state g.met.D.Disk.sound c.args.self.now c.take_reply.new.self w c.args.mode text (g.W.Recipient.contents c.args.writer.now) (g.W.Recipient.contents c.write_lines.new.self)
     known begins.start begins.stop next (object_of c.args.form.now.datum) begins.reads c.args.own.now begins.is_own r.answer c.in-Ok.reply.line.items
     r.takes r.line
-    (subst (Writes (g.W.Write.contents c.args.writer.now) (g.W.Write.contents c.write_lines.new.writer)) c.as_slice.ensures.value c.in-Ok-write_lines.ensures.whole)
+    (subst (Writes (g.W.Recipient.contents c.args.writer.now) (g.W.Recipient.contents c.write_lines.new.self)) c.as_slice.ensures.value c.in-Ok-write_lines.ensures.whole)
     c.in-Ok.reply.answered r.told
 
 pub returns-in-Ok-write_lines-clause-is_open : goal.returns-in-Ok-write_lines-clause-is_open
@@ -71,12 +73,29 @@ pub returns-clause-tries : goal.returns-clause-tries
 returns-clause-tries g c = λ w known text next begins.
     let functions = g.R.Meaning.Meaning.functions in
     let r = c.in-Ok.ensures.takes in
-    form_unwritten functions g.D.Disk.state g.met.D.Disk.sound c.args.self.now c.take_reply.new.self w c.args.mode text (g.W.Write.contents c.args.writer.now) (g.W.Write.contents c.write_lines.new.writer)
+    form_unwritten functions g.D.Disk.state g.met.D.Disk.sound c.args.self.now c.take_reply.new.self w c.args.mode text (g.W.Recipient.contents c.args.writer.now) (g.W.Recipient.contents c.write_lines.new.self)
     known begins.start begins.stop next (object_of c.args.form.now.datum) begins.reads c.args.own.now begins.is_own r.answer c.in-Ok.reply.line.items
     r.takes r.line
-    (subst (WritesPart (g.W.Write.contents c.args.writer.now) (g.W.Write.contents c.write_lines.new.writer)) c.as_slice.ensures.value c.in-Err-write_lines.ensures.part)
+    (subst (WritesPart (g.W.Recipient.contents c.args.writer.now) (g.W.Recipient.contents c.write_lines.new.self)) c.as_slice.ensures.value c.in-Err-write_lines.ensures.part)
 
 pub returns-in-Err-clause-unchanged : goal.returns-in-Err-clause-unchanged
 returns-in-Err-clause-unchanged g c =
     let functions = g.R.Meaning.Meaning.functions in
     full_unchanged functions c.args.self.now c.take_reply.new.self c.in-Err.failure _ c.in-Err.ensures.left.takes.unchanged c.number.ensures
+
+pub returns-in-Err-clause-under_way : goal.returns-in-Err-clause-under_way
+returns-in-Err-clause-under_way g c =
+    let here = known_world c.args.self.now.world c.requires.form.is_open in
+    let s = c.requires.stands here.0 here.1 in
+    none_of_form g.R.Meaning.Meaning.functions g.D.Disk.state g.met.D.Disk.sound (g.W.Recipient.account c.args.writer.now) c.args.self.now c.take_reply.new.self here.0 c.args.mode s.0 c.args.own.now (object_of c.args.form.now.datum) c.in-Err.failure here.1 s.3 c.in-Err.ensures.left.takes
+
+-- the writer failed
+pub returns-clause-under_way : goal.returns-clause-under_way
+returns-clause-under_way g c =
+    let here = known_world c.args.self.now.world c.requires.form.is_open in
+    let r = c.in-Ok.ensures.takes in
+    let new = known_world c.take_reply.new.self.world
+    (line_known g.R.Meaning.Meaning.functions g.D.Disk.state c.args.self.now c.take_reply.new.self here.0 c.args.mode c.args.own.now (object_of c.args.form.now.datum) r.answer c.in-Ok.reply.line.items r.takes r.line here.1) in
+    none_handed g.R.Meaning.Meaning.functions g.D.Disk.state g.met.D.Disk.sound 0 1 (g.W.Recipient.account c.args.writer.now) (g.W.Recipient.account c.write_lines.new.self) c.take_reply.new.self new.0 new.1
+    (hands_lines g.R.Meaning.Meaning.functions g.D.Disk.state g.met.D.Disk.sound 1 0 1 (g.W.Recipient.account c.args.writer.now) (g.W.Recipient.account c.write_lines.new.self) c.take_reply.new.self
+    c.write_lines.ensures.kept refl c.keeps_its_world.ensures)

@@ -1,0 +1,2 @@
+-- the account that a recipient of these tests keeps
+pub mod Keepers

@@ -1,0 +1,13 @@
+pub mod Joined
+pub mod Arguments
+pub mod ArgumentKinds
+pub mod Operators
+pub mod Steps
+pub mod OneEntry
+pub mod OneReadtable
+pub mod AllReadtables
+pub mod Last
+pub mod Ending
+pub mod KeptLines
+pub mod Whole
+pub mod Sessions
