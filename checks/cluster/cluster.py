@@ -1,13 +1,18 @@
 """Members of etcd and nodes on this machine, and what happens to them."""
+import base64
+import json
 import os
 import signal
 import socket
 import subprocess
 import sys
 import time
+import urllib.request
 
 HERE = os.path.dirname(os.path.abspath(__file__))
 NODE = os.path.join(HERE, "..", "..", "cluster", "pazturrok-node")
+LONG = 60.0
+"""As many seconds as nothing takes, on a busy machine either."""
 
 
 def free_ports(count):
@@ -38,37 +43,62 @@ class Process:
         self.signal(signal.SIGKILL)
         self.child.wait()
 
-    def again(self):
-        """Starts it where it has ended by itself too."""
-        if self.child.poll() is not None:
-            self.start()
+    def finish(self):
+        """Asks it to end, and gives its status."""
+        self.signal(signal.SIGCONT)
+        self.signal(signal.SIGTERM)
+        return self.child.wait(LONG)
+
+    def told(self):
+        with open(self.log, errors="replace") as log:
+            return log.read()
 
 
 class Cluster:
-    def __init__(self, folder, program, members=3, nodes=3, keep=600, options=()):
-        self.folder, self.program, self.blows = folder, program, 0
-        ports = free_ports(2 * members + nodes)
-        self.urls = [f"http://127.0.0.1:{port}" for port in ports[:members]]
-        peers = [f"http://127.0.0.1:{port}" for port in ports[members : 2 * members]]
+    """Members m0, m1, .. and nodes n0, n1, ..; `apart` are namespaces, one for each place."""
+
+    def __init__(self, folder, program, members=3, nodes=3, keep=600, options=(), apart=None):
+        self.folder, self.program, self.apart, self.blows = folder, program, apart, 0
+        ports = [2379] * members + [2380] * members + [7411] * nodes if apart else free_ports(2 * members + nodes)
+        self.urls = [f"http://{self.host(place)}:{ports[place]}" for place in range(members)]
+        peers = [f"http://{self.host(place)}:{ports[members + place]}" for place in range(members)]
         whole = ",".join(f"m{place}={peer}" for place, peer in enumerate(peers))
         self.members = [self.member(place, peers[place], whole) for place in range(members)]
-        self.places = ports[2 * members :]
+        self.places = [(self.host(place), ports[2 * members + place]) for place in range(nodes)]
         self.nodes = [self.node(place, keep, options) for place in range(nodes)]
         for one in [*self.members, *self.nodes]:
             one.start()
 
+    def host(self, place):
+        return self.apart.host(place) if self.apart else "127.0.0.1"
+
+    def within(self, place):
+        return self.apart.words(place) if self.apart else []
+
     def member(self, place, peer, whole):
-        words = ["etcd", "--name", f"m{place}", "--data-dir", os.path.join(self.folder, f"etcd-{place}"), "--log-level", "error"]
+        words = [*self.within(place), "etcd", "--name", f"m{place}", "--data-dir", self.data(place), "--log-level", "error"]
         words += ["--listen-client-urls", self.urls[place], "--advertise-client-urls", self.urls[place]]
         words += ["--listen-peer-urls", peer, "--initial-advertise-peer-urls", peer, "--initial-cluster", whole]
         words += ["--heartbeat-interval", "100", "--election-timeout", "1000"]
         return Process(words, os.path.join(self.folder, f"etcd-{place}.log"), {**os.environ, "ETCD_UNSUPPORTED_ARCH": "arm64"})
 
-    def node(self, place, keep, options):
+    def node(self, place, keep=600, options=()):
+        host, port = self.places[place]
+        options = [*options, "--keep", str(keep), "--listen", f"{host}:{port}", "--name", f"n{place}", *(["--open"] if self.apart else [])]
+        return Process([*self.within(place), *self.words(place, self.store(place), *options)], os.path.join(self.folder, f"node-{place}.log"))
+
+    def words(self, place, *further):
+        """The words of a command of pazturrok-node at a place."""
         urls = ",".join(self.urls[place:] + self.urls[:place])
-        words = [sys.executable, NODE, self.store(place), "--etcd", urls, "--listen", f"127.0.0.1:{self.places[place]}", "--name", f"n{place}"]
-        words += ["--program", self.program, "--keep", str(keep), *options]
-        return Process(words, os.path.join(self.folder, f"node-{place}.log"))
+        return [sys.executable, NODE, *further, "--etcd", urls, "--program", self.program]
+
+    def order(self, *words):
+        """Carries out an order; gives its status and what it told."""
+        told = subprocess.run(self.words(0, *words), capture_output=True, text=True, timeout=LONG)
+        return told.returncode, told.stdout + told.stderr
+
+    def data(self, place):
+        return os.path.join(self.folder, f"etcd-{place}")
 
     def store(self, place):
         return os.path.join(self.folder, f"store-{place}")
@@ -78,30 +108,51 @@ class Cluster:
         told = subprocess.run(["pgrep", "-P", str(self.nodes[place].child.pid)], capture_output=True, text=True)
         return int(told.stdout.split()[0]) if told.stdout.split() else None
 
+    def keys(self, prefix):
+        """What the first member has under the keys that begin so."""
+        text = f"pazturrok/store/{prefix}".encode()
+        ends = text[:-1] + bytes([text[-1] + 1])
+        body = json.dumps({"key": base64.b64encode(text).decode(), "range_end": base64.b64encode(ends).decode()}).encode()
+        with urllib.request.urlopen(self.urls[0] + "/v3/kv/range", body, 10) as answer:
+            found = json.load(answer).get("kvs", [])
+        return {base64.b64decode(one["key"])[len(text) :].decode(): base64.b64decode(one.get("value", "")) for one in found}
+
     def end(self):
         for one in [*self.nodes, *self.members]:
             one.signal(signal.SIGCONT)
         for node in self.nodes:
             node.signal(signal.SIGTERM)
         for node in self.nodes:
-            node.child.wait(60)
+            try:
+                node.child.wait(LONG)
+            except subprocess.TimeoutExpired:
+                print(f"cluster: {node.log}: it does not end", *node.told().split("\n")[-15:], sep="\n", flush=True)
+                node.kill()
         for member in self.members:
             member.kill()
 
-    def dump(self, place):
-        """What a store holds, but for the position."""
-        told = subprocess.run([self.program, "dump", self.store(place)], capture_output=True, text=True, timeout=60)
+    def tell_logs(self):
+        """The last lines of what each process told."""
+        for one in [*self.nodes, *self.members]:
+            print(f"--- {one.log}", *one.told().split("\n")[-15:], sep="\n")
+
+    def run(self, place, command, *options, text=""):
+        """What a command tells of a store that no node serves."""
+        told = subprocess.run([self.program, command, self.store(place), *options], input=text, capture_output=True, text=True, timeout=LONG)
         assert told.returncode == 0, told.stderr
         return told.stdout
+
+    def dump(self, place):
+        return self.run(place, "dump")
 
 
 class Client:
     """A client of one node after the other: it sends a request again, under its name, until it is answered."""
 
-    def __init__(self, places, at=0):
-        self.places, self.at, self.stream = places, at, None
+    def __init__(self, places, at=0, patience=10.0):
+        self.places, self.at, self.stream, self.patience = places, at, None, patience
 
-    def request(self, head, text, limit=120.0):
+    def request(self, head, text, limit=2 * LONG):
         """The number and the text of the answer; the number is None of a question."""
         deadline = time.monotonic() + limit
         while time.monotonic() < deadline:
@@ -115,7 +166,7 @@ class Client:
 
     def once(self, head, text):
         if self.stream is None:
-            self.stream = socket.create_connection(("127.0.0.1", self.places[self.at]), 10).makefile("rwb")
+            self.stream = socket.create_connection(self.places[self.at], self.patience).makefile("rwb")
         self.stream.write(b"%s %d\n%s\n" % (head, len(text), text))
         self.stream.flush()
         kind, size = self.stream.readline().split()
@@ -126,21 +177,26 @@ class Client:
 
 
 def trouble(cluster, chance, stopped, pause):
-    """Kills and stops members, nodes and stores at random, never so many members that there is no majority."""
+    """Kills, stops and cuts off members, nodes and stores at random, one after the other."""
     while not stopped.wait(chance.random() * pause):
         kind = chance.random()
         node = chance.choice(cluster.nodes)
-        if kind < 0.4:
+        if kind < 0.3:
             process = cluster.store_process(cluster.nodes.index(node))
             if process:
                 os.kill(process, signal.SIGKILL)
-        elif kind < 0.6:
+        elif kind < 0.45:
             node.kill()
             stopped.wait(chance.random() * pause)
             node.start()
+        elif kind < 0.65 and cluster.apart:
+            place = chance.randrange(len(cluster.nodes))
+            cluster.apart.cut(place)
+            stopped.wait(chance.random() * 5 * pause)
+            cluster.apart.join(place)
         else:
-            one = node if kind < 0.7 else chance.choice(cluster.members)
-            if kind < 0.85:
+            one = node if kind < 0.75 else chance.choice(cluster.members)
+            if kind < 0.87:
                 one.signal(signal.SIGSTOP)
                 stopped.wait(chance.random() * 2 * pause)
                 one.signal(signal.SIGCONT)

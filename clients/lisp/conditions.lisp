@@ -85,6 +85,16 @@ the store is not known, and the store is broken."))
              (format stream "there is no store in this process: ~A" (no-library-reason condition))))
   (:documentation "The library cannot be loaded, or this Lisp has no way to call it."))
 
+(define-condition no-node (store-error)
+  ((seconds :initarg :seconds :reader no-node-seconds)
+   (reason :initarg :reason :reader no-node-reason))
+  (:report (lambda (condition stream)
+             (format stream "no node answered within ~A seconds: ~A"
+                     (no-node-seconds condition) (no-node-reason condition))))
+  (:documentation
+   "No node answered in time. What was sent may be carried out later, or not; sent again under the same name
+it is carried out once."))
+
 (define-condition closed (store-error) ()
   (:report "the store is closed")
   (:documentation "The store was closed by CLOSE-STORE."))

@@ -10,6 +10,16 @@
   (closed-p nil)
   (last 0 :type unsigned-byte))                 ; the number of the last message
 
+(defstruct (node-feed (:include feed) (:constructor make-node-feed (words naming time-limit patience)) (:copier nil))
+  "Nodes, HOST:PORT or paths of sockets, of which one is asked after the other. Its words are they."
+  time-limit
+  patience
+  (at 0 :type unsigned-byte)
+  (socket nil)
+  (stream nil)
+  (prefix (format nil "~(~36R~)" (random (ash 1 120) (make-random-state t))))
+  (count 0 :type unsigned-byte))
+
 (setf (documentation 'feed-last 'function)
       "The number of the last message that was sent, or that the store told when it was opened.")
 
@@ -21,8 +31,7 @@
   ((number :initarg :number :reader lost-answer-number))
   (:report (lambda (condition stream)
              (format stream "message ~D was carried out, and its answer was lost" (lost-answer-number condition))))
-  (:documentation
-   "The message was carried out, once; the program ended before its answer was read, and it is not sent again."))
+  (:documentation "The message was carried out, once; its answer was lost, and it is not sent again."))
 
 ;;; Frames and answers
 
@@ -122,9 +131,9 @@ those of OPEN-STORE. One feed at a time may be open on a store."
       feed)))
 
 (defun close-feed (feed)
-  "Ends the program, and gives its status. What was answered is in the store."
+  "Ends the program, and gives its status; or leaves the nodes. What was answered is in the store."
   (setf (feed-closed-p feed) t)
-  (values (leave feed)))
+  (if (node-feed-p feed) (leave-node feed) (values (leave feed))))
 
 (defmacro with-feed ((feed program folder &rest options) &body body)
   "Evaluates BODY with FEED bound to what OPEN-FEED gives, and closes it."
@@ -142,10 +151,13 @@ those of OPEN-STORE. One feed at a time may be open on a store."
   "What the current package is, and which symbols of COMMON-LISP are printed in it without a prefix.")
 
 (defun ask-feed-naming (feed)
-  (let* ((answer (let ((texts '()))
-                   (exchange-frames feed (list (question-frame *qualified-question*)) '(nil) (lambda (text) (push text texts)))
-                   (first texts)))
-         (named (unless (refusal-of answer)
+  (if (node-feed-p feed)
+      (leave-node feed)                         ; the next connection asks
+      (exchange-frames feed (list (question-frame *qualified-question*)) '(nil) (lambda (text) (take-naming feed text)))))
+
+(defun take-naming (feed answer)
+  "Takes the answer to the question for the names."
+  (let* ((named (unless (refusal-of answer)
                   (parse-answer answer (lambda (prefix name) (if prefix nil name)))))
          (naming (feed-naming feed)))
     (setf (naming-current naming) (or (first named) "")
@@ -173,6 +185,10 @@ those of OPEN-STORE. One feed at a time may be open on a store."
 
 (defun send-messages (feed texts)
   "The outcomes of texts that are sent at once: each is carried out once."
+  (if (node-feed-p feed) (send-to-nodes feed texts nil) (send-numbered feed texts)))
+
+(defun send-numbered (feed texts)
+  "The same over a program, to which each is sent under a number."
   (make-feed-ready feed)
   (let* ((first (1+ (feed-last feed)))
          (numbers (loop for number from first repeat (length texts) collect number))
@@ -214,15 +230,19 @@ those of OPEN-STORE. One feed at a time may be open on a store."
   (let ((outcome (first (feed-all feed (list form)))))
     (if (typep outcome 'store-error) (error outcome) outcome)))
 
-(defun ask (feed form)
-  "Asks for the value of a form, which may change nothing."
-  (let ((text (feed-text feed form)) (answer nil))
+(defun ask-program (feed text)
+  "The text of the answer to a question."
+  (let ((answer nil))
     (loop for stops from 1
           do (handler-case
                  (progn (make-feed-ready feed)
                         (exchange-frames feed (list (question-frame text)) '(nil) (lambda (text) (setf answer text)))
-                        (return))
+                        (return answer))
                (stopped (condition)
-                 (when (or (not (killed-p condition)) (> stops *restarts*)) (error condition)))))
-    (let ((outcome (feed-outcome feed answer)))
-      (if (typep outcome 'store-error) (error outcome) outcome))))
+                 (when (or (not (killed-p condition)) (> stops *restarts*)) (error condition)))))))
+
+(defun ask (feed form)
+  "Asks for the value of a form, which may change nothing; of nodes one is asked, as far as its store has come."
+  (let* ((text (feed-text feed form))
+         (outcome (feed-outcome feed (if (node-feed-p feed) (ask-nodes feed "ask" text) (ask-program feed text)))))
+    (if (typep outcome 'store-error) (error outcome) outcome)))

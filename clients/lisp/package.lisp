@@ -13,6 +13,8 @@
    ;; Messages: each once
    "FEED" "OPEN-FEED" "CLOSE-FEED" "WITH-FEED" "FEED-FORM" "FEED-ALL" "ASK" "FEED-LAST"
    "LOST-ANSWER" "LOST-ANSWER-NUMBER"
+   ;; A store on several machines
+   "OPEN-NODES" "WITH-NODES" "SEND-NAMED" "ASK-FRESH" "NO-NODE" "NO-NODE-SECONDS" "NO-NODE-REASON"
    ;; Of a store in this process
    "SNAPSHOT" "FIGURES"
    ;; Conditions

@@ -1,7 +1,7 @@
 (defsystem "pazturrok-client"
   :version "0.3.0"
   :description "Sends forms to a store of Pazturrok, a program or a library in this process, and reads its answers."
-  :depends-on ("uiop")
+  :depends-on ("uiop" (:feature :sbcl (:require "sb-bsd-sockets")) (:feature :ecl (:require "sockets")))
   :serial t
   :components ((:file "package")
                (:file "conditions")
@@ -12,7 +12,8 @@
                (:file "process")
                (:file "library")
                (:file "store")
-               (:file "messages"))
+               (:file "messages")
+               (:file "nodes"))
   :in-order-to ((test-op (test-op "pazturrok-client/tests"))))
 
 (defsystem "pazturrok-client/tests"
@@ -26,6 +27,7 @@
                (:file "texts")
                (:file "store")
                (:file "messages")
+               (:file "nodes")
                (:file "hostile"))
   :perform (test-op (operation component)
              (uiop:symbol-call "PAZTURROK-CHECK" "TEST")))

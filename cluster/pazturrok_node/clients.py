@@ -8,24 +8,30 @@ import uuid
 from collections.abc import Awaitable
 
 from .frames import LIMIT, NoFrameError, answer, read_request
-from .node import Node
+from .node import Appender, Node
 
 AT_ONCE = 1000
 """How many requests of one client may be under way."""
 
+UNREAD = 1 << 24
+"""A client that leaves so many bytes of answers unread is let go. It may ask again, under the names of its requests."""
+
+BUFFER = LIMIT + 1024
+"""How many bytes of a request are held at most."""
+
 
 class Clients:
-    def __init__(self, node: Node) -> None:
-        self._node = node
+    def __init__(self, node: Node, appender: Appender) -> None:
+        self._node, self._appender = node, appender
 
     async def serve(self, reader: asyncio.StreamReader, writer: asyncio.StreamWriter) -> None:
         """Answers the requests of a client, until it goes or sends what is no frame."""
-        pending: asyncio.Queue[asyncio.Task[bytes] | None] = asyncio.Queue(AT_ONCE)
-        sender = asyncio.ensure_future(self._send(pending, writer))
+        client = Client(self._node, self._appender, reader, writer)
+        sender = asyncio.ensure_future(client.send())
         try:
             with contextlib.suppress(NoFrameError, ConnectionError, asyncio.IncompleteReadError, ValueError):
-                await self._take(reader, pending)
-            await pending.put(None)
+                await client.take()
+            await client.pending.put(None)
             await sender
         except (ConnectionError, asyncio.CancelledError):
             pass
@@ -33,37 +39,46 @@ class Clients:
             sender.cancel()
             writer.close()
 
-    async def _take(self, reader: asyncio.StreamReader, pending: asyncio.Queue[asyncio.Task[bytes] | None]) -> None:
+
+class Client:
+    def __init__(self, node: Node, appender: Appender, reader: asyncio.StreamReader, writer: asyncio.StreamWriter) -> None:
+        self._node, self._appender, self._reader, self._writer = node, appender, reader, writer
+        self.pending: asyncio.Queue[asyncio.Task[bytes] | None] = asyncio.Queue(AT_ONCE)
+        self._unread = 0
+
+    async def take(self) -> None:
+        """Takes requests, until the client sends no more."""
         before: asyncio.Task[bytes] | None = None
-        while (request := await read_request(reader)) is not None:
+        while (request := await read_request(self._reader)) is not None:
             kind, name, text = request
             if kind == "do":
                 # one after the other: so a client's messages are in the log in its order
-                work = self._answer_to(await self._node.append((name or uuid.uuid4().hex).encode("ascii"), text))
+                work = self._answer_to(await self._appender.append((name or uuid.uuid4().hex).encode("ascii"), text))
             else:
                 work = self._ask(kind, text, before)
             before = asyncio.ensure_future(work)
-            await pending.put(before)
+            await self.pending.put(before)
 
-    @staticmethod
-    async def _answer_to(told: Awaitable[tuple[int, bytes]]) -> bytes:
-        return answer(*await told)
+    async def _answer_to(self, told: Awaitable[tuple[int, bytes]]) -> bytes:
+        return self._held(answer(*await told))
 
     async def _ask(self, kind: str, text: bytes, before: Awaitable[bytes] | None) -> bytes:
         # it sees what the same client has sent before
         if before is not None:
             await asyncio.wait([asyncio.ensure_future(before)])
         asked = self._node.read(text) if kind == "read" else self._node.ask(text)
-        return answer(None, await asked)
+        return self._held(answer(None, await asked))
 
-    @staticmethod
-    async def _send(pending: asyncio.Queue[asyncio.Task[bytes] | None], writer: asyncio.StreamWriter) -> None:
-        while (task := await pending.get()) is not None:
-            writer.write(await task)
-            if pending.empty():
-                await writer.drain()
-        await writer.drain()
+    def _held(self, text: bytes) -> bytes:
+        self._unread += len(text)
+        if self._unread > UNREAD + len(text):
+            self._writer.transport.abort()
+        return text
 
-
-BUFFER = LIMIT + 1024
-"""How many bytes of a request are held at most."""
+    async def send(self) -> None:
+        """Sends the answers, in the order of the requests."""
+        while (task := await self.pending.get()) is not None:
+            text = await task
+            self._writer.write(text)
+            await self._writer.drain()
+            self._unread -= len(text)

@@ -7,8 +7,8 @@ import base64
 import json
 import ssl
 import urllib.parse
-from collections.abc import AsyncIterator, Iterable, Iterator, Sequence
-from typing import Any, NamedTuple
+from collections.abc import AsyncIterator
+from typing import Any
 
 TIMEOUT = 5.0
 """Seconds that a call may take, before another member is asked."""
@@ -17,33 +17,12 @@ PAUSE = 0.1
 """Seconds after a call that no member answered."""
 
 
-PLACES = 128
-"""An entry's number is so many times its revision, and its place there: entries of one transaction have one revision."""
-
-
-class Log(NamedTuple):
-    """The keys of a log: each entry is one after this prefix, and one key comes after them in each transaction."""
-
-    entries: bytes
-
-    @property
-    def tail(self) -> bytes:
-        return self.entries + b"~"
-
-
-class Entry(NamedTuple):
-    number: int
-    name: bytes
-    text: bytes
-    is_tail: bool
-
-
 class EtcdError(Exception):
     """etcd answered that it does not do this."""
 
 
 class CompactedError(EtcdError):
-    """The entries from this revision on are not all there any more."""
+    """What was at this revision is not told any more."""
 
 
 def encoded(text: bytes) -> str:
@@ -110,7 +89,8 @@ class Etcd:
     """The members of a cluster: a call goes to one of them, and to the next where it does not answer."""
 
     def __init__(self, urls: list[str], context: ssl.SSLContext | None = None) -> None:
-        self._urls, self._context, self._at = urls, context, 0
+        self._urls, self._context = urls, context
+        self._at = self._watched = 0
         self._free: list[tuple[int, Connection]] = []
 
     async def call(self, path: str, body: dict[str, Any]) -> dict[str, Any]:
@@ -153,84 +133,33 @@ class Etcd:
             raise ValueError(found)
         return found
 
-    # The log
-
-    async def append(self, log: Log, entries: Sequence[tuple[bytes, bytes]]) -> list[int]:
-        """Puts entries under their names, each unless it is there: the revision in which each was put. All names differ."""
-        puts = [put_once(encoded(log.entries + name), encoded(value)) for name, value in entries]
-        tail = {"request_put": {"key": encoded(log.tail), "value": encoded(str(len(entries)).encode("ascii"))}}
-        found = await self.call("/v3/kv/txn", {"success": [*puts, tail]})
-        return [revision_of(response["response_txn"], found) for response in found["responses"][:-1]]
-
-    async def last(self, log: Log) -> int:
-        """The revision of the last entry, as a majority has it; 0 where there is none."""
-        found = await self.call("/v3/kv/range", {"key": encoded(log.tail), "keys_only": True})
-        return int(found["kvs"][0]["mod_revision"]) if found.get("kvs") else 0
-
-    async def watch(self, log: Log, number: int) -> AsyncIterator[Entry]:
-        """The entries after this number, in their order, for ever. The tail comes after those of its revision."""
-        at = self._at
-        while True:
-            connection = Connection(self._urls[at], self._context)
-            try:
-                async for entry in self._watch_on(connection, log, max(1, number // PLACES)):
-                    if entry.number > number or entry.is_tail:
-                        number = max(number, entry.number)
-                        yield entry
-            except (OSError, asyncio.TimeoutError, asyncio.IncompleteReadError, ValueError):
-                pass
-            finally:
-                connection.close()
-            at = (at + 1) % len(self._urls)
-            await asyncio.sleep(PAUSE)
-
-    @staticmethod
-    async def _watch_on(connection: Connection, log: Log, revision: int) -> AsyncIterator[Entry]:
-        request = {**among(log.entries), "start_revision": str(revision), "progress_notify": True}
-        await asyncio.wait_for(connection.post("/v3/watch", {"create_request": request}), TIMEOUT)
-        text = b""
-        async for chunk in connection.chunks():
-            *lines, text = (text + chunk).split(b"\n")
-            for line in lines:
-                found = json.loads(line).get("result", {})
-                if int(found.get("compact_revision", "0")):
-                    raise CompactedError(f"the entries before revision {found['compact_revision']} are compacted")
-                if found.get("canceled"):
-                    raise ConnectionError(found.get("cancel_reason", "a watch was canceled"))
-                for entry in entries_of(log, found.get("events", [])):
-                    yield entry
+    async def watch(self, ranged: dict[str, Any], revision: int, pause: float) -> AsyncIterator[dict[str, Any]]:
+        """The results of a watch from a revision on, one after the other, until its member is silent for so long."""
+        connection = Connection(self._urls[self._watched], self._context)
+        try:
+            request = {**ranged, "start_revision": str(revision)}
+            await asyncio.wait_for(connection.post("/v3/watch", {"create_request": request}), TIMEOUT)
+            text, chunks = b"", connection.chunks()
+            while True:
+                *lines, text = (text + await asyncio.wait_for(chunks.__anext__(), pause)).split(b"\n")
+                for line in lines:
+                    yield watched(json.loads(line))
+        except (OSError, asyncio.TimeoutError, asyncio.IncompleteReadError, ValueError, StopAsyncIteration):
+            pass
+        finally:
+            connection.close()
+        self._watched = (self._watched + 1) % len(self._urls)
+        await asyncio.sleep(PAUSE)
 
 
-def put_once(key: str, value: str) -> dict[str, Any]:
-    """An operation that puts a key unless it is there."""
-    return {
-        "request_txn": {
-            "compare": [{"key": key, "target": "CREATE", "result": "EQUAL", "create_revision": "0"}],
-            "success": [{"request_put": {"key": key, "value": value}}],
-            "failure": [{"request_range": {"key": key, "keys_only": True}}],
-        }
-    }
-
-
-def revision_of(response: dict[str, Any], whole: dict[str, Any]) -> int:
-    """The revision in which a key was put, now or before."""
-    if response.get("succeeded"):
-        return int(whole["header"]["revision"])
-    return int(response["responses"][0]["response_range"]["kvs"][0]["create_revision"])
-
-
-def entries_of(log: Log, events: Iterable[dict[str, Any]]) -> Iterator[Entry]:
-    """The entries of events, which are whole revisions: each has the number of its revision and of its place there."""
-    before, place = 0, 0
-    for event in events:
-        if event.get("type", "PUT") != "PUT":
-            continue
-        revision, key = int(event["kv"]["mod_revision"]), decoded(event["kv"]["key"])
-        place = place + 1 if revision == before else 0
-        before = revision
-        is_tail = key == log.tail
-        name = b"" if is_tail else key[len(log.entries) :]
-        yield Entry(revision * PLACES + min(place, PLACES - 1), name, decoded(event["kv"].get("value", "")), is_tail)
+def watched(found: dict[str, Any]) -> dict[str, Any]:
+    """The result that a watch tells, if it goes on."""
+    result: dict[str, Any] = found.get("result", {})
+    if int(result.get("compact_revision", "0")):
+        raise CompactedError(f"what was before revision {result['compact_revision']} is compacted")
+    if result.get("canceled") or "error" in found:
+        raise ConnectionError(str(result.get("cancel_reason", found.get("error"))))
+    return result
 
 
 def among(prefix: bytes) -> dict[str, Any]:

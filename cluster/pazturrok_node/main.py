@@ -8,22 +8,34 @@ import contextlib
 import ipaddress
 import os
 import re
+import resource
 import signal
 import socket
 import ssl
 import sys
 
 from .clients import BUFFER, Clients
-from .etcd import CompactedError, Etcd, Log
-from .node import Node
+from .etcd import Etcd, EtcdError
+from .log import BehindError, Log
+from .node import Appender, Node
+from .orders import begin, skip
+from .replica import RefusedStoreError, Replica
+from .tasks import end_all
 from .trim import Trimmer
 
-BEHIND = """node: {error}; this store is behind what is left of the log. Stop another node, copy both files of its store here, and start both again"""
+REFUSED = "node: {}. Nothing was carried out"
+BEHIND = "this store is behind what is left of the log: stop another node, put copies of both files of its store in place of these, and start both"
+
+ABOUT = """A replica of a store, by a log in etcd.
+
+  pazturrok-node FOLDER          serves clients, and carries out the entries of the log on the store in FOLDER
+  pazturrok-node begin FOLDER    begins a log that is not there with this store, as after the loss of etcd
+  pazturrok-node skip NUMBER     has all nodes skip the entry before which their stores end again and again"""
 
 
 def words() -> argparse.Namespace:
-    parser = argparse.ArgumentParser(prog="pazturrok-node", description="A replica of a store, by a log in etcd.")
-    parser.add_argument("folder", help="the folder of this replica's store")
+    parser = argparse.ArgumentParser(prog="pazturrok-node", description=ABOUT, formatter_class=argparse.RawDescriptionHelpFormatter)
+    parser.add_argument("order", nargs="*", metavar="FOLDER")
     parser.add_argument("--etcd", default="http://127.0.0.1:2379", help="the members, with commas between them")
     parser.add_argument("--etcd-ca", metavar="FILE", help="who signs for the members")
     parser.add_argument("--etcd-cert", metavar="FILE", help="this node for the members, with its key in one file")
@@ -36,6 +48,12 @@ def words() -> argparse.Namespace:
     parser.add_argument("--snapshot-every", metavar="N", help="as the program has it")
     parser.add_argument("--keep", type=float, default=600, metavar="SECONDS", help="an entry stays so long at least, 600")
     asked = parser.parse_args()
+    if len(asked.order) == 1 and asked.order[0] not in ("begin", "skip"):
+        asked.order.insert(0, "serve")
+    if len(asked.order) != 2 or asked.order[0] not in ("serve", "begin", "skip"):
+        parser.error("which folder?")
+    if asked.order[0] == "skip" and not re.fullmatch(r"[1-9][0-9]{0,18}", asked.order[1]):
+        parser.error(f"{asked.order[1]!r} is no number of an entry")
     for word in (asked.log, asked.name):
         if not re.fullmatch(r"[A-Za-z0-9._-]{1,100}", word):
             parser.error(f"{word!r} is no name")
@@ -64,39 +82,52 @@ async def listen(asked: argparse.Namespace, clients: Clients) -> asyncio.Abstrac
     if "/" in asked.listen:
         with contextlib.suppress(FileNotFoundError):
             os.unlink(asked.listen)
-        return await asyncio.start_unix_server(clients.serve, asked.listen, limit=BUFFER)
+        return await asyncio.start_unix_server(clients.serve, asked.listen, limit=BUFFER, backlog=1024)
     context = None
     if asked.cert:
         context = ssl.SSLContext(ssl.PROTOCOL_TLS_SERVER)
         context.load_cert_chain(asked.cert)
     host, _, port = asked.listen.rpartition(":")
-    return await asyncio.start_server(clients.serve, host.strip("[]"), int(port), ssl=context, limit=BUFFER)
+    return await asyncio.start_server(clients.serve, host.strip("[]"), int(port), ssl=context, limit=BUFFER, backlog=1024)
 
 
-async def serve(asked: argparse.Namespace) -> int:
-    prefix = f"pazturrok/{asked.log}/".encode("ascii")
-    etcd = Etcd(asked.etcd.split(","), context_for_etcd(asked))
-    further = ["--snapshot-every", asked.snapshot_every] if asked.snapshot_every else []
-    node = Node(etcd, Log(prefix + b"log/"), [asked.program, "run", asked.folder, "--messages", *further])
-    trimmer = Trimmer(etcd, prefix, asked.name, node, asked.keep)
-    server = await listen(asked, Clients(node))
+async def serve(asked: argparse.Namespace, node: Node) -> int:
+    """Serves until a signal asks for the end, or the store is refused."""
+    most = resource.getrlimit(resource.RLIMIT_NOFILE)[1]
+    resource.setrlimit(resource.RLIMIT_NOFILE, (most, most))
+    appender = Appender(node)
+    trimmer = Trimmer(asked.name, node, appender, asked.keep)
+    server = await listen(asked, Clients(node, appender))
     stop = asyncio.Event()
     for number in (signal.SIGTERM, signal.SIGINT):
         asyncio.get_running_loop().add_signal_handler(number, stop.set)
-    tasks = [asyncio.ensure_future(work) for work in (node.run(), node.put(), trimmer.run(), stop.wait())]
+    tasks = [asyncio.ensure_future(work) for work in (node.run(), appender.run(), trimmer.run(), stop.wait())]
     done, others = await asyncio.wait(tasks, return_when=asyncio.FIRST_COMPLETED)
     server.close()
-    for task in others:
-        task.cancel()
-    await asyncio.gather(*others, return_exceptions=True)
-    try:
-        for task in done:
-            task.result()
-    except CompactedError as error:
-        print(BEHIND.format(error=error), file=sys.stderr)
-        return 4
+    await end_all(others, 15)
+    for task in done:
+        task.result()
+    await node.end()
     return 0
 
 
+async def carry_out(asked: argparse.Namespace) -> int:
+    order, thing = asked.order
+    log = Log(Etcd(asked.etcd.split(","), context_for_etcd(asked)), asked.log)
+    further = ["--snapshot-every", asked.snapshot_every] if asked.snapshot_every else []
+    program = [asked.program, "run", thing, "--messages", *further]
+    try:
+        if order == "skip":
+            return await skip(log, int(thing))
+        replica = Replica(log, asked.program, thing)
+        return await (begin(log, replica, program) if order == "begin" else serve(asked, Node(log, replica, program)))
+    except (BehindError, RefusedStoreError) as error:
+        print(REFUSED.format(BEHIND if isinstance(error, BehindError) else error), file=sys.stderr)
+        return 4
+    except EtcdError as error:
+        print(f"pazturrok-node: etcd: {error}", file=sys.stderr)
+        return 3
+
+
 def main() -> int:
-    return asyncio.run(serve(words()))
+    return asyncio.run(carry_out(words()))

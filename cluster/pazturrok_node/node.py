@@ -6,96 +6,59 @@ import asyncio
 import collections
 import contextlib
 import sys
-from collections.abc import Sequence
-from typing import NamedTuple
+from collections.abc import Callable, Sequence
 
+from .answers import LOST, Answers
 from .child import Child
-from .etcd import PLACES, Entry, Etcd, Log
+from .etcd import EtcdError
 from .frames import NoFrameError, message, question, read_answer
+from .log import Entry, Log, Reached
+from .replica import Replica
+from .tasks import end_all
 
-LOST = b"! 50 OLD-NUMBER"
-"""The answer to an entry that was carried out, once, and whose own answer nobody has any more."""
+SKIPPED = b"! 53 SKIPPED"
+"""The answer to an entry that all stores skip."""
 
-RECENT = 100_000
-"""How many answers are kept for those who ask again."""
+NOTHING = b"NIL"
+"""What a store is fed in place of such an entry."""
+
+MARK = (
+    b"(COMMON-LISP:SETF (COMMON-LISP:GET (COMMON-LISP:QUOTE COMMON-LISP-USER::|position|)"
+    b" (COMMON-LISP:QUOTE COMMON-LISP-USER::|position|)) 0)"
+)
+"""A form that changes nothing, as the store overrules it; but it writes, and so the store has its position for good."""
 
 LONGEST_PAUSE = 10.0
 """At most so many seconds are between two starts of a store that ends at once."""
-
 
 AT_ONCE = 100
 """At most so many entries are put by one transaction."""
 
 MOST_BYTES = 1_000_000
-"""And so many bytes of them, but for one entry alone: etcd takes requests of 1.5 MB, and a byte is more than one in JSON."""
-
-
-class Append(NamedTuple):
-    name: bytes
-    text: bytes
-    placed: asyncio.Future[int]
+"""And so many bytes of them, but for one entry alone: etcd takes requests of 1.5 MB."""
 
 
 class Node:
-    def __init__(self, etcd: Etcd, log: Log, words: Sequence[str]) -> None:
-        self._etcd, self.log, self._words = etcd, log, words
+    def __init__(self, log: Log, replica: Replica, words: Sequence[str]) -> None:
+        self.log, self._replica, self._words = log, replica, words
+        self.answers = Answers()
         self.position = 0
         """The number of the last entry that the store has answered."""
-        self._told = 0
-        self._fed = (0, 0)
-        """The last revision that was sent to the store as a whole, and the last number that was sent."""
+        self.lasting = 0
+        """A number that an opening of the store would tell, or a lower one than that."""
+        self.is_admitted = asyncio.Event()
+        self._ended_at = (0, 0)
+        """The number of the entry before whose answer the store has ended last, and how often it did."""
+        self._reached = (0, 0)
+        """A revision all of whose entries were sent to the store, and the number of the last one."""
         self._child: Child | None = None
-        self._recent: collections.OrderedDict[bytes, tuple[int, bytes]] = collections.OrderedDict()
-        self._waiting: dict[bytes, list[asyncio.Future[tuple[int, bytes]]]] = {}
+        self._skipped: set[int] = set()
+        self._last: Entry | None = None
         self._sent: collections.deque[Entry] = collections.deque()
         self._asked: collections.deque[tuple[bytes, asyncio.Future[bytes]]] = collections.deque()
         self._moved = asyncio.Condition()
-        self._appends: collections.deque[Append] = collections.deque()
-        self._some = asyncio.Event()
 
     # What clients want
-
-    async def append(self, name: bytes, text: bytes) -> asyncio.Future[tuple[int, bytes]]:
-        """Puts an entry into the log, once, however often it is tried: what will have its number and its answer."""
-        placed: asyncio.Future[int] = asyncio.get_running_loop().create_future()
-        self._appends.append(Append(name, text, placed))
-        self._some.set()
-        return self._answer_to(name, await placed)
-
-    def _answer_to(self, name: bytes, revision: int) -> asyncio.Future[tuple[int, bytes]]:
-        future: asyncio.Future[tuple[int, bytes]] = asyncio.get_running_loop().create_future()
-        if name in self._recent:
-            future.set_result(self._recent[name])
-        elif (revision + 1) * PLACES <= self._told:
-            future.set_result((revision * PLACES, LOST))
-        else:
-            self._waiting.setdefault(name, []).append(future)
-        return future
-
-    async def put(self) -> None:
-        """Puts what clients send into the log, for ever: all that came while a transaction was under way is one more."""
-        while True:
-            await self._some.wait()
-            some = self._next_appends()
-            revisions = await self._etcd.append(self.log, [(one.name, one.text) for one in some])
-            for one, revision in zip(some, revisions):
-                if not one.placed.done():
-                    one.placed.set_result(revision)
-
-    def _next_appends(self) -> list[Append]:
-        """The first ones that wait, of different names, as many as one transaction may have."""
-        some: list[Append] = []
-        size, names = 0, set()
-        while self._appends and len(some) < AT_ONCE:
-            one = self._appends[0]
-            size += len(one.text)
-            if one.name in names or (some and size > MOST_BYTES):
-                break
-            names.add(one.name)
-            some.append(self._appends.popleft())
-        if not self._appends:
-            self._some.clear()
-        return some
 
     async def ask(self, text: bytes) -> bytes:
         """What the store answers to a question, as far as it has come."""
@@ -107,11 +70,10 @@ class Node:
 
     async def read(self, text: bytes) -> bytes:
         """What it answers after all entries that were in the log when this was called."""
-        last = await self._etcd.last(self.log)
-        async with self._moved:
-            await self._moved.wait_for(lambda: self._fed[0] >= last)
-            number = self._fed[1]
-            await self._moved.wait_for(lambda: self.position >= number)
+        last = await self.log.last()
+        await self._until(lambda: self._reached[0] >= last)
+        number = self._reached[1]
+        await self._until(lambda: self.position >= number)
         return await self.ask(text)
 
     # The store
@@ -120,23 +82,52 @@ class Node:
         """Starts the store whenever it ends, and feeds it from its position on."""
         pause = 0.05
         while True:
+            await self._replica.look()
             child = await Child.start(self._words)
             if child:
                 before = self.position
-                await self._settle(child.position)
-                await self._serve(child)
+                try:
+                    await self._replica.admit(child.position)
+                    self._skipped = await self.log.skipped()
+                    await self._settle(child.position)
+                    await self._serve(child)
+                finally:
+                    status = await child.end()
+                print(f"node: the store ended with status {status}, at {self.position}", file=sys.stderr, flush=True)
+                self._count_end()
                 pause = 0.05 if self.position > before else pause
             await asyncio.sleep(pause)
             pause = min(2 * pause, LONGEST_PAUSE)
 
+    def _count_end(self) -> None:
+        number = self._sent[0].number if self._sent else 0
+        self._ended_at = (number, self._ended_at[1] + 1 if number == self._ended_at[0] else 1)
+
+    @property
+    def stuck(self) -> int:
+        """The number of the entry at which the store ends again and again, or 0."""
+        number, count = self._ended_at
+        return number if number > self.position and count > 1 else 0
+
+    async def end(self) -> None:
+        """Writes down how the store was left."""
+        if self.is_admitted.is_set() and self._child is None:
+            await self._replica.ended()
+
+    def note(self) -> None:
+        """Writes down what the store has answered last."""
+        if self._last:
+            self._replica.saw(self._last)
+
     async def _settle(self, position: int) -> None:
         """The store has carried out the entries up to this number: nobody has the answers that were not read."""
-        self._told = max(self._told, position)
         for entry in self._sent:
             if entry.number <= position:
-                self._resolve(entry, LOST)
+                self.answers.resolve(entry, LOST)
         self._sent.clear()
+        self.lasting = max(self.lasting, position)
         await self._move(position)
+        self.is_admitted.set()
 
     async def _serve(self, child: Child) -> None:
         self._child = child
@@ -149,24 +140,22 @@ class Node:
                 task.result()
         finally:
             self._child = None
-            for task in tasks:
-                task.cancel()
-            await asyncio.gather(*tasks, return_exceptions=True)
-            status = await child.end()
-            print(f"node: the store ended with status {status}, at {self.position}", file=sys.stderr)
+            await end_all(tasks, 1)
 
     async def _feed(self, child: Child) -> None:
         last = child.position
         with contextlib.suppress(ConnectionError):
-            async for entry in self._etcd.watch(self.log, child.position):
-                if entry.is_tail:
-                    if last >= self._fed[1]:
-                        self._fed = (entry.number // PLACES, last)
+            async for found in self.log.watch(child.position):
+                if isinstance(found, Reached):
+                    if last >= self._reached[1]:
+                        self._reached = (found.revision, last)
                         await self._tell()
                     continue
-                last = entry.number
-                self._sent.append(entry)
-                child.send(message(entry.number, entry.text))
+                last = found.number
+                self._sent.append(found)
+                if found.number in self._skipped:
+                    self._replica.will_skip(found.number)
+                child.send(message(found.number, NOTHING if found.number in self._skipped else found.text))
                 await child.drain()
 
     async def _listen(self, child: Child) -> None:
@@ -178,26 +167,75 @@ class Node:
                     if not future.done():
                         future.set_result(text)
                     continue
-                entry = self._sent.popleft()
-                if entry.number != number:
-                    raise NoFrameError(f"an answer to {number}, and not to {entry.number}")
-                self._resolve(entry, text)
+                self._last = self._sent.popleft()
+                if self._last.number != number:
+                    raise NoFrameError(f"an answer to {number}, and not to {self._last.number}")
+                if self._last.text == MARK and text == b"0":
+                    self.lasting = number
+                self.answers.resolve(self._last, SKIPPED if number in self._skipped else text)
                 await self._move(number)
 
-    def _resolve(self, entry: Entry, text: bytes) -> None:
-        """An entry has this answer: it goes to those who wait for it, and is kept for those who will."""
-        self._recent[entry.name] = (entry.number, text)
-        while len(self._recent) > RECENT:
-            self._recent.popitem(last=False)
-        for future in self._waiting.pop(entry.name, ()):
-            if not future.done():
-                future.set_result((entry.number, text))
-
     async def _move(self, position: int) -> None:
+        self.answers.settled = max(self.answers.settled, position)
         if position > self.position:
             self.position = position
             await self._tell()
 
+    async def _until(self, holds: Callable[[], bool]) -> None:
+        async with self._moved:
+            await self._moved.wait_for(holds)
+
     async def _tell(self) -> None:
         async with self._moved:
             self._moved.notify_all()
+
+
+class Appender:
+    """Puts what clients send into the log: all that came while a transaction was under way is one more."""
+
+    def __init__(self, node: Node) -> None:
+        self._node = node
+        self._waiting: collections.deque[tuple[bytes, bytes, asyncio.Future[int]]] = collections.deque()
+        self._some = asyncio.Event()
+
+    async def append(self, name: bytes, text: bytes) -> asyncio.Future[tuple[int, bytes]]:
+        """Puts an entry into the log, once, however often it is tried: what will have its number and its answer."""
+        placed: asyncio.Future[int] = asyncio.get_running_loop().create_future()
+        self._waiting.append((name, text, placed))
+        self._some.set()
+        return self._node.answers.answer_to(name, await placed)
+
+    async def run(self) -> None:
+        """Puts them, for ever."""
+        await self._node.is_admitted.wait()
+        while True:
+            await self._some.wait()
+            some = self._take()
+            numbers = await self._put([(name, text) for name, text, _ in some])
+            for (_, _, placed), number in zip(some, numbers):
+                if not placed.done():
+                    placed.set_result(number)
+
+    async def _put(self, entries: Sequence[tuple[bytes, bytes]]) -> list[int]:
+        while True:
+            try:
+                return await self._node.log.append(entries)
+            except EtcdError as error:
+                # as where it is full: they wait until an operator has made room
+                print(f"node: etcd takes no entries: {error}", file=sys.stderr, flush=True)
+                await asyncio.sleep(1)
+
+    def _take(self) -> list[tuple[bytes, bytes, asyncio.Future[int]]]:
+        """The first ones that wait, of different names, as many as one transaction may have."""
+        some: list[tuple[bytes, bytes, asyncio.Future[int]]] = []
+        size, names = 0, set()
+        while self._waiting and len(some) < AT_ONCE:
+            name, text, _ = self._waiting[0]
+            size += len(text)
+            if name in names or (some and size > MOST_BYTES):
+                break
+            names.add(name)
+            some.append(self._waiting.popleft())
+        if not self._waiting:
+            self._some.clear()
+        return some

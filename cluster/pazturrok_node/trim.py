@@ -1,17 +1,22 @@
-"""Old entries are deleted: those that each node has carried out, and that no client will send again."""
+"""Old entries are deleted: those that each store has for good, and that no client will send again."""
 
 from __future__ import annotations
 
 import asyncio
 import collections
+import contextlib
+import json
 import sys
 import time
+import uuid
+from typing import Any
 
-from .etcd import PLACES, Etcd, EtcdError, among, decoded, encoded
-from .node import Node
+from .etcd import CompactedError, EtcdError, among, decoded, encoded
+from .log import Log
+from .node import MARK, Appender, Node
 
 BEAT = 3.0
-"""Seconds between two reports of a node's position."""
+"""Seconds between two reports of a node."""
 
 LEASE = 15
 """After so many seconds without a report a node is none any more, and nothing is kept for it."""
@@ -19,27 +24,47 @@ LEASE = 15
 AT_ONCE = 100
 """How many entries are deleted by one transaction."""
 
+class Reports:
+    """What the nodes of a log tell of themselves, each under a lease."""
+
+    def __init__(self, log: Log) -> None:
+        self._log, self._prefix = log, log.prefix + b"nodes/"
+
+    async def put(self, name: str, told: dict[str, int], lease: int) -> None:
+        """Tells it; and those who watch the log see that it is alive."""
+        report = {"key": encoded(self._prefix + name.encode("ascii")), "value": encoded(json.dumps(told).encode("ascii")), "lease": str(lease)}
+        beat = {"key": encoded(self._log.beat), "value": ""}
+        await self._log.etcd.call("/v3/kv/txn", {"success": [{"request_put": report}, {"request_put": beat}]})
+
+    async def all(self) -> dict[str, dict[str, int]]:
+        found = await self._log.etcd.call("/v3/kv/range", among(self._prefix))
+        return {decoded(entry["key"])[len(self._prefix) :].decode("ascii"): json.loads(decoded(entry["value"])) for entry in found.get("kvs", [])}
+
 
 class Trimmer:
-    """Tells the position of a node, and deletes old entries where no other node does. Entries stay `keep` seconds at least."""
+    """Reports a node, and deletes old entries where no other node does. Entries stay `keep` seconds at least."""
 
-    def __init__(self, etcd: Etcd, prefix: bytes, name: str, node: Node, keep: float) -> None:
-        self._etcd, self._node, self._keep = etcd, node, keep
-        self._nodes, self._key = prefix + b"nodes/", prefix + b"trims"
-        self._name = self._nodes + name.encode("ascii")
+    def __init__(self, name: str, node: Node, appender: Appender, keep: float) -> None:
+        self._name, self._node, self._appender, self._keep = name, node, appender, keep
+        self._log, self._etcd, self._reports = node.log, node.log.etcd, Reports(node.log)
+        self._holder = node.log.prefix + b"trimmer"
         self._seen: collections.deque[tuple[float, int]] = collections.deque()
-        self._trimmed = 0
+        self._marked, self._trimmed = 0.0, 0
 
     async def run(self) -> None:
-        lease = 0
+        await self._node.is_admitted.wait()
+        lease, answered = 0, 0
         while True:
             try:
+                if self._node.position != answered:
+                    answered = self._node.position
+                    self._node.note()
                 lease = lease or int((await self._etcd.call("/v3/lease/grant", {"TTL": LEASE}))["ID"])
                 await self._report(lease)
-                if await self._holds_key(lease):
+                if await self._is_holder(lease):
                     await self._trim()
             except EtcdError as error:
-                print(f"node: {error}", file=sys.stderr)
+                print(f"node: {error}", file=sys.stderr, flush=True)
                 lease = 0
             await asyncio.sleep(BEAT)
 
@@ -47,48 +72,51 @@ class Trimmer:
         found = await self._etcd.call("/v3/lease/keepalive", {"ID": str(lease)})
         if int(found.get("result", {}).get("TTL", "0")) <= 0:
             raise EtcdError("the lease has ended")
-        value = str(self._node.position).encode("ascii")
-        await self._etcd.call("/v3/kv/put", {"key": encoded(self._name), "value": encoded(value), "lease": str(lease)})
-        self._seen.append((time.monotonic(), self._node.position))
+        told = {"answered": self._node.position, "lasting": self._node.lasting, "stuck": self._node.stuck}
+        await self._reports.put(self._name, told, lease)
+        self._seen.append((time.monotonic(), self._node.lasting))
 
-    async def _holds_key(self, lease: int) -> bool:
+    async def _is_holder(self, lease: int) -> bool:
         """Whether it is this node that trims: it takes the key where nobody has it."""
-        key = encoded(self._key)
-        found = await self._etcd.call(
-            "/v3/kv/txn",
-            {
-                "compare": [{"key": key, "target": "CREATE", "result": "EQUAL", "create_revision": "0"}],
-                "success": [{"request_put": {"key": key, "value": encoded(self._name), "lease": str(lease)}}],
-                "failure": [{"request_range": {"key": key}}],
-            },
-        )
+        key = encoded(self._holder)
+        compare: dict[str, Any] = {"key": key, "target": "CREATE", "result": "EQUAL", "create_revision": "0"}
+        put = {"request_put": {"key": key, "value": encoded(self._name.encode("ascii")), "lease": str(lease)}}
+        found = await self._etcd.call("/v3/kv/txn", {"compare": [compare], "success": [put], "failure": [{"request_range": {"key": key}}]})
         if found.get("succeeded"):
             return True
         held = found["responses"][0]["response_range"].get("kvs", [])
-        return bool(held) and decoded(held[0]["value"]) == self._name
+        return bool(held) and decoded(held[0]["value"]) == self._name.encode("ascii")
 
     async def _trim(self) -> None:
-        found = await self._etcd.call("/v3/kv/range", among(self._nodes))
-        least = min(int(decoded(entry["value"])) for entry in found["kvs"])
-        # a watch begins at the revision of a position, so that one stays
-        upto = min(least, self._position_before(time.monotonic() - self._keep)) // PLACES - 1
+        await self._mark()
+        least = min(told["lasting"] for told in (await self._reports.all()).values())
+        self._trimmed = self._trimmed or await self._log.trimmed()
+        # what comes after a position may have its revision, so that one stays
+        upto = self._log.revision(min(least, self._position_before(time.monotonic() - self._keep))) - 1
         if upto <= self._trimmed:
             return
+        await self._log.will_trim(upto)
         while keys := await self._old_keys(upto):
             deletes = [{"request_delete_range": {"key": key}} for key in keys]
             await self._etcd.call("/v3/kv/txn", {"success": deletes})
-        await self._etcd.call("/v3/kv/compaction", {"revision": str(upto)})
         self._trimmed = upto
+        with contextlib.suppress(CompactedError):
+            await self._etcd.call("/v3/kv/compaction", {"revision": str(upto)})
+
+    async def _mark(self) -> None:
+        """Has all stores write their position now and then, where something has come since."""
+        now = time.monotonic()
+        if self._node.position > self._node.lasting and now - self._marked > self._keep / 10:
+            self._marked = now
+            await self._appender.append(uuid.uuid4().hex.encode("ascii"), MARK)
 
     async def _old_keys(self, upto: int) -> list[str]:
-        found = await self._etcd.call(
-            "/v3/kv/range",
-            {**among(self._node.log.entries), "max_create_revision": str(upto), "limit": str(AT_ONCE), "keys_only": True},
-        )
+        ranged = {"key": encoded(self._log.entries), "range_end": encoded(self._log.tail), "keys_only": True}
+        found = await self._etcd.call("/v3/kv/range", {**ranged, "max_create_revision": str(upto), "limit": str(AT_ONCE)})
         return [entry["key"] for entry in found.get("kvs", [])]
 
     def _position_before(self, moment: float) -> int:
-        """The node's position at this moment, or 0 where nobody has seen it."""
+        """The position that was lasting at this moment, or 0 where nobody has seen it."""
         position = 0
         while self._seen and self._seen[0][0] <= moment:
             _, position = self._seen.popleft()

@@ -68,6 +68,13 @@ pub fn kept_account<D: Disk, M: MacroFunctions, I: Read>(
         last: Snapshot::of(store),
     };
     let ended = store.serve_wanted(reader, &mut keeper, wanted);
-    let Keeper { bytes, mode: _, first: _, input: _, forms: _, last: _ } = keeper;
+    let Keeper {
+        bytes,
+        mode: _,
+        first: _,
+        input: _,
+        forms: _,
+        last: _,
+    } = keeper;
     (ended, bytes)
 }

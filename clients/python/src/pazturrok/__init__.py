@@ -4,7 +4,8 @@
         store.execute("(SETF (GET 'APPLE 'PRICE) 7)")
 
 A Store starts the program over a folder; a MessageStore sends it messages that are carried out once, whatever
-becomes of the program; an EmbeddedStore has the store in this process, by the library.
+becomes of the program; an EmbeddedStore has the store in this process, by the library; a NodeStore speaks to
+the nodes of a store on several machines.
 README.md beside pyproject.toml says how they are used, docs/run/protocol.md what goes to and fro.
 """
 
@@ -16,6 +17,7 @@ from .errors import (
     LostAnswerError,
     MalformedAnswerError,
     NoLibraryError,
+    NoNodeError,
     RefusedError,
     StoppedError,
     StoreError,
@@ -23,6 +25,7 @@ from .errors import (
     UnsendableError,
 )
 from .messages import MessageStore
+from .nodes import NodeStore
 from .printer import printed
 from .store import Store
 from .values import NIL, Character, DottedList, Symbol, T, Value, keyword, quote
@@ -39,6 +42,8 @@ __all__ = [
     "MalformedAnswerError",
     "MessageStore",
     "NoLibraryError",
+    "NoNodeError",
+    "NodeStore",
     "RefusedError",
     "StoppedError",
     "Store",

@@ -92,11 +92,23 @@ class TimeLimitError(UnansweredError, TimeoutError):
 
 
 class LostAnswerError(StoreError):
-    """The message was carried out, once; the program ended before its answer was read, and it is not sent again."""
+    """The message was carried out, once; its answer was lost, and it is not sent again."""
 
     def __init__(self, number: int) -> None:
         super().__init__(f"message {number} was carried out, and its answer was lost")
         self.number = number
+
+
+class NoNodeError(UnansweredError, TimeoutError):
+    """No node answered in time.
+
+    What was sent may be carried out later, or not; sent again under the same name it is carried out once.
+    """
+
+    def __init__(self, seconds: float, reason: str) -> None:
+        super().__init__(f"no node answered within {seconds} seconds: {reason}")
+        self.seconds = seconds
+        self.reason = reason
 
 
 class BrokenStoreError(StoreError):

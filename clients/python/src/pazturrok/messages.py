@@ -8,25 +8,19 @@ import threading
 from collections.abc import Iterable, Sequence
 from types import TracebackType
 
-from .answers import parse_answer, refusal_of
 from .errors import (
     ClosedStoreError,
     LostAnswerError,
     MalformedAnswerError,
-    RefusedError,
     StoppedError,
     StoreError,
     UnsendableError,
 )
+from .naming import NAMING_QUESTION, Naming, until_naming
 from .printer import FORM_LIMIT, check_characters, printed
 from .program import Program
 from .store import Form, Outcome, changes_naming
-from .values import LISP, OPERATORS, Symbol, Value
-
-NAMING_QUESTION = (
-    f"({LISP}:LIST {LISP}:*PACKAGE* {' '.join(f'{chr(39)}{LISP}:{name}' for name in sorted(OPERATORS))})"
-)
-"""What the current package is, and which symbols of COMMON-LISP are printed in it without a prefix."""
+from .values import Value
 
 HEAD = re.compile(rb"(?:0|[1-9][0-9]*|ask) (0|[1-9][0-9]*)")
 POSITION = re.compile(rb"at (0|[1-9][0-9]*)")
@@ -35,11 +29,14 @@ RESTARTS = 5
 
 
 class FrameSplitter:
-    """Splits what the program writes into answers: each the line before it, a newline, and its text. First comes the position."""
+    """Splits what the program writes into answers: each the line before it, a newline, and its text.
 
-    def __init__(self) -> None:
+    First comes the position, if it is not known already.
+    """
+
+    def __init__(self, position: int | None = None) -> None:
         self._bytes = bytearray()
-        self.position: int | None = None
+        self.position = position
 
     @property
     def is_empty(self) -> bool:
@@ -79,7 +76,8 @@ class FrameSplitter:
         if end > len(self._bytes):
             return None
         if self._bytes[end - 1 : end] != b"\n":
-            raise MalformedAnswerError(self._bytes[place:end].decode("latin-1"), "it is longer than its length")
+            text = self._bytes[place:end].decode("latin-1")
+            raise MalformedAnswerError(text, "it is longer than its length")
         return end
 
 
@@ -91,8 +89,8 @@ class MessageStore:
     `LostAnswerError` stands in place of its value. A form is read as the store reads, under its current
     readtable, package and read base.
 
-    One MessageStore at a time may feed a store. `time_limit` is how many seconds the answers of what is sent at
-    once may take; `options` are further words of the command line, as ("--snapshot-every", "1000").
+    One MessageStore at a time may feed a store. `time_limit` is how many seconds the answers of what is sent
+    at once may take; `options` are further words of the command line, as ("--snapshot-every", "1000").
     """
 
     def __init__(
@@ -109,6 +107,7 @@ class MessageStore:
         self._program: Program | None = None
         self._is_closed = False
         self._last = 0
+        self._naming = Naming()
         self._open()
 
     @property
@@ -143,21 +142,21 @@ class MessageStore:
         return value
 
     def do_all(self, forms: Iterable[Form]) -> list[Outcome]:
-        """Has many forms carried out, without waiting for each answer, and gives the value of each, or its exception."""
-        texts = [_text(form) for form in forms]
+        """Has many forms carried out, all sent at once, and gives the value of each, or its exception."""
+        texts = [text_of(form) for form in forms]
         outcomes: list[Outcome] = []
         with self._lock:
             while len(outcomes) < len(texts):
-                outcomes += self._do_some(_until_naming(texts[len(outcomes) :]))
+                outcomes += self._do_some(until_naming(texts[len(outcomes) :]))
                 if changes_naming(texts[len(outcomes) - 1]):
                     self._ask_naming()
         return outcomes
 
     def ask(self, form: Form) -> Value:
         """Asks for the value of a form, which may change nothing."""
-        text = _text(form)
+        text = text_of(form)
         with self._lock:
-            return self._value(self._ask(text))
+            return self._naming.value(self._ask(text))
 
     # Sending
 
@@ -170,17 +169,18 @@ class MessageStore:
         while len(outcomes) < len(texts):
             answers: list[str] = []
             try:
-                self._exchange([_message(*pair) for pair in list(zip(numbers, texts))[len(outcomes) :]], answers)
+                unanswered = list(zip(numbers, texts))[len(outcomes) :]
+                self._exchange([message(*pair) for pair in unanswered], answers)
             except StoppedError as error:
                 stops = 1 if answers else stops + 1
                 if error.status >= 0 or stops > RESTARTS:
                     raise
-                outcomes += map(self._outcome, answers)
+                outcomes += map(self._naming.outcome, answers)
                 position = self._open()
                 lost = numbers[len(outcomes) :]
                 outcomes += [LostAnswerError(number) for number in lost if number <= position]
             else:
-                outcomes += map(self._outcome, answers)
+                outcomes += map(self._naming.outcome, answers)
         return outcomes
 
     def _ask(self, text: str) -> str:
@@ -189,7 +189,7 @@ class MessageStore:
             answers: list[str] = []
             try:
                 self._ready()
-                self._exchange([_question(text)], answers)
+                self._exchange([question(text)], answers)
                 return answers[0]
             except StoppedError as error:
                 if error.status >= 0 or stops == RESTARTS:
@@ -197,7 +197,7 @@ class MessageStore:
         raise AssertionError
 
     def _exchange(self, frames: Sequence[str], answers: list[str]) -> None:
-        """Sends frames, and appends their answers; without their heads, which have to be those of the frames."""
+        """Sends frames, and appends the answers without their heads, which have to be those of the frames."""
         assert self._program
         program, self._program = self._program, None
         found: list[str] = []
@@ -247,31 +247,12 @@ class MessageStore:
 
     def _ask_naming(self) -> None:
         answers: list[str] = []
-        self._exchange([_question(NAMING_QUESTION)], answers)
-        named = [] if refusal_of(answers[0]) else parse_answer(answers[0], lambda prefix, name: "" if prefix else name)
-        self._current, *bare = map(str, named) if isinstance(named, list) and named else [""]
-        self._bare = frozenset(bare) - {""}
-
-    def _symbol(self, prefix: str | None, name: str) -> Value:
-        """The object for a symbol that an answer names so."""
-        package = prefix or (LISP if name in self._bare else self._current)
-        symbol = Symbol(name, package)
-        return [] if symbol == Symbol("NIL", LISP) else symbol
-
-    def _value(self, answer: str) -> Value:
-        refusal = refusal_of(answer)
-        if refusal:
-            raise RefusedError(*refusal)
-        return parse_answer(answer, self._symbol)
-
-    def _outcome(self, answer: str) -> Outcome:
-        try:
-            return self._value(answer)
-        except (RefusedError, MalformedAnswerError) as error:
-            return error
+        self._exchange([question(NAMING_QUESTION)], answers)
+        self._naming.take(answers[0])
 
 
-def _text(form: Form) -> str:
+def text_of(form: Form) -> str:
+    """The text of a form, which a store can read as far as its characters and its length go."""
     text = form if isinstance(form, str) else printed(form)
     check_characters(text, form)
     if len(text) > FORM_LIMIT:
@@ -279,18 +260,10 @@ def _text(form: Form) -> str:
     return text
 
 
-def _message(number: int, text: str) -> str:
+def message(number: int, text: str) -> str:
     """A message without the newline at its end."""
     return f"do {number} {len(text)}\n{text}"
 
 
-def _question(text: str) -> str:
+def question(text: str) -> str:
     return f"ask {len(text)}\n{text}"
-
-
-def _until_naming(texts: Sequence[str]) -> Sequence[str]:
-    """The first texts, up to one that may change how symbols are printed."""
-    for place, text in enumerate(texts):
-        if changes_naming(text):
-            return texts[: place + 1]
-    return texts

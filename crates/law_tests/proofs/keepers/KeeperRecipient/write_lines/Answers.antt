@@ -23,5 +23,5 @@ kept_on mode first last store input old (Some all) forms later adds known is =
 pub returns-clause-kept : goal.returns-clause-kept
 returns-clause-kept g c = λ later is.
     let k = c.args.self.now in
-    kept_on k.mode k.first.value k.last.value c.args.store.now (g.I.Read.remaining k.input.value) k.forms c.with_more.result c.args.forms later c.with_more.ensures
+    kept_on k.mode k.first.value k.last.value c.args.store.now (g.I.Read.remaining k.input.value) k.forms c.with_more-self.result c.args.forms later c.with_more-self.ensures
     (λ some there. let s = c.requires.stored _ (ap (option_map (kept_by k.mode k.first.value (g.I.Read.remaining k.input.value) k.last.value)) there) in (s.far.world, s.left)) is

@@ -1,0 +1,108 @@
+"""Nodes: ones that stand in for them, which share a counter and lose connections; and real ones over etcd, where that is installed."""
+
+from __future__ import annotations
+
+import os
+import shutil
+import socket
+import sys
+import threading
+import unittest
+from typing import Any
+
+from pazturrok import ClosedStoreError, LostAnswerError, NodeStore, NoNodeError, RefusedError, UnsendableError
+from support import StoreTest
+
+CHECKS = os.path.join(os.path.dirname(os.path.abspath(__file__)), "..")
+sys.path.insert(0, os.path.join(CHECKS, "cluster"))
+
+from fake_nodes import ADD, FakeNodes  # noqa: E402
+
+LOOK = "(GET 'COUNTER 'KY)"
+
+
+class Nodes(StoreTest):
+    def nodes(self, **options: Any) -> FakeNodes:
+        nodes = FakeNodes(**options)
+        self.addCleanup(nodes.close)
+        return nodes
+
+    def test_values_refusals_and_reads(self) -> None:
+        nodes = self.nodes()
+        with NodeStore(nodes.names) as store:
+            self.assertEqual(1, store.do(ADD))
+            outcomes = store.do_all([ADD, ")", "OLD", ADD])
+            self.assertEqual([2, 4, 4, 3], [getattr(outcome, "number", outcome) for outcome in outcomes])
+            self.assertIsInstance(outcomes[2], LostAnswerError)
+            self.assertEqual("b\n", store.do("(LIST 'A \"b\n\" NIL T)")[1])
+            self.assertEqual((3, 3), (store.ask(LOOK), store.read(LOOK)))
+            self.assertEqual([f"{kind} {len(LOOK)}" for kind in ("ask", "read")], nodes.heads[-2:])
+            with self.assertRaises(RefusedError):
+                store.do(")")
+            for text in ("ä", "x" * 1_048_577):
+                with self.assertRaises(UnsendableError):
+                    store.do(text)
+        with self.assertRaises(ClosedStoreError):
+            store.do(ADD)
+
+    def test_sent_again_under_its_name(self) -> None:
+        nodes = self.nodes(loses=0.1)
+        with NodeStore(nodes.names) as store:
+            values = [value for _ in range(10) for value in store.do_all([ADD] * 30)]
+            self.assertEqual(list(range(1, 301)), values)
+            self.assertEqual(300, store.read(LOOK))
+        self.assertGreater(len(nodes.heads), 310)
+
+    def test_a_name_of_ones_own(self) -> None:
+        nodes = self.nodes()
+        for _ in range(2):
+            with NodeStore(nodes.names) as store:
+                self.assertEqual(1, store.do(ADD, name="order-17"))
+        self.assertEqual(1, nodes.value)
+
+    def test_a_node_that_says_nothing(self) -> None:
+        nodes = self.nodes()
+        with NodeStore(nodes.names, patience=0.3) as store:
+            self.assertEqual(1, store.do(ADD))
+            nodes.is_silent[0] = True
+            self.assertEqual(2, store.do(ADD))
+            self.assertEqual(nodes.names[1], store.node)
+            nodes.is_silent[0] = False
+
+    def test_no_node(self) -> None:
+        nodes = self.nodes()
+        nodes.close()
+        with NodeStore(nodes.names, time_limit=0.5) as store, self.assertRaises(NoNodeError) as raised:
+            store.do_all([ADD, ADD])
+        self.assertEqual([], raised.exception.outcomes)
+        with self.assertRaises(ValueError):
+            NodeStore([])
+
+    def test_a_socket_by_its_path(self) -> None:
+        nodes = self.nodes(count=1)
+        path = os.path.join(self.folder, "node.socket")
+        nodes.listeners[0].close()
+        nodes.listeners[0] = socket.socket(socket.AF_UNIX)
+        nodes.listeners[0].bind(path)
+        nodes.listeners[0].listen()
+        threading.Thread(target=nodes.listen, args=(0,), daemon=True).start()
+        with NodeStore([path]) as store:
+            self.assertEqual(1, store.do(ADD))
+
+
+@unittest.skipUnless(shutil.which("etcd"), "etcd is not installed")
+class RealNodes(StoreTest):
+    def test_a_node_is_killed(self) -> None:
+        from cluster import Cluster
+
+        cluster = Cluster(self.folder, os.path.join(CHECKS, "cluster", "fake"), members=1, nodes=2)
+        self.addCleanup(cluster.end)
+        with NodeStore([f"{host}:{port}" for host, port in cluster.places]) as store:
+            self.assertEqual(0, store.do("(SETF (GET 'COUNTER 'KY) 0)"))
+            self.assertEqual([*range(1, 51)], store.do_all([ADD] * 50))
+            cluster.nodes[0].kill()
+            self.assertEqual([*range(51, 101)], store.do_all([ADD] * 50))
+            self.assertEqual(100, store.read(LOOK))
+        cluster.nodes[0].start()
+        with NodeStore([f"{host}:{port}" for host, port in cluster.places[:1]]) as store:
+            self.assertEqual(100, store.read(LOOK))

@@ -1,0 +1,147 @@
+;;;; A store on several machines: a feed whose messages go to its nodes, of which any answers.
+
+(in-package "PAZTURROK-CLIENT")
+
+(defmethod print-object ((feed node-feed) stream)
+  (print-unreadable-object (feed stream :type t :identity t)
+    (format stream "~{~A~^ ~}" (feed-words feed))))
+
+(defparameter *pause-between-nodes* 1/20
+  "How many seconds are between two tries.")
+
+;;; Connections
+
+#+(or sbcl ecl)
+(defun connected-socket (node)
+  "A socket that is connected to a node."
+  (flet ((connected (socket &rest place)
+           (handler-bind ((error (lambda (condition)
+                                   (declare (ignore condition))
+                                   (ignore-errors (sb-bsd-sockets:socket-close socket)))))
+             (apply #'sb-bsd-sockets:socket-connect socket place))
+           socket))
+    (if (find #\/ node)
+        (connected (make-instance 'sb-bsd-sockets:local-socket :type :stream) node)
+        (let ((colon (position #\: node :from-end t)))
+          (connected (make-instance 'sb-bsd-sockets:inet-socket :type :stream :protocol :tcp)
+                     (sb-bsd-sockets:host-ent-address (sb-bsd-sockets:get-host-by-name (subseq node 0 colon)))
+                     (parse-integer node :start (1+ colon)))))))
+
+#+(or sbcl ecl)
+(defun connect-node (feed node)
+  (let ((socket (connected-socket node)))
+    #+ecl (setf (sb-bsd-sockets:sockopt-receive-timeout socket) (node-feed-patience feed))
+    (setf (node-feed-socket feed) socket
+          (node-feed-stream feed)
+          (sb-bsd-sockets:socket-make-stream socket :input t :output t :buffering :full :external-format :latin-1
+                                                    #+sbcl :timeout #+sbcl (node-feed-patience feed)))))
+
+#-(or sbcl ecl)
+(defun connect-node (feed node)
+  (declare (ignore feed node))
+  (error "this Lisp has no sockets here"))
+
+(defun leave-node (feed)
+  (when (node-feed-stream feed) (ignore-errors (close (node-feed-stream feed) :abort t)))
+  #+(or sbcl ecl)
+  (when (node-feed-socket feed) (ignore-errors (sb-bsd-sockets:socket-close (node-feed-socket feed))))
+  (setf (node-feed-socket feed) nil (node-feed-stream feed) nil))
+
+(defun ready-node (feed)
+  "The stream to a node. A new one asks first how symbols are printed."
+  (or (node-feed-stream feed)
+      (progn (connect-node feed (nth (node-feed-at feed) (feed-words feed)))
+             (write-string (question-frame *qualified-question*) (node-feed-stream feed))
+             (finish-output (node-feed-stream feed))
+             (take-naming feed (nth-value 1 (read-node-answer feed)))
+             (node-feed-stream feed))))
+
+(defun read-whole-line (stream)
+  (multiple-value-bind (line cut-p) (read-line stream)
+    (if cut-p (error 'end-of-file :stream stream) line)))
+
+(defun read-node-answer (feed)
+  "The number of the next answer, or NIL of a question, and its text."
+  (let* ((stream (node-feed-stream feed))
+         (line (read-whole-line stream))
+         (space (or (position #\Space line) (malformed line "no head of an answer")))
+         (head (subseq line 0 space))
+         (text (make-string (numeral (subseq line (1+ space)) line))))
+    (unless (= (read-sequence text stream) (length text)) (error 'end-of-file :stream stream))
+    (unless (char= (read-char stream) #\Newline) (malformed text "it is longer than its length"))
+    (values (and (string/= head "ask") (numeral head line)) text)))
+
+;;; Sending
+
+(defun call-with-nodes (feed function)
+  "Calls FUNCTION, which speaks to a node, until it returns; after an error of the connection with the next node."
+  (when (feed-closed-p feed) (error 'closed))
+  (loop with end = (+ (get-internal-real-time) (* (node-feed-time-limit feed) internal-time-units-per-second))
+        do (let ((whole-p nil))
+             (unwind-protect
+                  (handler-case (return (multiple-value-prog1 (funcall function) (setf whole-p t)))
+                    (store-error (condition) (error condition))
+                    (error (condition)
+                      (when (>= (get-internal-real-time) end)
+                        (error 'no-node :seconds (node-feed-time-limit feed) :reason (princ-to-string condition)))))
+               (unless whole-p (leave-node feed))))
+           (setf (node-feed-at feed) (mod (1+ (node-feed-at feed)) (length (feed-words feed))))
+           (sleep *pause-between-nodes*)))
+
+(defun send-to-nodes (feed texts name)
+  "The outcomes of texts that are sent at once, each under a name of its own, or one under NAME."
+  (let* ((names (loop repeat (length texts)
+                      collect (or name (format nil "~A-~D" (node-feed-prefix feed) (incf (node-feed-count feed))))))
+         (outcomes '()))
+    (call-with-nodes
+     feed
+     (lambda ()
+       (let ((stream (ready-node feed)) (done (length outcomes)))
+         (loop for name in (nthcdr done names)
+               for text in (nthcdr done texts)
+               do (format stream "do ~A ~D~%~A~%" name (length text) text))
+         (finish-output stream)
+         (loop repeat (- (length texts) done)
+               do (multiple-value-bind (number answer) (read-node-answer feed)
+                    (unless number (malformed answer "it is not that of a message"))
+                    (setf (feed-last feed) (max number (feed-last feed)))
+                    (push (node-outcome feed number answer) outcomes))))))
+    (nreverse outcomes)))
+
+(defun node-outcome (feed number answer)
+  (let ((outcome (feed-outcome feed answer)))
+    (if (and (typep outcome 'refused) (= (refused-number outcome) 50))
+        (make-condition 'lost-answer :number number)
+        outcome)))
+
+(defun ask-nodes (feed kind text)
+  "The text of the answer to a question: of one node's store, or, where KIND is \"read\", after all that was answered."
+  (call-with-nodes feed (lambda ()
+                          (let ((stream (ready-node feed)))
+                            (format stream "~A ~D~%~A~%" kind (length text) text)
+                            (finish-output stream)
+                            (nth-value 1 (read-node-answer feed))))))
+
+;;; Opening
+
+(defun open-nodes (nodes &key (package *package*) intern (time-limit 120) (patience 10))
+  "A feed whose messages go to NODES, a list of HOST:PORT or of paths of sockets. A request goes to one of them, and to
+the next one where that does not answer within PATIENCE seconds; NO-NODE is signalled where none does within TIME-LIMIT.
+PACKAGE and INTERN are those of OPEN-STORE."
+  (check-type nodes cons)
+  (make-node-feed nodes (make-naming :package (find-package package) :interns-p intern) time-limit patience))
+
+(defmacro with-nodes ((feed nodes &rest options) &body body)
+  "Evaluates BODY with FEED bound to what OPEN-NODES gives, and closes it."
+  `(let ((,feed (open-nodes ,nodes ,@options :package ,(package-name *package*))))
+     (unwind-protect (progn ,@body) (close-feed ,feed))))
+
+(defun send-named (feed name form)
+  "Has a form carried out under a name of one's own, once with all that is sent under it, and gives its value."
+  (let ((outcome (first (send-to-nodes feed (list (feed-text feed form)) name))))
+    (if (typep outcome 'store-error) (error outcome) outcome)))
+
+(defun ask-fresh (feed form)
+  "Asks after all that was answered before, by any node, to anybody."
+  (let ((outcome (feed-outcome feed (ask-nodes feed "read" (feed-text feed form)))))
+    (if (typep outcome 'store-error) (error outcome) outcome)))

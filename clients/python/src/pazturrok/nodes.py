@@ -1,0 +1,236 @@
+"""A store on several machines: its nodes, of which any answers."""
+
+from __future__ import annotations
+
+import contextlib
+import selectors
+import socket
+import ssl
+import threading
+import time
+import uuid
+from collections.abc import Iterable, Sequence
+from types import TracebackType
+
+from .answers import refusal_of
+from .errors import (
+    ClosedStoreError,
+    LostAnswerError,
+    MalformedAnswerError,
+    NoNodeError,
+    RefusedError,
+    StoreError,
+)
+from .messages import FrameSplitter, question, text_of
+from .naming import NAMING_QUESTION, Naming, until_naming
+from .store import Form, Outcome, changes_naming
+from .values import Value
+
+PIECE = 65536
+PAUSE = 0.05
+"""How many seconds are between two tries."""
+
+OLD_NUMBER = 50
+"""The refusal of a message that was carried out before, and whose answer is not kept any more."""
+
+
+class Connection:
+    """A connection to a node, HOST:PORT or the path of a socket."""
+
+    def __init__(self, node: str, context: ssl.SSLContext | None, seconds: float) -> None:
+        self._splitter = FrameSplitter(0)
+        if "/" in node:
+            self._socket = socket.socket(socket.AF_UNIX)
+            self._socket.settimeout(seconds)
+            self._socket.connect(node)
+        else:
+            host, _, port = node.rpartition(":")
+            self._socket = socket.create_connection((host.strip("[]"), int(port)), seconds)
+            if context:
+                self._socket = context.wrap_socket(self._socket, server_hostname=host.strip("[]"))
+        self._socket.setblocking(False)
+
+    def exchange(self, frames: Sequence[str], answers: list[tuple[str, str]], seconds: float) -> None:
+        """Sends frames, and appends the answers: the head of each, and its text.
+
+        It reads while it writes. OSError where the connection is lost, or nothing comes or goes for so long.
+        """
+        unsent = memoryview("".join(frame + "\n" for frame in frames).encode("ascii"))
+        wanted = len(answers) + len(frames)
+        while unsent or len(answers) < wanted:
+            written = self._write(unsent)
+            unsent = unsent[written:]
+            if not self._read(answers) and not written:
+                self._wait(bool(unsent), seconds)
+        if len(answers) > wanted:
+            raise MalformedAnswerError(answers[-1][1], "more was answered than was asked")
+
+    def _wait(self, writes: bool, seconds: float) -> None:
+        with selectors.DefaultSelector() as selector:
+            selector.register(self._socket, selectors.EVENT_READ | (selectors.EVENT_WRITE if writes else 0))
+            if not selector.select(seconds):
+                raise TimeoutError(f"it said nothing for {seconds:.1f} seconds")
+
+    def _write(self, data: memoryview) -> int:
+        with contextlib.suppress(BlockingIOError, ssl.SSLWantReadError, ssl.SSLWantWriteError):
+            return self._socket.send(data[:PIECE]) if data else 0
+        return 0
+
+    def _read(self, answers: list[tuple[str, str]]) -> bool:
+        """Takes what has come, and says whether something had."""
+        try:
+            data = self._socket.recv(PIECE)
+        except (BlockingIOError, ssl.SSLWantReadError, ssl.SSLWantWriteError):
+            return False
+        if not data:
+            raise ConnectionError("it closed the connection")
+        for answer in self._splitter.feed(data):
+            head, _, text = answer.partition("\n")
+            answers.append((head.split()[0], text))
+        return True
+
+    def close(self) -> None:
+        self._socket.close()
+
+
+class NodeStore:
+    """A store on several machines. A request goes to one node, and to the next where that does not answer.
+
+    A message is carried out once: it has a name, and is sent again under it. `ask` asks the store of one
+    node, as far as it has come; `read` does so after all that was answered before, by any node, to anybody.
+
+    `nodes` are HOST:PORT, or paths of sockets; `context` is for TLS. A call raises NoNodeError where no node
+    answers within `time_limit` seconds; `patience` is how many seconds one of them may say nothing.
+    """
+
+    def __init__(
+        self,
+        nodes: Sequence[str],
+        *,
+        time_limit: float = 120.0,
+        patience: float = 10.0,
+        context: ssl.SSLContext | None = None,
+    ) -> None:
+        if not nodes:
+            raise ValueError("no nodes")
+        self._nodes, self._context = list(nodes), context
+        self._time_limit, self._patience = time_limit, patience
+        self._lock = threading.RLock()
+        self._naming = Naming()
+        self._connection: Connection | None = None
+        self._is_closed = False
+        self._at = self._count = 0
+        self._prefix = uuid.uuid4().hex
+
+    @property
+    def node(self) -> str:
+        """The node that is asked next."""
+        return self._nodes[self._at]
+
+    def __enter__(self) -> NodeStore:
+        return self
+
+    def __exit__(
+        self, kind: type[BaseException] | None, error: BaseException | None, traceback: TracebackType | None
+    ) -> None:
+        self.close()
+
+    def close(self) -> None:
+        with self._lock:
+            self._is_closed = True
+            self._leave()
+
+    def do(self, form: Form, *, name: str | None = None) -> Value:
+        """Has a form carried out, and gives its value.
+
+        A name of one's own makes it one with what another call, or another process, sends under it: 1 to 100
+        letters, digits, dots, hyphens and underscores.
+        """
+        value = self._do_all([form], name)[0]
+        if isinstance(value, StoreError):
+            raise value
+        return value
+
+    def do_all(self, forms: Iterable[Form]) -> list[Outcome]:
+        """Has many forms carried out, in their order, and gives the value of each, or its exception."""
+        return self._do_all(forms, None)
+
+    def ask(self, form: Form) -> Value:
+        """Asks the store of one node, as far as it has come; the form may change nothing."""
+        return self._question("ask", form)
+
+    def read(self, form: Form) -> Value:
+        """Asks after all that was answered before, anywhere: what it gives was so within this call."""
+        return self._question("read", form)
+
+    # Sending
+
+    def _do_all(self, forms: Iterable[Form], name: str | None) -> list[Outcome]:
+        texts = [text_of(form) for form in forms]
+        outcomes: list[Outcome] = []
+        with self._lock:
+            while len(outcomes) < len(texts):
+                some = until_naming(texts[len(outcomes) :])
+                frames = [f"do {name or self._next_name()} {len(text)}\n{text}" for text in some]
+                try:
+                    outcomes += [self._outcome(*answer) for answer in self._send(frames)]
+                except NoNodeError as error:
+                    error.outcomes = outcomes + [self._outcome(*answer) for answer in error.outcomes]
+                    raise
+                if changes_naming(some[-1]):
+                    self._leave()
+        return outcomes
+
+    def _next_name(self) -> str:
+        self._count += 1
+        return f"{self._prefix}-{self._count}"
+
+    def _question(self, kind: str, form: Form) -> Value:
+        text = text_of(form)
+        with self._lock:
+            return self._naming.value(self._send([f"{kind} {len(text)}\n{text}"])[0][1])
+
+    def _send(self, frames: Sequence[str]) -> list[tuple[str, str]]:
+        """The answers to frames, which are sent until they have one."""
+        if self._is_closed:
+            raise ClosedStoreError
+        answers: list[tuple[str, str]] = []
+        end = time.monotonic() + self._time_limit
+        while True:
+            seconds = min(self._patience, max(0.01, end - time.monotonic()))
+            try:
+                self._connect(seconds).exchange(frames[len(answers) :], answers, seconds)
+                return answers
+            except OSError as error:
+                self._leave()
+                self._at = (self._at + 1) % len(self._nodes)
+                if time.monotonic() >= end:
+                    lost = NoNodeError(self._time_limit, str(error))
+                    lost.outcomes = answers
+                    raise lost from None
+                time.sleep(PAUSE)
+            except BaseException:
+                self._leave()
+                raise
+
+    def _connect(self, seconds: float) -> Connection:
+        """The connection; a new one asks first how symbols are printed."""
+        if self._connection is None:
+            self._connection = Connection(self.node, self._context, seconds)
+            answers: list[tuple[str, str]] = []
+            self._connection.exchange([question(NAMING_QUESTION)], answers, seconds)
+            self._naming.take(answers[0][1])
+        return self._connection
+
+    def _leave(self) -> None:
+        connection, self._connection = self._connection, None
+        if connection:
+            connection.close()
+
+    def _outcome(self, head: str, answer: str) -> Outcome:
+        refusal = refusal_of(answer)
+        if not head.isdigit():
+            return MalformedAnswerError(answer, "it is not that of a message")
+        if refusal and refusal[0] == OLD_NUMBER:
+            return LostAnswerError(int(head))
+        return RefusedError(*refusal) if refusal else self._naming.outcome(answer)

@@ -1,0 +1,150 @@
+"""Whether a store is a replica of a log: what its files say, what the log says, and what this node has written down of it."""
+
+from __future__ import annotations
+
+import asyncio
+import contextlib
+import hashlib
+import json
+import os
+import random
+import sys
+from collections.abc import AsyncIterator
+from typing import Any
+
+from .log import EPOCH, LAST_EPOCH, Entry, Identity, Log
+
+NOTES = "replica"
+"""The file beside the halves in which a node writes down what it knows of the store."""
+
+RECORD = b" rescue (SETF (GET '|position| '|position|) "
+"""What stands in the last record of a store that was fed nothing but messages."""
+
+NO_LOG = "etcd has no log of this name, and this store is of one, at {}: begin one anew with the store that has come farthest (pazturrok-node begin)"
+OTHER_WORLD = "the log begins with another world than that of this store: start all of them from copies of one store"
+OTHER_LOG = "this store is of another log, at {}"
+OTHER_WAY = "forms came into this store by another way than the log, after entry {}"
+CHANGED = "the files have changed since the node was ended, at {}. If they are copies of another replica's, delete the file `replica` beside them"
+AHEAD = "this store has come to {}, and the log ends before that: etcd is another one, or was put back to an older state"
+OTHER_ENTRY = "the log has another entry {} than this store carried out: etcd is another one, or was put back to an older state"
+SKIPPED = "the other stores skip entry {}, and this one may have carried it out"
+
+
+class RefusedStoreError(Exception):
+    """The store is no replica of the log as it stands; nothing was carried out."""
+
+
+class Replica:
+    """A store in a folder. Before each opening the node looks at it, and after it asks whether it is one of the log."""
+
+    def __init__(self, log: Log, program: str, folder: str) -> None:
+        self._log, self._program, self._folder = log, program, folder
+        self._path = os.path.join(folder, NOTES)
+        self._noted: dict[str, Any] = {}
+        with contextlib.suppress(FileNotFoundError), open(self._path, encoding="ascii") as file:
+            self._noted = json.load(file)
+        self._is_foreign = self._is_changed = False
+
+    async def look(self) -> None:
+        """Looks at the files, while no program has them open."""
+        last = rest = b""
+        async for piece in self._told("log"):
+            *lines, rest = (rest + piece).split(b"\n")
+            last = lines[-1] if lines else last
+        self._is_foreign = last != b"" and RECORD not in last
+        ended = self._noted.get("ended")
+        self._is_changed = ended is not None and await self._figures() != ended
+
+    async def admit(self, position: int) -> None:
+        """A program has opened the store, at this position: RefusedStoreError where that is none of the log."""
+        identity = await self._log.identify()
+        if identity is None:
+            if position:
+                raise RefusedStoreError(NO_LOG.format(position))
+            identity = await self.begin(position)
+        if position == identity.first:
+            if await self._world() != identity.world:
+                raise RefusedStoreError(OTHER_WORLD)
+        elif position // EPOCH != identity.epoch:
+            raise RefusedStoreError(OTHER_LOG.format(position))
+        elif self._is_foreign:
+            raise RefusedStoreError(OTHER_WAY.format(position))
+        elif self._is_changed:
+            raise RefusedStoreError(CHANGED.format(position))
+        else:
+            await self._compare(position, identity)
+        self._write(ended=None)
+
+    async def _compare(self, position: int, identity: Identity) -> None:
+        """What the log has is what this store carried out, as far as that can be told."""
+        if self._log.revision(position) > await self._log.last():
+            raise RefusedStoreError(AHEAD.format(position))
+        seen = self._noted.get("seen")
+        if seen and identity.epoch == seen["number"] // EPOCH:
+            entry = await self._log.entry(seen["name"].encode("ascii"))
+            is_there = entry is not None or self._log.revision(seen["number"]) > await self._log.trimmed()
+            if is_there and (entry is None or mark(entry) != seen["mark"]):
+                raise RefusedStoreError(OTHER_ENTRY.format(seen["number"]))
+        skipped = {number for number in await self._log.skipped() if number <= position}
+        if not self._noted:
+            self._write(skipped=sorted(skipped))
+        for number in skipped.difference(self._noted.get("skipped", ())):
+            raise RefusedStoreError(SKIPPED.format(number))
+
+    async def begin(self, position: int) -> Identity:
+        """Begins the log with this store, which a program has opened at this position, unless it has begun."""
+        epoch = position // EPOCH + random.randrange(1, 100 if position else 20_000)
+        if epoch > LAST_EPOCH:
+            raise RefusedStoreError(f"no log can begin after {position}")
+        return await self._log.begin(Identity(epoch, position, await self._world()))
+
+    # What is written down
+
+    def will_skip(self, number: int) -> None:
+        """The store is about to skip an entry."""
+        print(f"node: entry {number} is skipped, as an operator said", file=sys.stderr, flush=True)
+        self._write(skipped=sorted({*self._noted.get("skipped", ()), number}))
+
+    def saw(self, entry: Entry) -> None:
+        """The store has answered an entry."""
+        self._write(seen={"number": entry.number, "name": entry.name.decode("ascii"), "mark": mark(entry)})
+
+    async def ended(self) -> None:
+        """The program has ended, and nobody will open the store but this node."""
+        self._write(ended=await self._figures())
+
+    def _write(self, **noted: Any) -> None:
+        self._noted.update(noted)
+        with open(self._path + ".new", "wb") as file:
+            file.write(json.dumps(self._noted).encode("ascii") + b"\n")
+            file.flush()
+            os.fsync(file.fileno())
+        os.replace(self._path + ".new", self._path)
+
+    # Commands that only look
+
+    async def _told(self, *words: str) -> AsyncIterator[bytes]:
+        """What a command tells of the store, piece after piece; nothing where there is none."""
+        command, *further = words
+        process = await asyncio.create_subprocess_exec(
+            self._program, command, self._folder, *further, stdout=asyncio.subprocess.PIPE, stderr=asyncio.subprocess.DEVNULL
+        )
+        assert process.stdout
+        while piece := await process.stdout.read(1 << 16):
+            yield piece
+        await process.wait()
+
+    async def _world(self) -> str:
+        told = hashlib.sha256()
+        async for piece in self._told("dump", "--existing"):
+            told.update(piece)
+        return told.hexdigest()
+
+    async def _figures(self) -> str:
+        text = b"".join([piece async for piece in self._told("info")])
+        # how long ago a file was written is no figure of it
+        return "; ".join(line for line in text.decode("ascii", "replace").split("\n") if "-age" not in line)
+
+
+def mark(entry: Entry) -> str:
+    return hashlib.sha256(b"%d %s" % (entry.number, entry.text)).hexdigest()
