@@ -11,17 +11,17 @@ use Rattle.prevalence_store.specs.messages.Position.{position_property, position
 module _ (i : Symbol) (known : same_symbol i i ≡ true) (x : Object) where
   put_there : (ps : Plist) → value_at (with_value ps i x) i ≡ Some x
   put_there [] = ap (λ b. cond b (Some x) (value_at [] i)) known
-  put_there (p ∷ ps) = by (same_symbol i p.0) refl where
-    by : (b : Bool) → same_symbol i p.0 ≡ b → value_at (cond b ((p.0, x) ∷ ps) (p ∷ with_value ps i x)) i ≡ Some x
-    by true is = ap (λ b. cond b (Some x) (value_at ps i)) is
-    by false is = ap (λ b. cond b (Some p.1) (value_at (with_value ps i x) i)) is ∙ put_there ps
+  put_there (p ∷ ps) = by (same_symbol i p.0) refl (put_there ps) where
+    by : (b : Bool) → same_symbol i p.0 ≡ b → value_at (with_value ps i x) i ≡ Some x → value_at (cond b ((p.0, x) ∷ ps) (p ∷ with_value ps i x)) i ≡ Some x
+    by true is rest = ap (λ b. cond b (Some x) (value_at ps i)) is
+    by false is rest = ap (λ b. cond b (Some p.1) (value_at (with_value ps i x) i)) is ∙ rest
 
   out_again : (ps : Plist) → without_value (with_value ps i x) i ≡ without_value ps i
   out_again [] = ap (λ b. cond b [] ((i, x) ∷ [])) known
-  out_again (p ∷ ps) = by (same_symbol i p.0) refl where
-    by : (b : Bool) → same_symbol i p.0 ≡ b → without_value (cond b ((p.0, x) ∷ ps) (p ∷ with_value ps i x)) i ≡ cond b ps (p ∷ without_value ps i)
-    by true is = ap (λ b. cond b ps ((p.0, x) ∷ without_value ps i)) is
-    by false is = ap (λ b. cond b (with_value ps i x) (p ∷ without_value (with_value ps i x) i)) is ∙ ap (λ l. p ∷ l) (out_again ps)
+  out_again (p ∷ ps) = by (same_symbol i p.0) refl (out_again ps) where
+    by : (b : Bool) → same_symbol i p.0 ≡ b → without_value (with_value ps i x) i ≡ without_value ps i → without_value (cond b ((p.0, x) ∷ ps) (p ∷ with_value ps i x)) i ≡ cond b ps (p ∷ without_value ps i)
+    by true is rest = ap (λ b. cond b ps ((p.0, x) ∷ without_value ps i)) is
+    by false is rest = ap (λ b. cond b (with_value ps i x) (p ∷ without_value (with_value ps i x) i)) is ∙ ap (λ l. p ∷ l) rest
 
 pub position_put : (n : ℕ) (w : WorldState) → position_property (with_position n w) ≡ Some (integer (pos n))
 position_put n w =
