@@ -24,7 +24,7 @@ from .tasks import end_all
 from .trim import Trimmer
 
 REFUSED = "node: {}. Nothing was carried out"
-BEHIND = "this store is behind what is left of the log: stop another node, put copies of both files of its store in place of these, and start both"
+BEHIND = "this store is behind what is left of the log: put a backup of another node's folder in place of this one (pazturrok backup)"
 
 ABOUT = """A replica of a store, by a log in etcd.
 
@@ -126,6 +126,10 @@ async def carry_out(asked: argparse.Namespace) -> int:
         return 4
     except EtcdError as error:
         print(f"pazturrok-node: etcd: {error}", file=sys.stderr)
+        return 3
+    except OSError as error:
+        # as where there is no such program, or another one listens at this place
+        print(f"pazturrok-node: {error}", file=sys.stderr)
         return 3
 
 

@@ -35,7 +35,7 @@ async def skip(log: Log, number: int) -> int:
         return refused("no node runs")
     for name, told in nodes.items():
         if told["answered"] >= number:
-            return refused(f"{name} has carried it out: start the others with a copy of its store, where they cannot")
+            return refused(f"{name} has carried it out: start the others with a backup of its store, where they cannot")
         if told["stuck"] != number:
             return refused(f"{name} is at {told['answered']}, and does not end there")
     await log.skip(number)

@@ -24,6 +24,9 @@ LEASE = 15
 AT_ONCE = 100
 """How many entries are deleted by one transaction."""
 
+PAGE = 10_000
+"""How many of them are asked for at once: etcd looks at all entries for that."""
+
 class Reports:
     """What the nodes of a log tell of themselves, each under a lease."""
 
@@ -97,8 +100,9 @@ class Trimmer:
             return
         await self._log.will_trim(upto)
         while keys := await self._old_keys(upto):
-            deletes = [{"request_delete_range": {"key": key}} for key in keys]
-            await self._etcd.call("/v3/kv/txn", {"success": deletes})
+            for place in range(0, len(keys), AT_ONCE):
+                deletes = [{"request_delete_range": {"key": key}} for key in keys[place : place + AT_ONCE]]
+                await self._etcd.call("/v3/kv/txn", {"success": deletes})
         self._trimmed = upto
         with contextlib.suppress(CompactedError):
             await self._etcd.call("/v3/kv/compaction", {"revision": str(upto)})
@@ -112,7 +116,7 @@ class Trimmer:
 
     async def _old_keys(self, upto: int) -> list[str]:
         ranged = {"key": encoded(self._log.entries), "range_end": encoded(self._log.tail), "keys_only": True}
-        found = await self._etcd.call("/v3/kv/range", {**ranged, "max_create_revision": str(upto), "limit": str(AT_ONCE)})
+        found = await self._etcd.call("/v3/kv/range", {**ranged, "max_create_revision": str(upto), "limit": str(PAGE)})
         return [entry["key"] for entry in found.get("kvs", [])]
 
     def _position_before(self, moment: float) -> int:

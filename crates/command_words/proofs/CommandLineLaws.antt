@@ -1,5 +1,5 @@
 -- What clap makes of the words of a command.
-use Rattle.std.proofs.Common.{if◌then◌else◌, ◌≡◌, ◌≢◌, ◌==◌, ◌∙◌, ◌&&◌, ◌⊎◌, ◌<◌, ◌≤◌, ◌++◌, ◌^◌, ◌-◌, ℕ, Bool, List, [], ◌∷◌, None, Some, option_and_then, codes, true, false, refl, rules, ap, sym, subst, inl, inr, arith}
+use Rattle.std.proofs.Common.{if◌then◌else◌, ◌≡◌, ◌≢◌, ◌==◌, ◌∙◌, ◌⊎◌, ◌<◌, ◌≤◌, ◌++◌, ◌^◌, ◌-◌, ℕ, Bool, List, [], ◌∷◌, None, Some, option_and_then, codes, true, false, refl, rules, ap, sym, subst, inl, inr, arith}
 use Rattle.std.proofs.lemmas.Str.Parse.{digit_from_value}
 use Rattle.std.specs.Str.Parse.{IsNumeral, digits_value, without_leading_plus}
 use Rattle.clap.specs.ValueTests.{is_unsigned_in}
@@ -8,7 +8,7 @@ use Rattle.clap.specs.Kinds.{Kinds, or_else}
 use Rattle.clap.specs.declared.builder.value_parser.Reading.TheVariants.{AsWritten}
 use Rattle.clap.specs.declared.parser.matches.ValueSource.{ValueSource}
 use Rattle.clap.specs.declared.parser.matches.ValueSource.TheVariants.{CommandLine, DefaultValue}
-use Rattle.clap.specs.Words.{IsAmong, Row, Text, fault_of, is_simple, is_simple_and_free, subcommand_of, takes}
+use Rattle.clap.specs.Words.{IsAmong, Row, Text, fault_of, is_simple, is_simple_and_free, subcommand_of}
 use Rattle.clap.specs.declared.error.kind.ErrorKind.{ErrorKind}
 use Rattle.clap.specs.declared.error.kind.ErrorKind.TheVariants.{MissingRequiredArgument, OutOfMemory, ValueValidation}
 use Rattle.clap.proofs.OnLiterals.{clap_on_literals}
@@ -21,19 +21,28 @@ use Rattle.world_forms.specs.declared.export.Content.TheVariants.{Data, World}
 use Rattle.command_words.specs.declared.words.Task.{Task}
 use Rattle.command_words.specs.declared.words.Report.TheVariants.{Dump, Verify}
 use Rattle.command_words.specs.declared.words.Task.TheVariants.{Export, Run, Snapshot, Tell, Upgrade}
+use Rattle.command_words.specs.CheckLine.{checking_line}
+use Rattle.command_words.specs.LookLine.{looking_line}
 use Rattle.command_words.specs.CommandLine.{AsksFor, IsLine, IsNumber, IsTaken, asked_in, asked_of, command_line, data_for, existing_for, faults_of, flag_for, given_number, group_for, missing_command, strict_for}
 
 pub simple_line : is_simple command_line ≡ true
 unfolding clap_on_literals
 simple_line = refl
 
+pub simple_looking_line : is_simple looking_line ≡ true
+unfolding clap_on_literals
+simple_looking_line = refl
+
+pub simple_checking_line : is_simple checking_line ≡ true
+unfolding clap_on_literals
+simple_checking_line = refl
+
 pub free_line : is_simple_and_free command_line ≡ true
 unfolding clap_on_literals
 free_line = refl
 
--- the words are taken, no mistake is in them, and they ask for this
+-- no mistake is in the words, and they ask for this
 pub record IsRight (words : List Text) (folder : Text) (existing : Bool) (task : Task) : Type 0 where
-  pub taken : takes command_line words ≡ true
   pub faultless : fault_of command_line words ≡ []
   pub asked : asked_in words ≡ Some (folder, existing, task)
 
@@ -120,11 +129,11 @@ asked_of_number true folder number Rescue = refl
 module _ (program : Text) (x : ℕ) (xs : Text) (e : (x == 45) ≡ false) where
   right_snapshot_any : IsRight (program ∷ codes "snapshot" ∷ (x ∷ xs) ∷ []) (x ∷ xs) false Snapshot
   unfolding clap_on_literals
-  right_snapshot_any = record { taken = simp e; faultless = simp e; asked = simp e }
+  right_snapshot_any = record { faultless = simp e; asked = simp e }
 
   right_snapshot_existing : IsRight (program ∷ codes "snapshot" ∷ (x ∷ xs) ∷ codes "--existing" ∷ []) (x ∷ xs) true Snapshot
   unfolding clap_on_literals
-  right_snapshot_existing = record { taken = simp e; faultless = simp e; asked = simp e }
+  right_snapshot_existing = record { faultless = simp e; asked = simp e }
 
   right_snapshot : (existing : Bool) → IsRight (program ∷ codes "snapshot" ∷ (x ∷ xs) ∷ existing_for existing) (x ∷ xs) existing Snapshot
   right_snapshot false = right_snapshot_any
@@ -132,11 +141,11 @@ module _ (program : Text) (x : ℕ) (xs : Text) (e : (x == 45) ≡ false) where
 
   right_upgrade_any : IsRight (program ∷ codes "upgrade" ∷ (x ∷ xs) ∷ []) (x ∷ xs) false Upgrade
   unfolding clap_on_literals
-  right_upgrade_any = record { taken = simp e; faultless = simp e; asked = simp e }
+  right_upgrade_any = record { faultless = simp e; asked = simp e }
 
   right_upgrade_existing : IsRight (program ∷ codes "upgrade" ∷ (x ∷ xs) ∷ codes "--existing" ∷ []) (x ∷ xs) true Upgrade
   unfolding clap_on_literals
-  right_upgrade_existing = record { taken = simp e; faultless = simp e; asked = simp e }
+  right_upgrade_existing = record { faultless = simp e; asked = simp e }
 
   right_upgrade : (existing : Bool) → IsRight (program ∷ codes "upgrade" ∷ (x ∷ xs) ∷ existing_for existing) (x ∷ xs) existing Upgrade
   right_upgrade false = right_upgrade_any
@@ -144,19 +153,19 @@ module _ (program : Text) (x : ℕ) (xs : Text) (e : (x == 45) ≡ false) where
 
   right_export_any : IsRight (program ∷ codes "export" ∷ (x ∷ xs) ∷ []) (x ∷ xs) false (Export World)
   unfolding clap_on_literals
-  right_export_any = record { taken = simp e; faultless = simp e; asked = simp e }
+  right_export_any = record { faultless = simp e; asked = simp e }
 
   right_export_existing : IsRight (program ∷ codes "export" ∷ (x ∷ xs) ∷ codes "--existing" ∷ []) (x ∷ xs) true (Export World)
   unfolding clap_on_literals
-  right_export_existing = record { taken = simp e; faultless = simp e; asked = simp e }
+  right_export_existing = record { faultless = simp e; asked = simp e }
 
   right_data_any : IsRight (program ∷ codes "export" ∷ (x ∷ xs) ∷ codes "--data" ∷ []) (x ∷ xs) false (Export Data)
   unfolding clap_on_literals
-  right_data_any = record { taken = simp e; faultless = simp e; asked = simp e }
+  right_data_any = record { faultless = simp e; asked = simp e }
 
   right_data_existing : IsRight (program ∷ codes "export" ∷ (x ∷ xs) ∷ codes "--data" ∷ codes "--existing" ∷ []) (x ∷ xs) true (Export Data)
   unfolding clap_on_literals
-  right_data_existing = record { taken = simp e; faultless = simp e; asked = simp e }
+  right_data_existing = record { faultless = simp e; asked = simp e }
 
   right_content : (content : Content) (existing : Bool)
       → IsRight (program ∷ codes "export" ∷ (x ∷ xs) ∷ (data_for content ++ existing_for existing)) (x ∷ xs) existing (Export content)
@@ -167,11 +176,11 @@ module _ (program : Text) (x : ℕ) (xs : Text) (e : (x == 45) ≡ false) where
 
   right_dump_any : IsRight (program ∷ codes "dump" ∷ (x ∷ xs) ∷ []) (x ∷ xs) false (Tell Dump)
   unfolding clap_on_literals
-  right_dump_any = record { taken = simp e; faultless = simp e; asked = simp e }
+  right_dump_any = record { faultless = simp e; asked = simp e }
 
   right_dump_existing : IsRight (program ∷ codes "dump" ∷ (x ∷ xs) ∷ codes "--existing" ∷ []) (x ∷ xs) true (Tell Dump)
   unfolding clap_on_literals
-  right_dump_existing = record { taken = simp e; faultless = simp e; asked = simp e }
+  right_dump_existing = record { faultless = simp e; asked = simp e }
 
   right_dump : (existing : Bool) → IsRight (program ∷ codes "dump" ∷ (x ∷ xs) ∷ existing_for existing) (x ∷ xs) existing (Tell Dump)
   right_dump false = right_dump_any
@@ -179,35 +188,15 @@ module _ (program : Text) (x : ℕ) (xs : Text) (e : (x == 45) ≡ false) where
 
   right_verify_any : IsRight (program ∷ codes "verify" ∷ (x ∷ xs) ∷ []) (x ∷ xs) false (Tell Verify)
   unfolding clap_on_literals
-  right_verify_any = record { taken = simp e; faultless = simp e; asked = simp e }
+  right_verify_any = record { faultless = simp e; asked = simp e }
 
   right_verify_existing : IsRight (program ∷ codes "verify" ∷ (x ∷ xs) ∷ codes "--existing" ∷ []) (x ∷ xs) true (Tell Verify)
   unfolding clap_on_literals
-  right_verify_existing = record { taken = simp e; faultless = simp e; asked = simp e }
+  right_verify_existing = record { faultless = simp e; asked = simp e }
 
   right_verify : (existing : Bool) → IsRight (program ∷ codes "verify" ∷ (x ∷ xs) ∷ existing_for existing) (x ∷ xs) existing (Tell Verify)
   right_verify false = right_verify_any
   right_verify true = right_verify_existing
-
-  run_taken : (mode : Mode) (strict group existing : Bool)
-      → takes command_line (program ∷ codes "run" ∷ (x ∷ xs) ∷ (flag_for mode ++ (strict_for strict ++ (group_for group ++ existing_for existing)))) ≡ true
-  unfolding clap_on_literals
-  run_taken Current false false false = simp e
-  run_taken Current false false true = rw e (rw e refl)
-  run_taken Current false true false = rw e (rw e refl)
-  run_taken Current false true true = rw e (rw e refl)
-  run_taken Current true false false = rw e (rw e refl)
-  run_taken Current true false true = rw e (rw e refl)
-  run_taken Current true true false = rw e (rw e refl)
-  run_taken Current true true true = rw e (rw e refl)
-  run_taken Rescue false false false = rw e (rw e refl)
-  run_taken Rescue false false true = rw e (rw e refl)
-  run_taken Rescue false true false = rw e (rw e refl)
-  run_taken Rescue false true true = rw e (rw e refl)
-  run_taken Rescue true false false = rw e (rw e refl)
-  run_taken Rescue true false true = rw e (rw e refl)
-  run_taken Rescue true true false = rw e (rw e refl)
-  run_taken Rescue true true true = rw e (rw e refl)
 
   run_faultless : (mode : Mode) (strict group existing : Bool)
       → fault_of command_line (program ∷ codes "run" ∷ (x ∷ xs) ∷ (flag_for mode ++ (strict_for strict ++ (group_for group ++ existing_for existing)))) ≡ []
@@ -253,26 +242,14 @@ module _ (program : Text) (x : ℕ) (xs : Text) (e : (x == 45) ≡ false) where
   right_run : (mode : Mode) (strict group existing : Bool)
       → IsRight (program ∷ codes "run" ∷ (x ∷ xs) ∷ (flag_for mode ++ (strict_for strict ++ (group_for group ++ existing_for existing)))) (x ∷ xs) existing (Run (wanting mode 0 0 strict group))
   right_run mode strict group existing = record {
-    taken = run_taken mode strict group existing;
     faultless = run_faultless mode strict group existing;
     asked = ap (option_and_then asked_of) (run_found mode strict group existing) ∙ asked_of_rows (x ∷ xs) mode strict group existing;
   }
 
-  -- what is left of each of the next ones: the number passes
-  left : (most : ℕ) (number : Text) → is_unsigned_in 1 most number ≡ true → (((is_unsigned_in 1 most number && true) && true) && true) ≡ true
-  left most number passes = rw passes refl
-
+  -- what is left of the next one: the number passes
   left_kinds : (most : ℕ) (number : Text) → is_unsigned_in 1 most number ≡ true
       → or_else (or_else (or_else (if is_unsigned_in 1 most number then [] else (ValueValidation ∷ [])) []) []) [] ≡ []
   left_kinds most number passes = rw passes refl
-
-  number_taken : (ratio : Bool) (y : ℕ) (ys : Text) → (y == 45) ≡ false → is_unsigned_in 1 (most ratio) (y ∷ ys) ≡ true → (mode : Mode)
-      → takes command_line (program ∷ codes "run" ∷ (x ∷ xs) ∷ (flag_for mode ++ option_word ratio ∷ (y ∷ ys) ∷ [])) ≡ true
-  unfolding clap_on_literals
-  number_taken false y ys d passes Current = simp e (rw (d, d) (left (most false) (y ∷ ys) passes))
-  number_taken false y ys d passes Rescue = simp e (rw (d, d) (left (most false) (y ∷ ys) passes))
-  number_taken true y ys d passes Current = simp e (rw (d, d) (left (most true) (y ∷ ys) passes))
-  number_taken true y ys d passes Rescue = simp e (rw (d, d) (left (most true) (y ∷ ys) passes))
 
   number_faultless : (ratio : Bool) (y : ℕ) (ys : Text) → (y == 45) ≡ false → is_unsigned_in 1 (most ratio) (y ∷ ys) ≡ true → (mode : Mode)
       → fault_of command_line (program ∷ codes "run" ∷ (x ∷ xs) ∷ (flag_for mode ++ option_word ratio ∷ (y ∷ ys) ∷ [])) ≡ []
@@ -295,7 +272,6 @@ module _ (program : Text) (x : ℕ) (xs : Text) (e : (x == 45) ≡ false) where
       → IsRight (program ∷ codes "run" ∷ (x ∷ xs) ∷ (flag_for mode ++ option_word ratio ∷ (y ∷ ys) ∷ [])) (x ∷ xs) false
       (Run (counting ratio mode (given_number (Some (y ∷ ys)))))
   right_counting ratio y ys d passes mode = record {
-    taken = number_taken ratio y ys d passes mode;
     faultless = number_faultless ratio y ys d passes mode;
     asked = ap (option_and_then asked_of) (number_found ratio y ys d mode) ∙ asked_of_number ratio (x ∷ xs) (y ∷ ys) mode;
   }
@@ -367,6 +343,11 @@ pub line_is_taken : (words : List Text) (folder : Text) (existing : Bool) (task 
 line_is_taken words folder existing task asks =
     let right = right_line words folder existing task asks in
     (no_faults words folder existing task right.faultless right.asked, right.asked)
+
+-- where clap finds no mistake, only memory may be refused
+pub memory_alone : (words : List Text) (kind : ErrorKind) → fault_of command_line words ≡ [] → (kind ≡ OutOfMemory) ⊎ IsAmong kind (fault_of command_line words) → kind ≡ OutOfMemory
+memory_alone words kind none (inl memory) = memory
+memory_alone words kind none (inr among) = absurd (subst (IsAmong kind) none among)
 
 -- what clap refuses is refused
 among_first : (first next : Kinds) (kind : ErrorKind) → IsAmong kind first → IsAmong kind (or_else first next)

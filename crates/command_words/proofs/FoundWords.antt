@@ -18,7 +18,8 @@ use Rattle.std.specs.Box.{box_value}
 use Rattle.world_forms.specs.declared.export.Content.{Content}
 use Rattle.command_words.specs.declared.words.Task.{Task}
 use Rattle.command_words.specs.declared.words.Task.TheVariants.{Export, Run}
-use Rattle.command_words.specs.CommandLine.{Asked, asked_of, content_of_flag, is_set, mode_of_flag, number_in, given_number, task_of, wanted_of}
+use Rattle.command_words.specs.Rules.{is_set}
+use Rattle.command_words.specs.CommandLine.{Asked, asked_of, content_of_flag, mode_of_flag, number_in, given_number, task_of, wanted_of}
 
 -- a number that was read is the one that the text writes
 number_read : (E : Type 0) (text : Text) (n : ℕ) → ParsesUnsigned {E = E} 64 10 text (Ok n) → n ≡ given_number (Some text)
@@ -78,7 +79,7 @@ module _ {A B : Type 0} (label : A → B) (listing : A → List Row) where
   abbrev pair_of : A → B × List Row
   pair_of a = (label a, listing a)
 
-  named_found : (o : Option A) (name : B) (rows : List Row) → Some name ≡ option_map label o → Some rows ≡ option_map (λ (p : B × List Row). p.1) (option_map pair_of o)
+  pub named_found : (o : Option A) (name : B) (rows : List Row) → Some name ≡ option_map label o → Some rows ≡ option_map (λ (p : B × List Row). p.1) (option_map pair_of o)
       → ◌≡◌ {A = Option (B × List Row)} (Some (name, rows)) (option_map pair_of o)
   named_found None name rows named listed = absurd (cc)
   named_found (Some a) name rows named listed =

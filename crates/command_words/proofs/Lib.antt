@@ -1,2 +1,4 @@
 pub mod CommandLineLaws
+pub mod FoundLooks
 pub mod FoundWords
+pub mod Options

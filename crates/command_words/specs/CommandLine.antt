@@ -1,14 +1,12 @@
 -- The command line of the program, as clap reads it: `run DIR [--rescue] [--strict] [--group] [--snapshot-every N] [--snapshot-ratio R]
 -- [--quiet]`, `snapshot DIR`, `upgrade DIR`, `export DIR [--data]`, `dump DIR` and `verify DIR`, each with `--existing`.
 use Rattle.std.specs.Prelude.{◌≡◌, ◌≢◌, ◌≤◌, ◌^◌, ◌-◌, ◌⊎◌, ℕ, Bool, true, false, if◌then◌else◌, List, [], ◌∷◌, ◌++◌, Option, Some, None, codes, option_map, option_and_then}
-use Rattle.std.specs.Option.{option_map_or}
 use Rattle.std.specs.Str.{bytes_eq}
 use Rattle.std.specs.Str.Parse.{IsNumeral, digits_value, without_leading_plus}
 use Rattle.clap.specs.ValueTests.{is_unsigned_in}
 use Rattle.clap.specs.Kinds.{Kinds, or_else}
-use Rattle.clap.specs.Words.{App, Row, Rule, Text, fault_of, first_of, new_app, new_rule, one_of, subcommand_of, with_rule, with_subcommand}
+use Rattle.clap.specs.Words.{App, Row, Rule, Text, fault_of, first_of, new_app, one_of, subcommand_of, with_rule, with_subcommand}
 use Rattle.clap.specs.Simple.{on_top}
-use Rattle.clap.specs.declared.builder.action.ArgAction.TheVariants.{Set, SetTrue}
 use Rattle.clap.specs.declared.builder.value_parser.ValueParser.TheVariants.{Unsigned}
 use Rattle.clap.specs.declared.error.kind.ErrorKind.TheVariants.{MissingRequiredArgument}
 use Rattle.prevalence_store.specs.declared.mode.Mode.{Mode}
@@ -16,107 +14,47 @@ use Rattle.prevalence_store.specs.declared.mode.Mode.TheVariants.{Current, Rescu
 use Rattle.prevalence_store.specs.declared.outcome.Wanted.{Wanted}
 use Rattle.world_forms.specs.declared.export.Content.{Content}
 use Rattle.world_forms.specs.declared.export.Content.TheVariants.{Data, World}
+use Rattle.command_words.specs.Rules.{flag_rule, folder_line, is_set, option_rule}
 use Rattle.command_words.specs.declared.words.Task.{Task}
 use Rattle.command_words.specs.declared.words.Report.TheVariants.{Dump, Verify}
 use Rattle.command_words.specs.declared.words.Task.TheVariants.{Export, Run, Snapshot, Tell, Upgrade}
 
--- DIR: one value, required
-abbrev pub directory_rule : Rule
-directory_rule = record (new_rule (codes "DIR")) {
-  required = true;
-  action = Some Set;
-}
-
--- --rescue: a flag
-abbrev pub rescue_rule : Rule
-rescue_rule = record (new_rule (codes "rescue")) {
-  long = Some (codes "rescue");
-  action = Some SetTrue;
-}
-
--- --strict: a flag
-abbrev pub strict_rule : Rule
-strict_rule = record (new_rule (codes "strict")) {
-  long = Some (codes "strict");
-  action = Some SetTrue;
-}
-
--- --group: a flag
-abbrev pub group_rule : Rule
-group_rule = record (new_rule (codes "group")) {
-  long = Some (codes "group");
-  action = Some SetTrue;
-}
-
--- --snapshot-every N: one value, a number from 1 to 1,000,000
+-- --snapshot-every N: a number from 1 to 1,000,000
 abbrev pub every_rule : Rule
-every_rule = record (new_rule (codes "snapshot-every")) {
-  long = Some (codes "snapshot-every");
-  action = Some Set;
-  value_names = 1;
-  parser = Some (Unsigned 1 1000000);
-}
+every_rule = record (option_rule (codes "snapshot-every")) { parser = Some (Unsigned 1 1000000) }
 
--- --snapshot-ratio R: one value, a number from 1 on, of 64 bits
+-- --snapshot-ratio R: a number from 1 on, of 64 bits
 abbrev pub ratio_rule : Rule
-ratio_rule = record (new_rule (codes "snapshot-ratio")) {
-  long = Some (codes "snapshot-ratio");
-  action = Some Set;
-  value_names = 1;
-  parser = Some (Unsigned 1 18446744073709551615);
-}
-
--- --quiet: a flag, of which a session knows nothing
-abbrev pub quiet_rule : Rule
-quiet_rule = record (new_rule (codes "quiet")) {
-  long = Some (codes "quiet");
-  action = Some SetTrue;
-}
-
--- --existing: a flag
-abbrev pub existing_rule : Rule
-existing_rule = record (new_rule (codes "existing")) {
-  long = Some (codes "existing");
-  action = Some SetTrue;
-}
-
--- a command of this name, with its folder
-abbrev pub folder_line : Text → App
-folder_line name = with_rule (with_rule (new_app name) directory_rule) existing_rule
+ratio_rule = record (option_rule (codes "snapshot-ratio")) { parser = Some (Unsigned 1 18446744073709551615) }
 
 -- with what is wanted of a session: its flags, and its numbers
 abbrev pub flags_line : App
-flags_line = with_rule (with_rule (with_rule (folder_line (codes "run")) rescue_rule) strict_rule) group_rule
+flags_line =
+    with_rule (with_rule (with_rule (folder_line (codes "run")) (flag_rule (codes "rescue"))) (flag_rule (codes "strict"))) (flag_rule (codes "group"))
 
 abbrev pub session_line : App
 session_line = with_rule (with_rule flags_line every_rule) ratio_rule
 
+-- and a flag of which a session knows nothing
 abbrev pub run_line : App
-run_line = with_rule session_line quiet_rule
-
--- --data: a flag
-abbrev pub data_rule : Rule
-data_rule = record (new_rule (codes "data")) {
-  long = Some (codes "data");
-  action = Some SetTrue;
-}
+run_line = with_rule session_line (flag_rule (codes "quiet"))
 
 abbrev pub export_line : App
-export_line = with_rule (folder_line (codes "export")) data_rule
+export_line = with_rule (folder_line (codes "export")) (flag_rule (codes "data"))
 
 -- the program, with its commands and its version
 abbrev pub program_line : App
 program_line = on_top (λ s. record s { has_version = true }) (new_app (codes "pazturrok"))
 
+abbrev pub writing_line : App
+writing_line =
+    with_subcommand (with_subcommand (with_subcommand program_line
+    run_line.top) (folder_line (codes "snapshot")).top) (folder_line (codes "upgrade")).top
+
 abbrev pub command_line : App
 command_line =
-    with_subcommand (with_subcommand (with_subcommand (with_subcommand (with_subcommand (with_subcommand program_line
-    run_line.top) (folder_line (codes "snapshot")).top) (folder_line (codes "upgrade")).top) export_line.top)
-    (folder_line (codes "dump")).top) (folder_line (codes "verify")).top
-
--- whether a flag is there, which has the value true
-abbrev pub is_set : Option Text → Bool
-is_set flag = option_map_or (bytes_eq (codes "true")) flag false
+    with_subcommand (with_subcommand (with_subcommand writing_line
+    export_line.top) (folder_line (codes "dump")).top) (folder_line (codes "verify")).top
 
 -- the mode of a flag
 abbrev pub mode_of_flag : Option Text → Mode

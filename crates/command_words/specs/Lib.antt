@@ -1,1 +1,5 @@
+pub mod CheckLine
 pub mod CommandLine
+pub mod LookLine
+pub mod Rules
+pub mod Ways

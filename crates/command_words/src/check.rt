@@ -1,6 +1,12 @@
 // The words of the command that looks for forms which cannot be read: `check [FILE] [--store DIR]`.
-use crate::help::{CHECK_HELP, CHECK_USAGE, USAGE};
-use crate::words::PROGRAM;
+ghost use Rattle.std.specs.Prelude.{◌≡◌, codes, false, map, option_map, IfOk, IfSome, Some};
+ghost use Rattle.clap.specs.Words.{app_of, first_of, found_of, rows_of, subcommand_rows_of};
+ghost use Rattle.clap.specs.declared.builder.command.Command.TheViews.{out-Command as fields_of};
+ghost use Rattle.command_words.specs.CheckLine.{check_line, checking_line, file_given, AsksToCheck, Finds};
+
+use crate::help::{CHECK_HELP, CHECK_USAGE};
+use crate::looks::bare_command;
+use crate::rules::option;
 use clap::error::ErrorKind;
 use clap::{Arg, ArgAction, ArgMatches, Command, Error};
 use std::alloc::{AllocError, Global};
@@ -26,7 +32,9 @@ pub struct Check<'a> {
 /// # Errors
 ///
 /// Those of `clap`: help that was asked for, words that are refused, out of memory.
-pub fn checked_in<'a, S: AsStr>(alloc: Global, words: &'a [S]) -> Result<Check<'a>, Error> {
+pub fn checked_in<'a, S: AsStr>(alloc: Global, words: &'a [S]) -> Result<Check<'a>, Error>
+    ensures { IfOk result (AsksToCheck (map S.text words.entry.now)) }
+{
     let mut command = checking_command(alloc)?;
     match command.try_get_matches_from_mut(words) {
         Ok(matches) => match check_by(&matches) {
@@ -45,37 +53,53 @@ fn nothing_asked(command: &mut Command<'_>) -> Error {
     }
 }
 
-// What was found, if it is the command. A file that is named by a hyphen is standard input.
-fn check_by<'a>(matches: &ArgMatches<'a>) -> Option<Check<'a>> {
+// What was found, if it is the command.
+fn check_by<'a>(matches: &ArgMatches<'a>) -> Option<Check<'a>>
+    ensures { IfSome result (Finds (subcommand_rows_of matches.now)) }
+{
     let (_name, found) = matches.subcommand()?;
-    let file = match found.get_str(FILE) {
-        Some("-") => None,
-        file => file,
-    };
     Some(Check {
-        file,
+        file: file_in(found),
         store: found.get_str(STORE),
     })
 }
 
-// The program with this command alone.
-fn checking_command<'a>(alloc: Global) -> Result<Command<'a>, AllocError> {
+// The file. One that is named by a hyphen is standard input.
+fn file_in<'a>(found: &ArgMatches<'a>) -> Option<&'a str>
+    ensures { option_map (λ file. file.now) result ≡ file_given (first_of (codes "FILE") (rows_of (found_of found.now))) }
+{
+    match found.get_str(FILE) {
+        Some(name) => file_named(name),
+        None => None,
+    }
+}
+
+fn file_named<'a>(name: &'a str) -> Option<&'a str>
+    ensures { option_map (λ file. file.now) result ≡ file_given (Some name.entry.now) }
+{
+    if name == "-" { None } else { Some(name) }
+}
+
+fn check_command<'a>(alloc: Global) -> Result<Command<'a>, AllocError>
+    ensures line { IfOk result (λ command. app_of command ≡ check_line) }
+    ensures local { IfOk result (λ command. (fields_of command).has_globals ≡ false) }
+{
     let file = Arg::new(alloc, FILE)
         .help("The file; without it, or for -, standard input")
         .action(ArgAction::Set);
-    let store = Arg::new(alloc, STORE)
-        .long(STORE)
-        .value_name("DIR")
-        .help("Read under the packages and the readtable of this store")
-        .action(ArgAction::Set);
-    let check = Command::new(alloc, CHECK)
+    let command = Command::new(alloc, CHECK)
         .about("Tells which forms of a file cannot be read")
         .override_usage(CHECK_USAGE)
         .after_help(CHECK_HELP)
-        .arg(file)?
-        .arg(store)?;
-    Command::new(alloc, PROGRAM)
-        .override_usage(USAGE)
-        .subcommand_required(true)
-        .subcommand(check)
+        .arg(file)?;
+    let help = "Read under the packages and the readtable of this store";
+    command.arg(option(alloc, STORE, "DIR", help))
+}
+
+// The program with this command alone.
+fn checking_command<'a>(alloc: Global) -> Result<Command<'a>, AllocError>
+    ensures { IfOk result (λ command. app_of command ≡ checking_line) }
+{
+    let check = check_command(alloc)?;
+    bare_command(alloc).subcommand(check)
 }

@@ -3,7 +3,8 @@
 //!
 //! `way_of` (module `way`) tells how what they ask for is carried out, and who has them. `asked_in` (module `words`) finds one of these
 //! commands, its folder and its options, or the error of `clap`; `looked_in` (module `looks`) does so for the commands that only look
-//! into a store, and `checked_in` (module `check`) for the one that looks into a file. `help` has the texts of the help.
+//! into a store, and `checked_in` (module `check`) for the one that looks into a file. `help` has the texts of the help, `tips` the tip for
+//! a command that there is not, and `rules` what the command lines are made of.
 //!
 //! # Laws for the crates above
 //!
@@ -14,6 +15,8 @@
 mod check;
 mod help;
 mod looks;
+mod rules;
+mod tips;
 mod way;
 mod words;
 

@@ -1,13 +1,20 @@
 // The words of the commands that only look into a store: `show`, `info`, `log` and `backup`, and `dump --at N`.
-ghost use Rattle.std.specs.Prelude.{◌≡◌};
+ghost use Rattle.std.specs.Prelude.{◌≡◌, false, map, IfOk, Some};
+ghost use Rattle.std.specs.Char.{is_ascii_digit};
+ghost use Rattle.std.specs.List.{list_all};
+ghost use Rattle.clap.specs.Words.{app_of, first_of, found_of, rows_of, subcommand_rows_of};
+ghost use Rattle.clap.specs.declared.builder.command.Command.TheViews.{out-Command as fields_of};
+ghost use Rattle.command_words.specs.LookLine.{backup_line, digits_of, dump_line, log_line, looking_line, place_given, place_of, show_line, telling_line, number_of, AreRecords, AsksToLook, Finds, IsLook, IsLooked, IsShown};
+ghost use Rattle.command_words.specs.Rules.{bare_line, folder_line};
 
 use crate::help::{
     BACKUP_HELP, BACKUP_USAGE, DUMP_HELP, DUMP_USAGE, INFO_HELP, INFO_USAGE, LOG_HELP, LOG_USAGE,
     SHOW_HELP, SHOW_USAGE, USAGE,
 };
-use crate::words::{DIRECTORY, DUMP, EXISTING, PROGRAM, flag_is_set};
+use crate::rules::{DIRECTORY, Help, PROGRAM, flag, flag_is_set, folder_command, option, place};
+use crate::words::DUMP;
 use clap::error::ErrorKind;
-use clap::{Arg, ArgAction, ArgMatches, Command, Error};
+use clap::{ArgMatches, Command, Error};
 use std::alloc::{AllocError, Global};
 use std::convert::AsStr;
 
@@ -68,25 +75,58 @@ pub struct RecordPlace {
 
 impl RecordPlace {
     /// The place that a word writes, of which the number is `least` or more.
-    fn of(word: &str, least: u64) -> Option<RecordPlace> {
-        let (generation, number) = match word.split_once('.') {
-            Some((generation, number)) => (Some(digits_in(generation)?), digits_in(number)?),
-            None => (None, word.parse::<u64>().ok()?),
-        };
-        if number < least {
+    fn of(word: &str, least: u64) -> Option<RecordPlace>
+        ensures { result ≡ place_given least (Some word.now) }
+    {
+        let place = place_in(word)?;
+        if place.number < least {
             return None;
         }
-        Some(RecordPlace { generation, number })
+        Some(place)
+    }
+}
+
+// The place that a word writes.
+fn place_in(word: &str) -> Option<RecordPlace>
+    ensures { result ≡ place_of word.now }
+{
+    match word.split_once('.') {
+        Some((generation, number)) => Some(RecordPlace {
+            generation: Some(digits_in(generation)?),
+            number: digits_in(number)?,
+        }),
+        None => Some(RecordPlace {
+            generation: None,
+            number: number_in(word)?,
+        }),
+    }
+}
+
+// The number that a word writes.
+fn number_in(word: &str) -> Option<u64>
+    ensures { result ≡ number_of word.now }
+{
+    match word.parse::<u64>() {
+        Ok(number) => Some(number),
+        Err(_) => None,
     }
 }
 
 // The number that a word of digits alone writes.
-fn digits_in(word: &str) -> Option<u64> {
-    if word.bytes().all(|byte| byte.is_ascii_digit()) {
-        word.parse::<u64>().ok()
+fn digits_in(word: &str) -> Option<u64>
+    ensures { result ≡ digits_of word.now }
+{
+    if are_digits(word) {
+        number_in(word)
     } else {
         None
     }
+}
+
+fn are_digits(word: &str) -> bool
+    ensures { result ≡ list_all is_ascii_digit word.now }
+{
+    word.as_bytes().iter().all(|byte| byte.is_ascii_digit())
 }
 
 /// Which properties are shown, and how.
@@ -115,7 +155,9 @@ pub struct Looked<'a> {
 /// # Errors
 ///
 /// Those of `clap`: help that was asked for, words that are refused, out of memory.
-pub fn looked_in<'a, S: AsStr>(alloc: Global, words: &'a [S]) -> Result<Looked<'a>, Error> {
+pub fn looked_in<'a, S: AsStr>(alloc: Global, words: &'a [S]) -> Result<Looked<'a>, Error>
+    ensures { IfOk result (λ looked. AsksToLook (map S.text words.entry.now) looked.folder.now looked.look) }
+{
     let mut command = looking_command(alloc)?;
     match command.try_get_matches_from_mut(words) {
         Ok(matches) => match looked_by(&matches) {
@@ -161,46 +203,75 @@ fn told_of(
 }
 
 // What was found.
-fn looked_by<'a>(matches: &ArgMatches<'a>) -> Result<Looked<'a>, Mistake<'a>> {
-    let Some((name, found)) = matches.subcommand() else {
-        return Err(Mistake::NoCommand);
-    };
-    let Some(folder) = found.get_str(DIRECTORY) else {
-        return Err(Mistake::NoCommand);
-    };
-    let look = look_for(name, found)?;
-    Ok(Looked { folder, look })
+fn looked_by<'a>(matches: &ArgMatches<'a>) -> Result<Looked<'a>, Mistake<'a>>
+    ensures { IfOk result (λ looked. Finds (subcommand_rows_of matches.now) looked.folder.now looked.look) }
+{
+    match matches.subcommand() {
+        Some((name, found)) => looked_at(name, found),
+        None => Err(Mistake::NoCommand),
+    }
+}
+
+// What the command of this name looks at, and in which folder.
+fn looked_at<'a>(name: &str, found: &ArgMatches<'a>) -> Result<Looked<'a>, Mistake<'a>>
+    ensures { IfOk result (λ looked. IsLooked name.now (rows_of (found_of found.now)) looked.folder.now looked.look) }
+{
+    match found.get_str(DIRECTORY) {
+        Some(folder) => {
+            let look = look_for(name, found)?;
+            Ok(Looked { folder, look })
+        }
+        None => Err(Mistake::NoCommand),
+    }
 }
 
 // What the command of this name looks at.
-fn look_for<'a>(name: &str, found: &ArgMatches<'a>) -> Result<Look<'a>, Mistake<'a>> {
+fn look_for<'a>(name: &str, found: &ArgMatches<'a>) -> Result<Look<'a>, Mistake<'a>>
+    ensures { IfOk result (IsLook name.now (rows_of (found_of found.now))) }
+{
     match name {
-        SHOW => Ok(Look::Show(Shown {
-            package: found.get_str(PACKAGE),
-            indicator: found.get_str(INDICATOR),
-            like: found.get_str(LIKE),
-            forms: flag_is_set(found.get_str(FORMS)),
-        })),
+        SHOW => Ok(Look::Show(shown_by(found))),
         INFO => Ok(Look::Info),
-        LOG => Ok(Look::Log(Records {
-            from: place_in(found, FROM, 1)?,
-            places: flag_is_set(found.get_str(PLACES)),
-        })),
+        LOG => Ok(Look::Log(records_by(found)?)),
         BACKUP => match found.get_str(DESTINATION) {
             Some(to) => Ok(Look::Backup(to)),
             None => Err(Mistake::NoCommand),
         },
-        DUMP => Ok(Look::Dump(place_in(found, AT, 0)?)),
+        DUMP => Ok(Look::Dump(place_by(found, AT, 0)?)),
         _ => Err(Mistake::NoCommand),
     }
 }
 
+// Which properties are shown.
+fn shown_by<'a>(found: &ArgMatches<'a>) -> Shown<'a>
+    ensures { IsShown (rows_of (found_of found.now)) result }
+{
+    Shown {
+        package: found.get_str(PACKAGE),
+        indicator: found.get_str(INDICATOR),
+        like: found.get_str(LIKE),
+        forms: flag_is_set(found.get_str(FORMS)),
+    }
+}
+
+// Which records are told.
+fn records_by<'a>(found: &ArgMatches<'a>) -> Result<Records, Mistake<'a>>
+    ensures { IfOk result (AreRecords (rows_of (found_of found.now))) }
+{
+    Ok(Records {
+        from: place_by(found, FROM, 1)?,
+        places: flag_is_set(found.get_str(PLACES)),
+    })
+}
+
 // The place of an option; the least one where it is not given.
-fn place_in<'a>(
+fn place_by<'a>(
     found: &ArgMatches<'a>,
     option: &'static str,
     least: u64,
-) -> Result<RecordPlace, Mistake<'a>> {
+) -> Result<RecordPlace, Mistake<'a>>
+    ensures { IfOk result (λ place. Some place ≡ place_given least (first_of option.entry.now (rows_of (found_of found.now)))) }
+{
     let Some(value) = found.get_str(option) else {
         return Ok(RecordPlace {
             generation: None,
@@ -214,105 +285,121 @@ fn place_in<'a>(
 }
 
 // The program with these commands alone.
-fn looking_command<'a>(alloc: Global) -> Result<Command<'a>, AllocError> {
-    let command = Command::new(alloc, PROGRAM)
-        .override_usage(USAGE)
-        .subcommand_required(true);
-    let command = command.subcommand(show_command(alloc)?)?;
-    let about = "Tells figures of a store and of its files";
-    let command = command.subcommand(folder_command(alloc, INFO, about, INFO_USAGE, INFO_HELP)?)?;
-    let command = command.subcommand(log_command(alloc)?)?;
-    let command = command.subcommand(backup_command(alloc)?)?;
-    command.subcommand(dump_command(alloc)?)
+fn looking_command<'a>(alloc: Global) -> Result<Command<'a>, AllocError>
+    ensures { IfOk result (λ command. app_of command ≡ looking_line) }
+{
+    let with_log = telling_command(alloc)?;
+    let backup = backup_command(alloc)?;
+    let with_backup = with_log.subcommand(backup)?;
+    let dump = dump_command(alloc)?;
+    with_backup.subcommand(dump)
 }
 
-// A command with its folder.
-fn folder_command<'a>(
+// The program with those that tell something alone.
+fn telling_command<'a>(alloc: Global) -> Result<Command<'a>, AllocError>
+    ensures { IfOk result (λ command. app_of command ≡ telling_line) }
+{
+    let show = show_command(alloc)?;
+    let with_show = bare_command(alloc).subcommand(show)?;
+    let help = Help {
+        about: "Tells figures of a store and of its files",
+        usage: INFO_USAGE,
+        end: INFO_HELP,
+    };
+    let info = store_command(alloc, INFO, help)?;
+    let with_info = with_show.subcommand(info)?;
+    let log = log_command(alloc)?;
+    with_info.subcommand(log)
+}
+
+// The program without its commands, of which one has to be there.
+pub(crate) fn bare_command<'a>(alloc: Global) -> Command<'a>
+    ensures line { app_of result ≡ bare_line }
+    ensures local { (fields_of result).has_globals ≡ false }
+{
+    Command::new(alloc, PROGRAM)
+        .override_usage(USAGE)
+        .subcommand_required(true)
+}
+
+// A command with its folder, into which it only looks.
+fn store_command<'a>(
     alloc: Global,
     name: &'a str,
-    about: &'a str,
-    usage: &'a str,
-    help: &'a str,
-) -> Result<Command<'a>, AllocError> {
-    let directory = Arg::new(alloc, DIRECTORY)
-        .help("The folder of the store")
-        .required(true)
-        .action(ArgAction::Set);
-    let existing = Arg::new(alloc, EXISTING)
-        .long(EXISTING)
-        .help("Refuse a folder that holds no store, and only look")
-        .action(ArgAction::SetTrue);
-    let command = Command::new(alloc, name)
-        .about(about)
-        .override_usage(usage)
-        .after_help(help)
-        .arg(directory)?;
-    command.arg(existing)
-}
-
-fn show_command<'a>(alloc: Global) -> Result<Command<'a>, AllocError> {
-    let about = "Shows properties of a store, as lines or as forms";
-    let command = folder_command(alloc, SHOW, about, SHOW_USAGE, SHOW_HELP)?;
-    let command = command.arg(name_option(alloc, PACKAGE, "Those of the symbols of this package"))?;
-    let command = command.arg(name_option(
+    help: Help<'a>,
+) -> Result<Command<'a>, AllocError>
+    ensures line { IfOk result (λ command. app_of command ≡ folder_line name.entry.now) }
+    ensures local { IfOk result (λ command. (fields_of command).has_globals ≡ false) }
+{
+    folder_command(
         alloc,
-        INDICATOR,
-        "Those with an indicator of this name",
-    ))?;
-    let command = command.arg(name_option(
-        alloc,
-        LIKE,
-        "Those of symbols whose names have this text",
-    ))?;
-    let forms = Arg::new(alloc, FORMS)
-        .long(FORMS)
-        .help("Write the forms that set them")
-        .action(ArgAction::SetTrue);
-    command.arg(forms)
+        name,
+        help,
+        "The folder of the store",
+        "Refuse a folder that holds no store, and only look",
+    )
 }
 
-fn name_option<'a>(alloc: Global, name: &'a str, help: &'a str) -> Arg<'a> {
-    Arg::new(alloc, name)
-        .long(name)
-        .value_name("NAME")
-        .help(help)
-        .action(ArgAction::Set)
+fn show_command<'a>(alloc: Global) -> Result<Command<'a>, AllocError>
+    ensures line { IfOk result (λ command. app_of command ≡ show_line) }
+    ensures local { IfOk result (λ command. (fields_of command).has_globals ≡ false) }
+{
+    let help = Help {
+        about: "Shows properties of a store, as lines or as forms",
+        usage: SHOW_USAGE,
+        end: SHOW_HELP,
+    };
+    let command = store_command(alloc, SHOW, help)?;
+    let help = "Those of the symbols of this package";
+    let command = command.arg(option(alloc, PACKAGE, "NAME", help))?;
+    let help = "Those with an indicator of this name";
+    let command = command.arg(option(alloc, INDICATOR, "NAME", help))?;
+    let help = "Those of symbols whose names have this text";
+    let command = command.arg(option(alloc, LIKE, "NAME", help))?;
+    command.arg(flag(alloc, FORMS, "Write the forms that set them"))
 }
 
-fn place_option<'a>(alloc: Global, name: &'a str, help: &'a str) -> Arg<'a> {
-    Arg::new(alloc, name)
-        .long(name)
-        .value_name("N")
-        .help(help)
-        .action(ArgAction::Set)
-}
-
-fn log_command<'a>(alloc: Global) -> Result<Command<'a>, AllocError> {
-    let about = "Writes the records of the half in use, a line each";
-    let command = folder_command(alloc, LOG, about, LOG_USAGE, LOG_HELP)?;
+fn log_command<'a>(alloc: Global) -> Result<Command<'a>, AllocError>
+    ensures line { IfOk result (λ command. app_of command ≡ log_line) }
+    ensures local { IfOk result (λ command. (fields_of command).has_globals ≡ false) }
+{
+    let help = Help {
+        about: "Writes the records of the half in use, a line each",
+        usage: LOG_USAGE,
+        end: LOG_HELP,
+    };
+    let command = store_command(alloc, LOG, help)?;
     let help = "From this record on, counted from 1; G.N is that of generation G";
-    let command = command.arg(place_option(alloc, FROM, help))?;
-    let places = Arg::new(alloc, PLACES)
-        .long(PLACES)
-        .help("Write each number with the generation of the half before it, as G.N")
-        .action(ArgAction::SetTrue);
-    command.arg(places)
+    let command = command.arg(option(alloc, FROM, "N", help))?;
+    let help = "Write each number with the generation of the half before it, as G.N";
+    command.arg(flag(alloc, PLACES, help))
 }
 
-fn backup_command<'a>(alloc: Global) -> Result<Command<'a>, AllocError> {
-    let about = "Makes a new store with the world of a store";
-    let command = folder_command(alloc, BACKUP, about, BACKUP_USAGE, BACKUP_HELP)?;
-    let destination = Arg::new(alloc, DESTINATION)
-        .help("The folder of the new store, which must not be there")
-        .required(true)
-        .action(ArgAction::Set);
-    command.arg(destination)
+fn backup_command<'a>(alloc: Global) -> Result<Command<'a>, AllocError>
+    ensures line { IfOk result (λ command. app_of command ≡ backup_line) }
+    ensures local { IfOk result (λ command. (fields_of command).has_globals ≡ false) }
+{
+    let help = Help {
+        about: "Makes a new store with the world of a store",
+        usage: BACKUP_USAGE,
+        end: BACKUP_HELP,
+    };
+    let command = store_command(alloc, BACKUP, help)?;
+    let help = "The folder of the new store, which must not be there";
+    command.arg(place(alloc, DESTINATION, help))
 }
 
-fn dump_command<'a>(alloc: Global) -> Result<Command<'a>, AllocError> {
-    let about = "Writes the text of the world";
-    let command = folder_command(alloc, DUMP, about, DUMP_USAGE, DUMP_HELP)?;
+fn dump_command<'a>(alloc: Global) -> Result<Command<'a>, AllocError>
+    ensures line { IfOk result (λ command. app_of command ≡ dump_line) }
+    ensures local { IfOk result (λ command. (fields_of command).has_globals ≡ false) }
+{
+    let help = Help {
+        about: "Writes the text of the world",
+        usage: DUMP_USAGE,
+        end: DUMP_HELP,
+    };
+    let command = store_command(alloc, DUMP, help)?;
     let help =
         "The world after the first N records of the half in use; G.N of that of generation G";
-    command.arg(place_option(alloc, AT, help))
+    command.arg(option(alloc, AT, "N", help))
 }

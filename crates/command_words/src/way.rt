@@ -1,4 +1,7 @@
 // How what the words ask for is carried out, which their command and its options say.
+ghost use Rattle.std.specs.Prelude.{◌≡◌, map};
+ghost use Rattle.command_words.specs.Ways.{asks_for_help, asks_for_quiet, has_option, is_look, is_option, is_report, way_of, way_of_command, way_of_help};
+
 use crate::check::CHECK;
 use crate::looks::{BACKUP, INFO, LOG, SHOW};
 use crate::words::{DUMP, EXPORT, RUN, VERIFY};
@@ -19,59 +22,108 @@ pub enum Way {
 
 /// How what the words ask for is carried out: the name of the command comes first, or `help` and that name. Words that no command has
 /// are those of `asked_in`.
-pub fn way_of<S: AsStr>(words: &[S]) -> Way {
-    let Some(command) = words.get(1) else {
-        return Way::Serve;
-    };
-    let options = &words[2..];
-    match command.as_str() {
-        SHOW | INFO | LOG | BACKUP => Way::Look,
-        CHECK => Way::Check,
-        "help" => match options.first() {
-            Some(name) => way_of_help(name.as_str()),
-            None => Way::Serve,
-        },
-        DUMP if has_option(options, "--at") || asks_for_help(options) => Way::Look,
-        DUMP | VERIFY | EXPORT if has_option(options, "--existing") => Way::See,
+pub fn way_of<S: AsStr>(words: &[S]) -> Way
+    ensures { result ≡ way_of (map S.text words.now) }
+{
+    match words {
+        [_, command, options @ ..] => way_of_command(command.as_str(), options),
         _ => Way::Serve,
     }
 }
 
-// Who has the help of this command.
-fn way_of_help(name: &str) -> Way {
-    match name {
-        SHOW | INFO | LOG | BACKUP | DUMP => Way::Look,
-        CHECK => Way::Check,
-        _ => Way::Serve,
+// The same of a command with these options.
+fn way_of_command<S: AsStr>(command: &str, options: &[S]) -> Way
+    ensures { result ≡ way_of_command command.now (map S.text options.now) }
+{
+    if is_look(command) {
+        return Way::Look;
+    }
+    if command == CHECK {
+        return Way::Check;
+    }
+    if command == "help" {
+        return way_of_help(options);
+    }
+    if command == DUMP && (has_option(options, "--at") || asks_for_help(options)) {
+        return Way::Look;
+    }
+    if is_report(command) && has_option(options, "--existing") {
+        return Way::See;
+    }
+    Way::Serve
+}
+
+// Whether a command only looks.
+fn is_look(command: &str) -> bool
+    ensures { result ≡ is_look command.now }
+{
+    command == SHOW || command == INFO || command == LOG || command == BACKUP
+}
+
+// Whether a command may be told of a store that is only looked into.
+fn is_report(command: &str) -> bool
+    ensures { result ≡ is_report command.now }
+{
+    command == DUMP || command == VERIFY || command == EXPORT
+}
+
+// Who has the help of a command, if one is named.
+fn way_of_help<S: AsStr>(names: &[S]) -> Way
+    ensures { result ≡ way_of_help (map S.text names.now) }
+{
+    let [name, ..] = names else {
+        return Way::Serve;
+    };
+    let name = name.as_str();
+    if is_look(name) || name == DUMP {
+        Way::Look
+    } else if name == CHECK {
+        Way::Check
+    } else {
+        Way::Serve
     }
 }
 
 /// Whether a session is to write refusals alone.
-pub fn asks_for_quiet<S: AsStr>(words: &[S]) -> bool {
-    match words.get(1) {
-        Some(command) => {
-            let options = &words[2..];
+pub fn asks_for_quiet<S: AsStr>(words: &[S]) -> bool
+    ensures { result ≡ asks_for_quiet (map S.text words.now) }
+{
+    match words {
+        [_, command, options @ ..] => {
             command.as_str() == RUN && has_option(options, "--quiet") && !asks_for_help(options)
         }
-        None => false,
+        _ => false,
     }
 }
 
-fn asks_for_help<S: AsStr>(options: &[S]) -> bool {
+fn asks_for_help<S: AsStr>(options: &[S]) -> bool
+    ensures { result ≡ asks_for_help (map S.text options.now) }
+{
     has_option(options, "--help") || has_option(options, "-h")
 }
 
-// Whether an option is among words, alone or before its value. After two hyphens there are no options.
-fn has_option<S: AsStr>(words: &[S], option: &str) -> bool {
+// Whether an option is among words. After two hyphens there are none.
+fn has_option<S: AsStr>(words: &[S], option: &str) -> bool
+    ensures { result ≡ has_option option.now (map S.text words.now) }
+{
     for word in words {
         let word = word.as_str();
         if word == "--" {
             return false;
         }
-        let value = word.strip_prefix(option);
-        if value.is_some_and(|value| value.is_empty() || value.starts_with('=')) {
+        if is_option(word, option) {
             return true;
         }
     }
     false
+}
+
+// Whether a word is an option, alone or before its value.
+fn is_option(word: &str, option: &str) -> bool
+    ensures { result ≡ is_option option.now word.now }
+{
+    match word.split_once('=') {
+        Some((name, _)) => name == option,
+        None => word == option,
+    }
 }

@@ -1,34 +1,34 @@
 // The command line.
-ghost use Rattle.std.specs.Prelude.{◌≡◌, ◌⊎◌, Bool, Some, false, map, option_and_then, option_map, IfOk, IfErr};
+ghost use Rattle.std.specs.Prelude.{◌≡◌, ◌⊎◌, Bool, Some, false, map, option_and_then, option_map, IfErr, IfOk};
 ghost use Rattle.clap.specs.Words.{FailsBy, Text, app_of, found_of, kind_of, rows_of, rule_of, subcommand_rows_of, with_subcommand};
 ghost use Rattle.clap.specs.declared.builder.command.Command.TheViews.{out-Command as fields_of};
 ghost use Rattle.clap.specs.declared.error.kind.ErrorKind.TheVariants.{MissingRequiredArgument, OutOfMemory};
 ghost use Rattle.command_words.specs.declared.words.Task.{Task};
-ghost use Rattle.command_words.specs.CommandLine.{asked_in, asked_of, command_line, content_of_flag, data_rule, every_rule, existing_rule, export_line, faults_of, flags_line, folder_line, group_rule, is_set, mode_of_flag, number_in, program_line, quiet_rule, ratio_rule, rescue_rule, run_line, session_line, strict_rule, task_of, wanted_of, AsksFor};
+ghost use Rattle.command_words.specs.CommandLine.{asked_in, asked_of, command_line, content_of_flag, every_rule, export_line, faults_of, flags_line, mode_of_flag, number_in, program_line, ratio_rule, run_line, session_line, task_of, wanted_of, writing_line, AsksFor};
+ghost use Rattle.command_words.specs.Rules.{folder_line};
 
 use crate::help::{
     DUMP_HELP, DUMP_USAGE, EXPORT_HELP, EXPORT_USAGE, PROGRAM_HELP, RUN_HELP, RUN_USAGE,
     SNAPSHOT_HELP, SNAPSHOT_USAGE, UPGRADE_HELP, UPGRADE_USAGE, USAGE, VERIFY_HELP, VERIFY_USAGE,
 };
+use crate::rules::{DIRECTORY, EXISTING, Help, PROGRAM, flag, flag_is_set, folder_command, option};
+use crate::tips::with_tip;
 use clap::builder::ValueParser;
 use clap::error::ErrorKind;
-use clap::{Arg, ArgAction, ArgMatches, Command, Error};
+use clap::{Arg, ArgMatches, Command, Error};
 use prevalence_store::{Mode, Wanted};
 use std::alloc::{AllocError, Global};
 use std::convert::AsStr;
 use world_forms::Content;
-
-/// The name of the program.
-pub(crate) const PROGRAM: &str = "pazturrok";
 
 /// The version of the program, and of the files that it writes.
 const PROGRAM_VERSION: &str = "0.1.0, files of version 2";
 
 pub(crate) const RUN: &str = "run";
 
-const SNAPSHOT: &str = "snapshot";
+pub(crate) const SNAPSHOT: &str = "snapshot";
 
-const UPGRADE: &str = "upgrade";
+pub(crate) const UPGRADE: &str = "upgrade";
 
 pub(crate) const EXPORT: &str = "export";
 
@@ -36,11 +36,7 @@ pub(crate) const DUMP: &str = "dump";
 
 pub(crate) const VERIFY: &str = "verify";
 
-pub(crate) const DIRECTORY: &str = "DIR";
-
-pub(crate) const EXISTING: &str = "existing";
-
-pub(crate) const DATA: &str = "data";
+const DATA: &str = "data";
 
 const RESCUE: &str = "rescue";
 
@@ -89,112 +85,51 @@ pub struct Asked<'a> {
     pub task: Task,
 }
 
-// A command with its folder, and the flag for a store that has to be there.
-fn folder_command<'a>(
+// A command with its folder, whose store is made where it is missing.
+fn store_command<'a>(
     alloc: Global,
     name: &'a str,
-    about: &'a str,
-    usage: &'a str,
-    help: &'a str,
+    help: Help<'a>,
 ) -> Result<Command<'a>, AllocError>
     ensures line { IfOk result (λ command. app_of command ≡ folder_line name.entry.now) }
     ensures local { IfOk result (λ command. (fields_of command).has_globals ≡ false) }
 {
-    let directory = Arg::new(alloc, DIRECTORY)
-        .help("The folder of the store, made where it is missing")
-        .required(true)
-        .action(ArgAction::Set);
-    let command = Command::new(alloc, name)
-        .about(about)
-        .override_usage(usage)
-        .after_help(help)
-        .arg(directory)?;
-    command.arg(existing_option(alloc))
-}
-
-fn existing_option<'a>(alloc: Global) -> Arg<'a>
-    ensures { (rule_of result ≡ existing_rule) × (result.global ≡ false) }
-{
-    Arg::new(alloc, EXISTING)
-        .long(EXISTING)
-        .help("Refuse a folder that holds no store, and make nothing")
-        .action(ArgAction::SetTrue)
-}
-
-fn rescue_option<'a>(alloc: Global) -> Arg<'a>
-    ensures { (rule_of result ≡ rescue_rule) × (result.global ≡ false) }
-{
-    Arg::new(alloc, RESCUE)
-        .long(RESCUE)
-        .help("Read each form under the standard readtable in COMMON-LISP-USER")
-        .action(ArgAction::SetTrue)
-}
-
-fn strict_option<'a>(alloc: Global) -> Arg<'a>
-    ensures { (rule_of result ≡ strict_rule) × (result.global ≡ false) }
-{
-    Arg::new(alloc, STRICT)
-        .long(STRICT)
-        .help("End at the first form that is refused, with status 1")
-        .action(ArgAction::SetTrue)
-}
-
-fn group_option<'a>(alloc: Global) -> Arg<'a>
-    ensures { (rule_of result ≡ group_rule) × (result.global ≡ false) }
-{
-    Arg::new(alloc, GROUP)
-        .long(GROUP)
-        .help("Log the forms that are whole in what was read together, then answer them")
-        .action(ArgAction::SetTrue)
-}
-
-fn quiet_option<'a>(alloc: Global) -> Arg<'a>
-    ensures { (rule_of result ≡ quiet_rule) × (result.global ≡ false) }
-{
-    Arg::new(alloc, QUIET)
-        .long(QUIET)
-        .help("Write the refusals alone, and at the end a count to standard error")
-        .action(ArgAction::SetTrue)
+    folder_command(
+        alloc,
+        name,
+        help,
+        "The folder of the store, made where it is missing",
+        "Refuse a folder that holds no store, and make nothing",
+    )
 }
 
 fn every_option<'a>(alloc: Global) -> Arg<'a>
     ensures { (rule_of result ≡ every_rule) × (result.global ≡ false) }
 {
-    Arg::new(alloc, EVERY)
-        .long(EVERY)
-        .value_name("N")
-        .help("Take a snapshot after each N forms that write, N from 1 to 1,000,000")
-        .action(ArgAction::Set)
-        .value_parser(ValueParser::unsigned(1, 1_000_000))
+    let help = "Take a snapshot after each N forms that write, N from 1 to 1,000,000";
+    option(alloc, EVERY, "N", help).value_parser(ValueParser::unsigned(1, 1_000_000))
 }
 
 fn ratio_option<'a>(alloc: Global) -> Arg<'a>
     ensures { (rule_of result ≡ ratio_rule) × (result.global ≡ false) }
 {
-    Arg::new(alloc, RATIO)
-        .long(RATIO)
-        .value_name("R")
-        .help("Take a snapshot once the half in use is R times as long as the text of its snapshot")
-        .action(ArgAction::Set)
-        .value_parser(ValueParser::unsigned(1, u64::MAX))
-}
-
-pub(crate) fn data_option<'a>(alloc: Global) -> Arg<'a>
-    ensures { (rule_of result ≡ data_rule) × (result.global ≡ false) }
-{
-    Arg::new(alloc, DATA)
-        .long(DATA)
-        .help("Leave the readtables out, so that another Lisp can load the forms")
-        .action(ArgAction::SetTrue)
+    let help =
+        "Take a snapshot once the half in use is R times as long as the text of its snapshot";
+    option(alloc, RATIO, "R", help).value_parser(ValueParser::unsigned(1, u64::MAX))
 }
 
 fn export_command<'a>(alloc: Global) -> Result<Command<'a>, AllocError>
     ensures line { IfOk result (λ command. app_of command ≡ export_line) }
     ensures local { IfOk result (λ command. (fields_of command).has_globals ≡ false) }
 {
-    let about = "Writes the forms that make the world";
-    let command = folder_command(alloc, EXPORT, about, EXPORT_USAGE, EXPORT_HELP)?;
-    command.arg(data_option(alloc))
+    let help = Help {
+        about: "Writes the forms that make the world",
+        usage: EXPORT_USAGE,
+        end: EXPORT_HELP,
+    };
+    let command = store_command(alloc, EXPORT, help)?;
+    let help = "Leave the readtables out, so that another Lisp can load the forms";
+    command.arg(flag(alloc, DATA, help))
 }
 
 // A session, with its flags.
@@ -202,11 +137,18 @@ fn flags_command<'a>(alloc: Global) -> Result<Command<'a>, AllocError>
     ensures line { IfOk result (λ command. app_of command ≡ flags_line) }
     ensures local { IfOk result (λ command. (fields_of command).has_globals ≡ false) }
 {
-    let about = "Serves the forms of standard input to standard output";
-    let command = folder_command(alloc, RUN, about, RUN_USAGE, RUN_HELP)?;
-    let command = command.arg(rescue_option(alloc))?;
-    let command = command.arg(strict_option(alloc))?;
-    command.arg(group_option(alloc))
+    let help = Help {
+        about: "Serves the forms of standard input to standard output",
+        usage: RUN_USAGE,
+        end: RUN_HELP,
+    };
+    let command = store_command(alloc, RUN, help)?;
+    let help = "Read each form under the standard readtable in COMMON-LISP-USER";
+    let command = command.arg(flag(alloc, RESCUE, help))?;
+    let help = "End at the first form that is refused, with status 1";
+    let command = command.arg(flag(alloc, STRICT, help))?;
+    let help = "Log the forms that are whole in what was read together, then answer them";
+    command.arg(flag(alloc, GROUP, help))
 }
 
 // The same with all that is wanted of it.
@@ -224,7 +166,8 @@ fn run_command<'a>(alloc: Global) -> Result<Command<'a>, AllocError>
     ensures local { IfOk result (λ command. (fields_of command).has_globals ≡ false) }
 {
     let command = session_command(alloc)?;
-    command.arg(quiet_option(alloc))
+    let help = "Write the refusals alone, and at the end a count to standard error";
+    command.arg(flag(alloc, QUIET, help))
 }
 
 // The program without its commands.
@@ -243,56 +186,53 @@ fn with_command<'a>(
     alloc: Global,
     program: Command<'a>,
     name: &'a str,
-    about: &'a str,
-    usage: &'a str,
-    help: &'a str,
+    help: Help<'a>,
 ) -> Result<Command<'a>, AllocError>
     ensures { IfOk result (λ command. app_of command
         ≡ with_subcommand (app_of program.entry) (folder_line name.entry.now).top) }
 {
-    let command = folder_command(alloc, name, about, usage, help)?;
+    let command = store_command(alloc, name, help)?;
     program.subcommand(command)
+}
+
+// The commands on a session, on snapshots and on forms.
+fn writing_command<'a>(alloc: Global) -> Result<Command<'a>, AllocError>
+    ensures { IfOk result (λ command. app_of command ≡ writing_line) }
+{
+    let run = run_command(alloc)?;
+    let with_run = bare_command(alloc).subcommand(run)?;
+    let help = Help {
+        about: "Takes a snapshot, and tells the half in use",
+        usage: SNAPSHOT_USAGE,
+        end: SNAPSHOT_HELP,
+    };
+    let with_snapshot = with_command(alloc, with_run, SNAPSHOT, help)?;
+    let help = Help {
+        about: "Makes files of version 1 files of version 2",
+        usage: UPGRADE_USAGE,
+        end: UPGRADE_HELP,
+    };
+    with_command(alloc, with_snapshot, UPGRADE, help)
 }
 
 fn whole_command<'a>(alloc: Global) -> Result<Command<'a>, AllocError>
     ensures { IfOk result (λ command. app_of command ≡ command_line) }
 {
-    let run = run_command(alloc)?;
-    let with_run = bare_command(alloc).subcommand(run)?;
-    let about = "Takes a snapshot, and tells the half in use";
-    let with_snapshot = with_command(
-        alloc,
-        with_run,
-        SNAPSHOT,
-        about,
-        SNAPSHOT_USAGE,
-        SNAPSHOT_HELP,
-    )?;
-    let about = "Makes files of version 1 files of version 2";
-    let with_upgrade = with_command(
-        alloc,
-        with_snapshot,
-        UPGRADE,
-        about,
-        UPGRADE_USAGE,
-        UPGRADE_HELP,
-    )?;
+    let with_upgrade = writing_command(alloc)?;
     let export = export_command(alloc)?;
     let with_export = with_upgrade.subcommand(export)?;
-    let about = "Writes the text of the world";
-    let with_dump = with_command(alloc, with_export, DUMP, about, DUMP_USAGE, DUMP_HELP)?;
-    let about = "Tells the half in use, its generation and how many records it has";
-    with_command(alloc, with_dump, VERIFY, about, VERIFY_USAGE, VERIFY_HELP)
-}
-
-// Whether a flag is there, by its value.
-pub(crate) fn flag_is_set(flag: Option<&str>) -> bool
-    ensures { result ≡ is_set (option_map (λ value. value.now) flag.entry) }
-{
-    match flag {
-        Some("true") => true,
-        _ => false,
-    }
+    let help = Help {
+        about: "Writes the text of the world",
+        usage: DUMP_USAGE,
+        end: DUMP_HELP,
+    };
+    let with_dump = with_command(alloc, with_export, DUMP, help)?;
+    let help = Help {
+        about: "Tells the half in use, its generation and how many records it has",
+        usage: VERIFY_USAGE,
+        end: VERIFY_HELP,
+    };
+    with_command(alloc, with_dump, VERIFY, help)
 }
 
 // The mode for the value of the flag.
@@ -307,7 +247,7 @@ fn mode_for(flag: Option<&str>) -> Mode
 }
 
 // What is exported, by the value of the flag.
-pub(crate) fn content_for(flag: Option<&str>) -> Content
+fn content_for(flag: Option<&str>) -> Content
     ensures { result ≡ content_of_flag (option_map (λ value. value.now) flag.entry) }
 {
     if flag_is_set(flag) {
@@ -395,6 +335,6 @@ pub fn asked_in<'a, S: AsStr>(alloc: Global, words: &'a [S]) -> Result<Asked<'a>
             Some(asked) => Ok(asked),
             None => Err(nothing_asked(&mut command)),
         },
-        Err(error) => Err(error),
+        Err(error) => Err(with_tip(alloc, words, error)),
     }
 }

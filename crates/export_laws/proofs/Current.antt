@@ -1,5 +1,6 @@
 -- The last form of an export of data makes the package current.
 --     current_is_form, current_leaves      it is read, and accepted
+--     is_progn, is_enter, enter_value      its parts
 use Rattle.std.proofs.Common.{◌≡◌, ℕ, ◌≤◌, true, false, List, [], ◌∷◌, ◌++◌, length, append_assoc, codes, Err, refl, ap, subst, ◌∙◌, arith}
 use Rattle.std.specs.Option.{option_map_or}
 use Rattle.std.proofs.lemmas.List.{length-append}
@@ -32,11 +33,11 @@ enter_object p = call (codes "IN-PACKAGE") (text p ∷ [])
 abbrev pub current_object : Name → Object
 current_object p = call (codes "PROGN") (enter_object p ∷ [])
 
-is_progn : IsOperator (codes "PROGN")
+pub is_progn : IsOperator (codes "PROGN")
 unfolding common_lisp_names
 is_progn = record { listed = refl; plain = refl; short = omega arith }
 
-is_enter : IsOperator (codes "IN-PACKAGE")
+pub is_enter : IsOperator (codes "IN-PACKAGE")
 unfolding common_lisp_names
 is_enter = record { listed = refl; plain = refl; short = omega arith }
 
@@ -81,7 +82,7 @@ module _ (names : List Name) (s : WorldState) (sound : packages.IsSound s.packag
   abbrev entered : WorldState
   entered = record s { current_package = p }
 
-  enter_value : value_by true names s (enter_object p) ≡ writes (text p) entered
+  pub enter_value : value_by true names s (enter_object p) ≡ writes (text p) entered
   unfolding value_by
   enter_value =
       ap (λ o. option_map_or (λ q. writes (text q) (record s { current_package = q })) o (Err NO_SUCH_PACKAGE)) (named_so names s sound p there)

@@ -62,7 +62,7 @@ module _ (names : List Name) (s : WorldState) (sound : packages.IsSound s.packag
         ap (λ (o : Option Name). option_map_or (λ p. interned s n (intern_changes t p n) (after_intern t p n)) o (Err NO_SUCH_PACKAGE)) named_so
         ∙ (λ i. interned s n (none_new i) (interned_is i))
 
-    interned_value : value_by true names s (call (codes "INTERN") (text n ∷ text h ∷ [])) ≡ gives (symbol h n) s
+    pub interned_value : value_by true names s (call (codes "INTERN") (text n ∷ text h ∷ [])) ≡ gives (symbol h n) s
     unfolding value_by
     interned_value = ap (also false) intern_is
 

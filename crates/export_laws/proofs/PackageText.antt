@@ -48,7 +48,7 @@ arguments_short [] short = omega arith
 arguments_short (n ∷ ns) short =
     omega (arith, text_short n, All-head IsShort n ns short, arguments_short ns (All-tail IsShort n ns short), length-append (text_argument n) (flat_map text_argument ns))
 
-name_short : (n : Name) → length (name_text n) ≤ 2 + 2 * length n
+pub name_short : (n : Name) → length (name_text n) ≤ 2 + 2 * length n
 name_short n =
     let body = escaped is_escaped_in_bars n in
     elim (is_plain n) as (λ b. length (if b then n else codes "|" ++ body ++ codes "|") ≤ 2 + 2 * length n) [

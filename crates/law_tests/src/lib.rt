@@ -6,12 +6,15 @@
 //! - `replicas`: two stores that are handed the same input
 //! - `keepers`: a session whose recipient keeps account of it
 //! - `migration`: a store that is opened on files of version 1
+//! - `exports`: a store that takes the export of a world
 //! - `reopened`: a store that is opened with macro functions on files of a program without any
 //! - `disks`: disks of these tests, and what may go wrong in them
 #![tactic(auto)]
 
 #[cfg(test)]
 mod disks;
+#[cfg(test)]
+mod exports;
 #[cfg(test)]
 mod keepers;
 #[cfg(test)]

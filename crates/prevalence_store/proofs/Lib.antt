@@ -4,3 +4,4 @@ pub mod Surviving
 pub mod Joining
 pub mod calls
 pub mod steps
+pub mod requests

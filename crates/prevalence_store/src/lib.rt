@@ -60,6 +60,7 @@ mod failure;
 mod group;
 mod laws;
 mod log;
+mod messages;
 mod mode;
 mod open_fault;
 mod outcome;
@@ -75,6 +76,7 @@ pub use laws::{
     what_is_answered_is_stored,
 };
 pub use lisp_object::refusal::name_of as refusal_name;
+pub use messages::request::{Answer, NO_POSITION, OLD_NUMBER, QUESTION_WRITES, Replies, Request};
 pub use mode::Mode;
 pub use open_fault::OpenFault;
 pub use outcome::{Ended, Ending, Outcome, Place, Wanted};

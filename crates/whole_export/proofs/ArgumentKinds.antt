@@ -3,38 +3,28 @@
 --     table_is      the name of a readtable
 --     character_is, flag_is, base_is      a character, T or NIL, and a base of numbers
 --     base_variable, text_is      the variable of the base, and the name of a package
-use Rattle.std.proofs.Common.{◌≡◌, ℕ, suc, pos, ◌+◌, ◌*◌, ◌<◌, ◌≤◌, Bool, true, false, List, [], ◌∷◌, ◌++◌, length, append-nil, bytes_eq, codes, decimal, Option, Some, None, Result, Ok, Err, refl, sym, ap, subst, ◌∙◌, arith}
-use Rattle.std.specs.Prelude.{if◌then◌else◌, ◌==◌, ◌||◌, nat_lt, nat_le, not, is_none, IsTrue}
+use Rattle.std.proofs.Common.{◌≡◌, ℕ, pos, ◌+◌, ◌<◌, ◌≤◌, Bool, true, false, List, [], ◌∷◌, ◌++◌, length, append-nil, bytes_eq, codes, decimal, refl, sym, subst, arith}
+use Rattle.std.specs.Prelude.{if◌then◌else◌, ◌==◌, nat_lt, IsTrue}
 use Rattle.std.specs.List.{flat_map, list_any}
-use Rattle.std.specs.Option.{option_map_or}
-use Rattle.std.specs.FinMap as finite
 use Rattle.std.proofs.lemmas.Fmt.{length-decimal-le_wide}
 use Rattle.std.proofs.lemmas.List.{length-append}
 use Rattle.std.proofs.lemmas.List.Elements.{All-cons, All-nil}
 use Rattle.lisp_object.specs.Object.{Object, character, integer, nil, pair, symbol, text}
-use Rattle.lisp_object.specs.declared.refusal.TheConstants.{NO_SUCH_PACKAGE}
-use Rattle.package_table.specs.declared.error.PackageError.{PackageError}
-use Rattle.package_table.specs.declared.error.PackageError.TheVariants.{NoSuchPackage, PackageIsLocked, Limit}
-use Rattle.package_table.specs.Changes.{after_intern, intern_changes, with_new_symbol}
-use Rattle.package_table.specs.Limits.{longest_symbol_name, most_symbols}
 use Rattle.package_table.specs.Table as packages
-use Rattle.package_table.specs.Table.{Name, Table, IsPackage, common_lisp, common_lisp_names, keyword, keyword_names, package_named, symbol_count}
-use Rattle.package_table.proofs.Found.{present_found}
+use Rattle.package_table.specs.Table.{Name, Table, IsPackage, common_lisp, common_lisp_names, keyword, keyword_names}
 use Rattle.plist_state.specs.Sound.{IsSymbol}
 use Rattle.plist_state.specs.State.{WorldState}
 use Rattle.user_macros.specs.Functions.{no_functions}
-use Rattle.canon_printer.specs.Names.{escaped, is_escaped_in_bars}
 use Rattle.canon_printer.specs.Written.{character_name, printed_character, printed_text}
-use Rattle.canon_printer.proofs.Resolved.{home_there}
-use Rattle.lisp_operators.specs.Evaluation.{also, gives}
-use Rattle.lisp_operators.specs.Packages.{intern, interned}
+use Rattle.lisp_operators.specs.Evaluation.{gives}
 use Rattle.evaluator.specs.Value.{value_by}
 use Rattle.prevalence_store.specs.meaning.Acceptance.{form_limits}
 use Rattle.world_text.proofs.Atoms.{home_ascii, own_ascii}
 use Rattle.world_text.proofs.Spelling.{IsAscii}
-use Rattle.world_forms.specs.Tokens.{call_text, is_plain, is_too_long, symbol_text, text_argument, value_text}
+use Rattle.world_forms.specs.Tokens.{call_text, is_too_long, symbol_text, text_argument, value_text}
 use Rattle.export_laws.specs.Objects.{call}
-use Rattle.export_laws.proofs.PackageText.{room, text_short}
+use Rattle.export_laws.proofs.One.{interned_value}
+use Rattle.export_laws.proofs.PackageText.{name_short as name_text_short, room, text_short}
 use Rattle.export_laws.proofs.PartsRead.{IsRead, deeper, object_is_read}
 use Rattle.export_laws.proofs.Symbols.{call_is_read, lisp_is_read, symbol_is_read, text_is_read}
 use Rattle.export_laws.proofs.There.{lisp_there, nil_there, pair_there, there_alone}
@@ -53,23 +43,9 @@ flag_text b = if b then codes "T" else codes "NIL"
 
 -- ---- how long they are
 
-escaped_short : (test : ℕ → Bool) (cs : List ℕ) → length (escaped test cs) ≤ 2 * length cs
-escaped_short test [] = omega arith
-escaped_short test (c ∷ cs) =
-    let later = escaped_short test cs in
-    elim (test c) as (λ b. length ((if b then codes "\\" ++ c ∷ [] else c ∷ []) ++ escaped test cs) ≤ 2 * suc (length cs)) [
-      | true ↦ omega (arith, later)
-      | false ↦ omega (arith, later)
-    ]
-
 keyword_short : (n : Name) → length n ≤ 4096 → length (symbol_text keyword n) ≤ 10000
 unfolding symbol_text
-keyword_short n short =
-    let body = escaped is_escaped_in_bars n in
-    elim (is_plain n) as (λ b. length (codes ":" ++ (if b then n else codes "|" ++ body ++ codes "|")) ≤ 10000) [
-      | true ↦ omega (arith, short)
-      | false ↦ omega (arith, short, escaped_short is_escaped_in_bars n, length-append body (codes "|"))
-    ]
+keyword_short n short = omega (arith, short, name_text_short n)
 
 either_short : (b : Bool) (xs ys : List ℕ) → length xs ≤ 10 → length ys ≤ 10 → length (if b then xs else ys) ≤ 10
 either_short true xs ys one two = one
@@ -112,30 +88,6 @@ module _ (names : List Name) (s : WorldState) (sound : packages.IsSound s.packag
 
     -- ---- the name of a readtable
 
-    is_package : finite.contains_key t keyword ≡ true
-    is_package = home_there t keyword n sound there
-
-    abbrev others : Result (Name × Table) PackageError
-    others = if bytes_eq keyword common_lisp then Err PackageIsLocked else (if nat_lt longest_symbol_name (length n) || nat_le most_symbols (symbol_count t) then Err Limit else Ok (keyword, with_new_symbol t keyword n))
-
-    interned_is : after_intern t keyword n ≡ Ok (keyword, t)
-    interned_is = λ i. if not (is_package i) then Err NoSuchPackage else option_map_or (λ g. Ok (g, t)) (present_found t n keyword keyword there i) others
-
-    none_new : intern_changes t keyword n ≡ false
-    none_new = ap is_none (present_found t n keyword keyword there)
-
-    named_so : package_named t keyword ≡ Some keyword
-    named_so = ap (λ (b : Bool). if b then Some keyword else None) is_package
-
-    intern_is : intern (text n ∷ text keyword ∷ []) s ≡ gives (symbol keyword n) s
-    intern_is =
-        ap (λ (o : Option Name). option_map_or (λ p. interned s n (intern_changes t p n) (after_intern t p n)) o (Err NO_SUCH_PACKAGE)) named_so
-        ∙ (λ i. interned s n (none_new i) (interned_is i))
-
-    interned_value : value_by true names s (call (codes "INTERN") (text n ∷ text keyword ∷ [])) ≡ gives (symbol keyword n) s
-    unfolding value_by
-    interned_value = ap (also false) intern_is
-
     own : IsAscii n
     own = own_ascii t packages.common_lisp_user sound keyword n there
 
@@ -157,7 +109,7 @@ module _ (names : List Name) (s : WorldState) (sound : packages.IsSound s.packag
           there = pair_there t (symbol common_lisp (codes "INTERN")) (pair (text n) (pair (text keyword) nil)) (lisp_there t sound (codes "INTERN") refl)
               (pair_there t (text n) (pair (text keyword) nil) refl (pair_there t (text keyword) nil refl (nil_there t sound)));
           short = many_short (sound.within.symbol_names keyword n keyword there).short;
-          value = interned_value;
+          value = interned_value names s sound keyword n there;
         }
         by_length false e =
             subst (λ cs. IsArgument names s sound cs (symbol keyword n) (symbol keyword n)) (sym (append-nil (symbol_text keyword n)))

@@ -1,4 +1,4 @@
--- The lines of the properties make those that a form can set, also where others are left out.
+-- The lines of the properties make those whose forms are read, also where others are left out.
 --     kept_made      after a newline, in a state that reads as exports are read
 --     kept_are      the property lists then
 use Rattle.std.proofs.Common.{◌≡◌, ◌≢◌, ℕ, Bool, true, false, cond, ◌||◌, List, [], ◌∷◌, ◌++◌, append_assoc, Option, Some, None, refl, sym, ap, subst, ◌∙◌}

@@ -1,123 +1,51 @@
 -- The last form makes the package, the base of numbers and the readtable current.
+--     is_enter_table      its operator
 --     last_made      it is read and accepted, after a newline and before whatever ends the text
-use Rattle.std.proofs.Common.{◌≡◌, ℕ, suc, pos, ◌+◌, ◌≤◌, Bool, true, false, List, [], ◌∷◌, ◌++◌, length, drop, codes, decimal, Some, None, Ok, Err, IsTrue, refl, ap, subst, ◌∙◌, arith}
+use Rattle.std.proofs.Common.{◌≡◌, ℕ, pos, ◌+◌, ◌≤◌, Bool, true, false, List, [], ◌∷◌, ◌++◌, length, codes, decimal, Some, None, Ok, Err, IsTrue, refl, ap, subst, ◌∙◌, arith}
 use Rattle.std.specs.Prelude.{if◌then◌else◌, nat_le}
-use Rattle.std.specs.Option.{option_and_then, option_map, option_map_or}
+use Rattle.std.specs.Option.{option_map_or}
 use Rattle.std.specs.FinMap as finite
 use Rattle.std.proofs.lemmas.Bool.{and_from, le-leb}
 use Rattle.std.proofs.lemmas.List.{length-append}
 use Rattle.lisp_object.specs.Object.{Object, integer, nil, pair, symbol, text}
-use Rattle.lisp_object.specs.declared.refusal.TheConstants.{INTEGER_RANGE, NO_SUCH_PACKAGE}
-use Rattle.readtable_core.specs.Tables.{standard}
+use Rattle.lisp_object.specs.declared.refusal.TheConstants.{INTEGER_RANGE}
 use Rattle.package_table.specs.Symbols.{are_there}
 use Rattle.package_table.specs.Table as packages
-use Rattle.package_table.specs.Table.{Name, Table as Packages, IsPackage, common_lisp, common_lisp_names, common_lisp_user, keyword}
+use Rattle.package_table.specs.Table.{Name, IsPackage, common_lisp, common_lisp_names, keyword}
 use Rattle.plist_state.specs.Changes.{with_base}
 use Rattle.plist_state.specs.declared.error.ReadtableError.TheVariants.{NoReadtable}
 use Rattle.plist_state.specs.Sound.{IsSymbol}
 use Rattle.plist_state.specs.State.{WorldState}
 use Rattle.user_macros.specs.Functions.{Functions, no_functions}
 use Rattle.canon_printer.specs.Written.{printed_text}
-use Rattle.lisp_operators.specs.Evaluation.{Done, also, and_then, gives, writes}
+use Rattle.lisp_operators.specs.Evaluation.{also, and_then, gives, writes}
 use Rattle.lisp_operators.specs.ReadBase.{is_base}
 use Rattle.lisp_operators.specs.Readtables.{after, enter_readtable}
 use Rattle.evaluator.specs.Value.{last, value_by, values_by}
 use Rattle.form_eval.specs.Acceptance.{accept}
 use Rattle.lisp_reading.specs.declared.found.Found.TheVariants.{One as one}
-use Rattle.lisp_reading.specs.Setting.{setting_of}
-use Rattle.lisp_reading.specs.Reading.{form, outcome, reads, reads_at}
-use Rattle.lisp_reading.proofs.Forms.{drop_front, reads_is}
-use Rattle.prevalence_store.specs.declared.mode.Mode.TheVariants.{Current}
-use Rattle.prevalence_store.specs.meaning.Acceptance.{between, form_limits, read_in}
-use Rattle.prevalence_store.specs.meaning.Answers.{evaluated, one_form, one_form_more, onward}
-use Rattle.world_text.proofs.Begun.{newline_begun}
+use Rattle.prevalence_store.specs.meaning.Acceptance.{form_limits}
 use Rattle.world_forms.specs.declared.export.Content.TheVariants.{World}
 use Rattle.world_forms.specs.Forms.{current_form}
-use Rattle.world_forms.specs.Properties.{form_setting}
 use Rattle.world_forms.specs.Tokens.{value_text}
-use Rattle.wider_functions.proofs.Keeping.{none_are_among}
-use Rattle.wider_functions.proofs.Reading.{reading_widens}
 use Rattle.export_laws.specs.Objects.{call}
 use Rattle.export_laws.specs.Texts.{Makes, ReadsAsExported}
-use Rattle.export_laws.proofs.PackageForms.{named_so}
+use Rattle.export_laws.proofs.Current.{enter_object, enter_value, is_enter, is_progn}
+use Rattle.export_laws.proofs.OneForm.{next_made}
 use Rattle.export_laws.proofs.PackageText.{IsOperator, operator_read, room}
 use Rattle.export_laws.proofs.PartsRead.{AreRead, deeper, list_read, no_more, one_more}
 use Rattle.export_laws.proofs.There.{lisp_there, nil_there, pair_there}
 use Rattle.whole_export.proofs.Arguments.{AreArguments, IsList, accepted_so, argument, call_is_read, call_short, call_there, call_values, no_argument}
 use Rattle.whole_export.proofs.ArgumentKinds.{base_is, base_variable, table_form, table_is, text_is}
 use Rattle.whole_export.proofs.Joined.{last_same}
+use Rattle.whole_export.proofs.Steps.{is_setf}
 
-is_progn : IsOperator (codes "PROGN")
-unfolding common_lisp_names
-is_progn = record { listed = refl; plain = refl; short = omega arith }
-
-is_enter : IsOperator (codes "IN-PACKAGE")
-unfolding common_lisp_names
-is_enter = record { listed = refl; plain = refl; short = omega arith }
-
-is_setf : IsOperator (codes "SETF")
-unfolding common_lisp_names
-is_setf = record { listed = refl; plain = refl; short = omega arith }
-
-is_enter_table : IsOperator (codes "IN-READTABLE")
+-- IN-READTABLE
+pub is_enter_table : IsOperator (codes "IN-READTABLE")
 unfolding common_lisp_names
 is_enter_table = record { listed = refl; plain = refl; short = omega arith }
 
--- ---- a form at the end of a text
-
-module _ (t : Packages) (text : List ℕ) (x : Object) (is : IsList t text x) (rest : List ℕ) where
-  read_at : (start : ℕ) → reads_at (form_setting t) start (text ++ rest) ≡ form x start (start + length text) (start + length text + 0)
-  read_at start =
-      reads_is (form_setting t) start (text ++ rest)
-      ∙ ap (outcome standard start (λ next cs. reads_at (form_setting t) next cs)) (is rest)
-
-  read_after : reads (form_setting t) (10 ∷ text ++ rest) ≡ form x 1 (1 + length text) (1 + length text)
-  unfolding reads
-  read_after =
-      reads_is (form_setting t) 0 (10 ∷ text ++ rest)
-      ∙ ap (outcome standard 0 (λ next cs. reads_at (form_setting t) next cs)) (newline_begun form_limits t common_lisp_user no_functions 100 0 (text ++ rest) (omega arith))
-      ∙ read_at 1
-      ∙ ap (λ n. form x 1 (1 + length text) n) (let h : 1 + length text + 0 ≡ 1 + length text = omega arith in h)
-
-  read_with : (functions : Functions) → reads (setting_of form_limits standard 10 t common_lisp_user functions) (10 ∷ text ++ rest) ≡ form x 1 (1 + length text) (1 + length text)
-  read_with functions =
-      reading_widens form_limits standard 10 t common_lisp_user no_functions functions (none_are_among functions) (10 ∷ text ++ rest) x 1 (1 + length text) (1 + length text) read_after
-
-  read_here : (functions : Functions) (s : WorldState) → ReadsAsExported s → s.packages ≡ t → read_in functions s Current (10 ∷ text ++ rest) ≡ form x 1 (1 + length text) (1 + length text)
-  read_here functions s as_exported same =
-      (λ i. reads (setting_of form_limits (as_exported.readtable i) (as_exported.base i) (same i) (as_exported.current i) functions) (10 ∷ text ++ rest))
-      ∙ read_with functions
-
-  dropped : drop (1 + length text) (10 ∷ text ++ rest) ≡ rest
-  dropped =
-      ap (λ n. drop n (10 ∷ text ++ rest)) (let h : 1 + length text ≡ suc (length text) = omega arith in h)
-      ∙ drop_front text rest
-
-end_made : (functions : Functions) (first now : WorldState) (whole own rest : List ℕ) (x : Object) (done : Done Object)
-    → Makes functions first whole now (10 ∷ own ++ rest) → ReadsAsExported now → IsList now.packages own x → accept functions.names now x ≡ Ok done
-    → Makes functions first whole done.state rest
-end_made functions first now whole own rest x done made as_exported is accepted =
-    let p = made.progress in
-    let input = 10 ∷ own ++ rest in
-    let q = evaluated now Current (between 1 (1 + length own) input) (drop (1 + length own) input) (Ok done) in
-    let one_is : one_form functions now Current input (read_in functions now Current input) ≡ Some q
-    = ap (one_form functions now Current input) (read_here now.packages own x is rest functions now as_exported refl)
-    ∙ ap (λ e. Some (evaluated now Current (between 1 (1 + length own) input) (drop (1 + length own) input) e)) accepted in
-    let more : one_form_more functions Current p ≡ Some (onward p q)
-    = ap (option_map (onward p)) ((λ i. one_form functions (made.world i) Current (made.left i) (read_in functions (made.world i) Current (made.left i))) ∙ one_is) in
-    record {
-      count = suc made.count;
-      progress = onward p q;
-      given = ap (option_and_then (one_form_more functions Current)) made.given ∙ more;
-      world = refl;
-      left = dropped now.packages own x is rest;
-      refused = ap (λ ns. ns ++ []) made.refused;
-    }
-
 -- ---- what becomes current
-
-abbrev pub enter_object : Name → Object
-enter_object p = call (codes "IN-PACKAGE") (text p ∷ [])
 
 abbrev pub base_object : ℕ → Object
 base_object n = call (codes "SETF") (symbol common_lisp (codes "*READ-BASE*") ∷ integer (pos n) ∷ [])
@@ -217,10 +145,6 @@ module _ (names : List Name) (s : WorldState) (sound : packages.IsSound s.packag
   abbrev based : WorldState
   based = with_base entered n
 
-  enter_value : value_by true names s (enter_object p) ≡ writes (text p) entered
-  unfolding value_by
-  enter_value = ap (λ o. option_map_or (λ q. writes (text q) (record s { current_package = q })) o (Err NO_SUCH_PACKAGE)) (named_so names s sound p is_package)
-
   base_value : value_by true names entered (base_object n) ≡ writes (integer (pos n)) based
   unfolding value_by
   base_value =
@@ -245,7 +169,7 @@ module _ (names : List Name) (s : WorldState) (sound : packages.IsSound s.packag
       let v = integer (pos n) in
       let w = symbol keyword r in
       let whole : values_by true names s (pair a (pair b (pair c nil))) ≡ writes (u ∷ v ∷ w ∷ []) (with_current s p n r)
-      = (λ i. and_then (enter_value i) (λ y later. and_then (values_by true names later (pair b (pair c nil))) (λ ys end'. gives (y ∷ ys) end')))
+      = (λ i. and_then (enter_value names s sound p is_package i) (λ y later. and_then (values_by true names later (pair b (pair c nil))) (λ ys end'. gives (y ∷ ys) end')))
       ∙ (λ i. also true (and_then (and_then (base_value i) (λ y later. and_then (values_by true names later (pair c nil)) (λ ys end'. gives (y ∷ ys) end'))) (λ ys end'. gives (u ∷ ys) end')))
       ∙ (λ i. also true (and_then (also true (and_then (and_then (table_value i) (λ y later. and_then (values_by true names later nil) (λ ys end'. gives (y ∷ ys) end'))) (λ ys end'. gives (v ∷ ys) end'))) (λ ys end'. gives (u ∷ ys) end'))) in
       ap (λ e. and_then e (λ xs later. gives (last xs) later)) whole
@@ -265,8 +189,8 @@ module _ (functions : Functions) (first : WorldState) (whole : List ℕ) (s now 
       let n = s.read_base in
       let r = s.current_readtable in
       let same : current_form s World ++ rest ≡ its_text functions.names now sound p n r is_package lowest highest named is_table ++ rest = ap (λ cs. cs ++ rest) (last_same s) in
-      end_made functions first now whole (its_text functions.names now sound p n r is_package lowest highest named is_table) rest (last_object p n r)
+      next_made functions first now whole (its_text functions.names now sound p n r is_package lowest highest named is_table) rest (last_object p n r)
       (record { value = symbol keyword r; state = with_current now p n r; wrote = true })
       (subst (λ cs. Makes functions first whole now (10 ∷ cs)) same made) as_exported
-      (last_is_list functions.names now sound p n r is_package lowest highest named is_table)
+      (last_is_list functions.names now sound p n r is_package lowest highest named is_table rest)
       (last_accepted functions.names now sound p n r is_package lowest highest named is_table)

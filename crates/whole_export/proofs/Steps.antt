@@ -52,7 +52,7 @@ is_copy : IsOperator (codes "COPY-READTABLE")
 unfolding common_lisp_names
 is_copy = record { listed = refl; plain = refl; short = omega arith }
 
-is_setf : IsOperator (codes "SETF")
+pub is_setf : IsOperator (codes "SETF")
 unfolding common_lisp_names
 is_setf = record { listed = refl; plain = refl; short = omega arith }
 

@@ -6,7 +6,7 @@ use Rattle.std.specs.Prelude.{if◌then◌else◌, is_some, unwrap_or}
 use Rattle.std.specs.FinMap as finite
 use Rattle.lisp_object.specs.Object.{Object, symbol}
 use Rattle.readtable_core.specs.Tables.{standard}
-use Rattle.package_table.specs.Table.{common_lisp_names, keyword}
+use Rattle.package_table.specs.Table.{keyword}
 use Rattle.package_table.proofs.First.{sound as first_sound}
 use Rattle.package_table.proofs.Frames.{get_inserted}
 use Rattle.plist_state.specs.declared.error.ReadtableError.TheVariants.{NoReadtable}
@@ -29,19 +29,14 @@ use Rattle.export_laws.proofs.Front.{without_newline}
 use Rattle.export_laws.proofs.Lines.{lines_made}
 use Rattle.export_laws.proofs.OneForm.{nothing_made, one_more_made}
 use Rattle.export_laws.proofs.PackageLines.{packages_made}
-use Rattle.export_laws.proofs.PackageText.{IsOperator}
 use Rattle.whole_export.specs.Kept.{IsWithoutLeftOut}
 use Rattle.whole_export.specs.Standard.{ReadsStandard}
 use Rattle.whole_export.proofs.AllReadtables.{first_standard, tables_made}
 use Rattle.whole_export.proofs.Arguments.{AreArguments, accepted_so, argument, call_is_list, call_there, call_values, no_argument}
 use Rattle.whole_export.proofs.Ending.{ending_short}
 use Rattle.whole_export.proofs.KeptLines.{kept_are, kept_made, kept_map}
-use Rattle.whole_export.proofs.Last.{last_made}
+use Rattle.whole_export.proofs.Last.{is_enter_table, last_made}
 use Rattle.whole_export.proofs.Steps.{standard_argument, standard_reads}
-
-is_enter : IsOperator (codes "IN-READTABLE")
-unfolding common_lisp_names
-is_enter = record { listed = refl; plain = refl; short = omega arith }
 
 -- ---- the first form makes the standard readtable current
 
@@ -80,9 +75,9 @@ module _ (functions : Functions) (whole : List ℕ) where
   first_made : (rest : List ℕ) → Makes functions initial whole initial (10 ∷ (codes "(IN-READTABLE :STANDARD)" ++ 10 ∷ rest)) → Makes functions initial whole begun (10 ∷ rest)
   first_made rest made =
       one_more_made functions initial initial whole (codes "(IN-READTABLE :STANDARD)") rest first_object (record { value = symbol keyword standard_name; state = begun; wrote = true }) made new_reads
-      (λ later. call_is_list functions.names initial first_sound (codes "IN-READTABLE") is_enter more (symbol keyword standard_name ∷ []) (symbol keyword standard_name ∷ []) its_arguments (omega arith) (10 ∷ later))
+      (λ later. call_is_list functions.names initial first_sound (codes "IN-READTABLE") is_enter_table more (symbol keyword standard_name ∷ []) (symbol keyword standard_name ∷ []) its_arguments (omega arith) (10 ∷ later))
       (accepted_so functions.names initial first_sound first_object (symbol keyword standard_name) begun
-      (call_there functions.names initial first_sound (codes "IN-READTABLE") is_enter more (symbol keyword standard_name ∷ []) (symbol keyword standard_name ∷ []) its_arguments) first_value)
+      (call_there functions.names initial first_sound (codes "IN-READTABLE") is_enter_table more (symbol keyword standard_name ∷ []) (symbol keyword standard_name ∷ []) its_arguments) first_value)
 
 -- ---- the whole
 

@@ -50,11 +50,11 @@ pub fn readtable_lines_are_read()
         (record now { readtables = s.readtables }) (10 ∷ rest) }
 {}
 
-/// The forms of a sound state, of which no property is left out, given to a new store one after the other: all are accepted, if there
-/// are the macro functions that its readtables name. They leave this very state.
+/// The forms of a sound state, given to a new store one after the other: all are accepted, if there are the macro functions that its
+/// readtables name.
 ///
-/// - `world`: so they do. What is then left of the text is its last newline, or nothing.
-/// - `without`: where properties are left out, the forms leave the state without these.
+/// - `world`: they leave this very state, if no property is left out. What is then left of the text is its last newline, or nothing.
+/// - `without`: else they leave the state without the properties that are left out.
 /// - `all`: what is left of the text is no form.
 pub fn export_makes_a_world()
     ensures world { (functions : Functions) (s : WorldState)

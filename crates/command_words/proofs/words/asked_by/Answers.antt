@@ -1,6 +1,6 @@
 use Rattle.std.proofs.Common.{rules, None, Some, refl, codes}
 use Rattle.clap.specs.Words.{first_value, found_of}
-use Rattle.command_words.specs.CommandLine.{is_set}
+use Rattle.command_words.specs.Rules.{is_set}
 use Rattle.command_words.proofs.FoundWords.{asked_found}
 use Rattle.command_words.proofs.words.asked_by.Goals as goal
 

@@ -1,8 +1,9 @@
 use Rattle.std.proofs.Common.{rules, ◌≡◌, ◌⊎◌, ◌∙◌, ap, sym, subst, map, Option, None, Some, option_and_then}
-use Rattle.clap.specs.Words.{App, IsAmong, fault_of, is_simple, is_simple_and_free, kind_of, subcommand_of, subcommand_rows_of, takes}
+use Rattle.clap.specs.Words.{App, IsAmong, fault_of, is_simple, is_simple_and_free, kind_of, subcommand_of, subcommand_rows_of}
+use Rattle.clap.specs.declared.error.kind.ErrorKind.{ErrorKind}
 use Rattle.clap.specs.declared.error.kind.ErrorKind.TheVariants.{OutOfMemory}
-use Rattle.command_words.specs.CommandLine.{Asked, asked_of, command_line}
-use Rattle.command_words.proofs.CommandLineLaws.{fault_of_clap, fault_of_none, free_line, no_faults, right_line, simple_line}
+use Rattle.command_words.specs.CommandLine.{Asked, asked_of, command_line, faults_of}
+use Rattle.command_words.proofs.CommandLineLaws.{fault_of_clap, fault_of_none, free_line, memory_alone, no_faults, right_line, simple_line}
 use Rattle.command_words.proofs.words.asked_in.Goals as goal
 
 pub returns-in-Some-clause-asked : goal.returns-in-Some-clause-asked
@@ -40,11 +41,15 @@ returns-in-Ok-clause-taken g c = λ folder existing task asks.
 
 pub returns-clause-taken : goal.returns-clause-taken
 returns-clause-taken g c = λ folder existing task asks.
-    c.in-Err.ensures.passes (ap (λ (a : App). takes a (map g.S.AsStr.text c.args.words.now)) c.in_ok-command.ensures ∙ (right_line _ folder existing task asks).taken)
+    let words = map g.S.AsStr.text c.args.words.now in
+    c.with_tip.ensures ∙ memory_alone words (kind_of c.in-Err.error) (right_line words folder existing task asks).faultless
+    (subst (λ (a : App). (kind_of c.in-Err.error ≡ OutOfMemory) ⊎ IsAmong (kind_of c.in-Err.error) (fault_of a words)) c.in_ok-command.ensures
+    (c.in-Err.ensures.kinds (ap is_simple_and_free c.in_ok-command.ensures ∙ free_line)))
 
 pub returns-clause-faults : goal.returns-clause-faults
 returns-clause-faults g c =
     let words = map g.S.AsStr.text c.args.words.now in
-    fault_of_clap words (kind_of c.in-Err.error)
+    let told = fault_of_clap words (kind_of c.in-Err.error)
     (subst (λ (a : App). (kind_of c.in-Err.error ≡ OutOfMemory) ⊎ IsAmong (kind_of c.in-Err.error) (fault_of a words)) c.in_ok-command.ensures
-    (c.in-Err.ensures.kinds (ap is_simple_and_free c.in_ok-command.ensures ∙ free_line)))
+    (c.in-Err.ensures.kinds (ap is_simple_and_free c.in_ok-command.ensures ∙ free_line))) in
+    subst (λ (k : ErrorKind). (k ≡ OutOfMemory) ⊎ IsAmong k (faults_of words)) (sym c.with_tip.ensures) told

@@ -1,7 +1,7 @@
 use Rattle.std.proofs.Common.{ap, ap₂, ◌∙◌, codes}
 use Rattle.std.proofs.lemmas.Result.{IfOk-weaker}
 use Rattle.clap.specs.Words.{App, Text, with_subcommand}
-use Rattle.command_words.specs.CommandLine.{folder_line}
+use Rattle.command_words.specs.Rules.{folder_line}
 use Rattle.command_words.proofs.words.whole_command.Goals as goal
 
 abbrev with_folder : Text → App → App
@@ -9,9 +9,6 @@ with_folder name program = with_subcommand program (folder_line name).top
 
 pub returns : goal.returns
 returns c =
-    let run = c.in_ok-with_run.ensures.shape c.in_ok-run.ensures.local ∙ ap₂ with_subcommand c.bare_command.ensures.line (ap (λ (a : App). a.top) c.in_ok-run.ensures.line) in
-    let snapshot = c.in_ok-with_snapshot.ensures ∙ ap (with_folder (codes "snapshot")) run in
-    let upgrade = c.in_ok-with_upgrade.ensures ∙ ap (with_folder (codes "upgrade")) snapshot in
-    let export = c.in_ok-with_export.ensures.shape c.in_ok-export.ensures.local ∙ ap₂ with_subcommand upgrade (ap (λ (a : App). a.top) c.in_ok-export.ensures.line) in
+    let export = c.in_ok-with_export.ensures.shape c.in_ok-export.ensures.local ∙ ap₂ with_subcommand c.in_ok-with_upgrade.ensures (ap (λ (a : App). a.top) c.in_ok-export.ensures.line) in
     let dump = c.in_ok-with_dump.ensures ∙ ap (with_folder (codes "dump")) export in
-    IfOk-weaker c.with_command-4.result _ _ (λ _ is. is ∙ ap (with_folder (codes "verify")) dump) c.with_command-4.ensures
+    IfOk-weaker c.with_command-2.result _ _ (λ _ is. is ∙ ap (with_folder (codes "verify")) dump) c.with_command-2.ensures

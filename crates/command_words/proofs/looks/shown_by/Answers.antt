@@ -1,0 +1,15 @@
+use Rattle.std.proofs.Common.{◌∙◌, ap, codes}
+use Rattle.clap.specs.Words.{found_of}
+use Rattle.clap.proofs.WalkLemmas.{first_value-rows}
+use Rattle.command_words.specs.Rules.{is_set}
+use Rattle.command_words.proofs.looks.shown_by.Goals as goal
+
+pub returns : goal.returns
+returns c =
+    let f = found_of c.args.found.now in
+    record {
+      in_package = c.get_str.ensures ∙ first_value-rows f (codes "package");
+      indicator = c.get_str-2.ensures ∙ first_value-rows f (codes "indicator");
+      like = c.get_str-3.ensures ∙ first_value-rows f (codes "like");
+      forms = c.flag_is_set.ensures ∙ ap is_set (c.get_str-4.ensures ∙ first_value-rows f (codes "forms"));
+    }

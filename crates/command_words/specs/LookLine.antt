@@ -1,0 +1,101 @@
+-- The command line of the commands that look into a store, as clap reads it: `show DIR [--package NAME] [--indicator NAME] [--like NAME]
+-- [--forms]`, `info DIR`, `log DIR [--from N] [--places]`, `backup DIR DEST` and `dump DIR [--at N]`, each with `--existing`.
+use Rattle.std.specs.Prelude.{◌≡◌, ◌==◌, ℕ, ◌-◌, ◌^◌, Bool, if◌then◌else◌, List, Option, None, Some, length, codes, nat_le, nat_lt, option_map, option_and_then}
+use Rattle.std.specs.Borrow.{Bor}
+use Rattle.std.specs.Char.{is_ascii_digit}
+use Rattle.std.specs.List.{after_first, before_first, list_all, position_or_len}
+use Rattle.std.specs.Str.Parse.{digits_value, without_leading_plus}
+use Rattle.clap.specs.ValueTests.{is_unsigned_in}
+use Rattle.clap.specs.Words.{App, Row, Text, first_of, subcommand_of, with_rule, with_subcommand}
+use Rattle.command_words.specs.Rules.{bare_line, flag_rule, folder_line, is_set, option_rule, place_rule}
+use Rattle.command_words.specs.declared.looks.Look.{Look}
+use Rattle.command_words.specs.declared.looks.Look.TheVariants.{Backup, Dump, Info, Log, Show}
+use Rattle.command_words.specs.declared.looks.RecordPlace.{RecordPlace}
+use Rattle.command_words.specs.declared.looks.Records.{Records}
+use Rattle.command_words.specs.declared.looks.Shown.{Shown}
+
+-- ---- the commands
+
+abbrev pub show_line : App
+show_line =
+    with_rule (with_rule (with_rule (with_rule (folder_line (codes "show")) (option_rule (codes "package"))) (option_rule (codes "indicator")))
+    (option_rule (codes "like"))) (flag_rule (codes "forms"))
+
+abbrev pub log_line : App
+log_line = with_rule (with_rule (folder_line (codes "log")) (option_rule (codes "from"))) (flag_rule (codes "places"))
+
+abbrev pub backup_line : App
+backup_line = with_rule (folder_line (codes "backup")) (place_rule (codes "DEST"))
+
+abbrev pub dump_line : App
+dump_line = with_rule (folder_line (codes "dump")) (option_rule (codes "at"))
+
+abbrev pub telling_line : App
+telling_line =
+    with_subcommand (with_subcommand (with_subcommand bare_line show_line.top) (folder_line (codes "info")).top) log_line.top
+
+abbrev pub looking_line : App
+looking_line = with_subcommand (with_subcommand telling_line backup_line.top) dump_line.top
+
+-- ---- the place of a record: N, or G.N
+
+-- the number of 64 bits that a text writes, with or without a plus
+abbrev pub number_of : Text → Option ℕ
+number_of text = if is_unsigned_in 0 (2 ^ 64 - 1) text then Some (digits_value 10 (without_leading_plus text)) else None
+
+-- the same of digits alone
+abbrev pub digits_of : Text → Option ℕ
+digits_of text = if list_all is_ascii_digit text then number_of text else None
+
+abbrev pub is_dot : ℕ → Bool
+is_dot byte = byte == 46
+
+abbrev pub place_of : Text → Option RecordPlace
+place_of text =
+    if nat_lt (position_or_len is_dot text) (length text)
+    then option_and_then (λ generation. option_map (λ number. record { generation = Some generation; number = number })
+    (digits_of (after_first is_dot text))) (digits_of (before_first is_dot text))
+    else option_map (λ number. record { generation = None; number = number }) (number_of text)
+
+-- the place that an option gives: no record before the least one, and that one where the option is not there
+abbrev pub place_given : ℕ → Option Text → Option RecordPlace
+place_given least None = Some (record { generation = None; number = least })
+place_given least (Some text) = option_and_then (λ place. if nat_le least place.number then Some place else None) (place_of text)
+
+-- ---- what is found asks for
+
+abbrev pub text_of : Option (Bor Text) → Option Text
+text_of = option_map (λ (text : Bor Text). text.now)
+
+-- which properties are shown, and how
+pub record IsShown (rows : List Row) (shown : Shown) : Type 0 where
+  pub in_package : text_of shown.package ≡ first_of (codes "package") rows
+  pub indicator : text_of shown.indicator ≡ first_of (codes "indicator") rows
+  pub like : text_of shown.like ≡ first_of (codes "like") rows
+  pub forms : shown.forms ≡ is_set (first_of (codes "forms") rows)
+
+-- from which record on the log is written, and whether with places
+pub record AreRecords (rows : List Row) (records : Records) : Type 0 where
+  pub from : Some records.from ≡ place_given 1 (first_of (codes "from") rows)
+  pub places : records.places ≡ is_set (first_of (codes "places") rows)
+
+-- a command of this name with these rows asks for this
+abbrev pub IsLook : Text → List Row → Look → Type 0
+IsLook name rows (Show shown) = (name ≡ codes "show") × IsShown rows shown
+IsLook name rows Info = name ≡ codes "info"
+IsLook name rows (Log records) = (name ≡ codes "log") × AreRecords rows records
+IsLook name rows (Backup to) = (name ≡ codes "backup") × (Some to.now ≡ first_of (codes "DEST") rows)
+IsLook name rows (Dump place) = (name ≡ codes "dump") × (Some place ≡ place_given 0 (first_of (codes "at") rows))
+
+-- and for this folder
+abbrev pub IsLooked : Text → List Row → Text → Look → Type 0
+IsLooked name rows folder look = (Some folder ≡ first_of (codes "DIR") rows) × IsLook name rows look
+
+-- what was found asks for a look into the store of this folder
+abbrev pub Finds : Option (Text × List Row) → Text → Look → Type 0
+Finds None folder look = ⊥
+Finds (Some found) folder look = IsLooked found.0 found.1 folder look
+
+-- the words do
+abbrev pub AsksToLook : List Text → Text → Look → Type 0
+AsksToLook words folder look = Finds (subcommand_of looking_line words) folder look

@@ -1,0 +1,55 @@
+// A tip for a command that there is not.
+ghost use Rattle.std.specs.Prelude.{◌≡◌, IfSome};
+ghost use Rattle.clap.specs.Words.{kind_of};
+ghost use Rattle.clap.specs.declared.error.kind.ErrorKind.TheVariants.{InvalidSubcommand};
+
+use crate::check::CHECK;
+use crate::help::USAGE;
+use crate::looks::{BACKUP, INFO, LOG, SHOW};
+use crate::rules::PROGRAM;
+use crate::words::{DUMP, EXPORT, RUN, SNAPSHOT, UPGRADE, VERIFY};
+use clap::error::ErrorKind;
+use clap::{Command, Error};
+use std::alloc::{AllocError, Global};
+use std::convert::AsStr;
+
+/// The names of all commands.
+const NAMES: [&str; 11] = [
+    RUN, SNAPSHOT, UPGRADE, EXPORT, DUMP, VERIFY, SHOW, INFO, LOG, BACKUP, CHECK,
+];
+
+/// The same refusal, where it is that of a command that there is not with a tip from the names of all commands.
+pub(crate) fn with_tip<S: AsStr>(alloc: Global, words: &[S], error: Error) -> Error
+    ensures { kind_of result ≡ kind_of error }
+{
+    match error.kind() {
+        ErrorKind::InvalidSubcommand => match unknown_name(alloc, words) {
+            Some(told) => told,
+            None => error,
+        },
+        _ => error,
+    }
+}
+
+// What clap says of a command that there is not.
+fn unknown_name<S: AsStr>(alloc: Global, words: &[S]) -> Option<Error>
+    ensures { IfSome result (λ error. kind_of error ≡ InvalidSubcommand) }
+{
+    let mut command = command_of_names(alloc).ok()?;
+    match command.try_get_matches_from_mut(words) {
+        Err(error) => match error.kind() {
+            ErrorKind::InvalidSubcommand => Some(error),
+            _ => None,
+        },
+        Ok(_) => None,
+    }
+}
+
+// The program with the names of its commands alone.
+fn command_of_names<'a>(alloc: Global) -> Result<Command<'a>, AllocError> {
+    let mut command = Command::new(alloc, PROGRAM).override_usage(USAGE);
+    for name in NAMES {
+        command = command.subcommand(Command::new(alloc, name))?;
+    }
+    Ok(command)
+}

@@ -1,0 +1,31 @@
+use Rattle.std.proofs.Common.{subst, sym, ◌∙◌, ap}
+use Rattle.plist_state.specs.State.{Worlds}
+use Rattle.prevalence_store.specs.messages.Rounds.{IsMade, round_in}
+use Rattle.prevalence_store.specs.steps.Batch.{IsMarkedFirst}
+use Rattle.prevalence_store.proofs.requests.Making.{asked_round, told_made}
+use Rattle.prevalence_store.proofs.steps.Taking.{ok_on}
+use Rattle.prevalence_store.proofs.messages.round.Round.answer_question.Goals as goal
+
+pub returns-in-Ok-answer_question-clause-answered : goal.returns-in-Ok-answer_question-clause-answered
+returns-in-Ok-answer_question-clause-answered g c =
+    let functions = g.R.Meaning.Meaning.functions in
+    ok_on c.push.result (λ pushed.
+    pushed c.answer_question.new.world.0
+    ∙ asked_round functions c.clear.new.self (round_in c.args.self.now c.args.world.now.0) c.clear.new.world.0 c.answer_question.new.world.0 c.args.text.now c.in-Ok-answer_question.answer.items
+    (ap (λ (s : Worlds). s.0) c.answer_question.ensures.same) c.in-Ok-answer_question.ensures.answer c.in-Ok.ensures.cleared) c.push.ensures.pushed
+
+pub returns-in-Ok-answer_question-clause-made : goal.returns-in-Ok-answer_question-clause-made
+returns-in-Ok-answer_question-clause-made g c =
+    let functions = g.R.Meaning.Meaning.functions in
+    ok_on c.push.result (λ pushed first made.
+    subst (IsMade functions first) (sym (pushed c.answer_question.new.world.0))
+    (told_made functions c.clear.new.self first c.clear.new.world.0 c.answer_question.new.world.0 c.in-Ok-answer_question.answer.items
+    (ap (λ (s : Worlds). s.0) c.answer_question.ensures.same) (c.in-Ok.ensures.made first made))) c.push.ensures.pushed
+
+pub returns-in-Ok-answer_question-clause-marks : goal.returns-in-Ok-answer_question-clause-marks
+returns-in-Ok-answer_question-clause-marks g c = λ first marked.
+    subst (λ (s : Worlds). IsMarkedFirst first s.1) (sym c.answer_question.ensures.same) (c.clear.ensures.marks first marked)
+
+pub returns-in-Err-answer_question-clause-marks : goal.returns-in-Err-answer_question-clause-marks
+returns-in-Err-answer_question-clause-marks g c = λ first marked.
+    subst (λ (s : Worlds). IsMarkedFirst first s.1) (sym c.answer_question.ensures.same) (c.clear.ensures.marks first marked)

@@ -1,0 +1,5 @@
+-- Messages with numbers, and questions.
+pub mod Position
+pub mod Answers
+pub mod Rounds
+pub mod Calls

@@ -1,0 +1,91 @@
+-- What the calls of a store that carries out messages answer, and what is left after them.
+use Rattle.std.specs.Prelude.{◌≡◌, ◌⊎◌, ℕ, ◌+◌, ◌<◌, ◌≤◌, Bool, true, false, List, [], length, map, None, Some, IsSome, Result, Ok, Err, MatchResult}
+use Rattle.std.specs.List.{flat_map}
+use Rattle.disk_trait.specs.Disk.{State}
+use Rattle.disk_trait.specs.Half.{opposite_of}
+use Rattle.gate_log.specs.Layout.{LogRecord, open_record}
+use Rattle.lisp_object.specs.Object.{Object}
+use Rattle.lisp_object.specs.declared.refusal.TheConstants.{NO_MEMORY}
+use Rattle.plist_state.specs.State.{WorldState}
+use Rattle.prevalence_store.specs.declared.failure.Failure.{Failure}
+use Rattle.prevalence_store.specs.declared.failure.Failure.TheVariants as failure
+use Rattle.prevalence_store.specs.declared.messages.own.Own.TheVariants.{Position}
+use Rattle.prevalence_store.specs.declared.messages.request.Replies.{Replies}
+use Rattle.prevalence_store.specs.declared.messages.request.Request.{Request}
+use Rattle.prevalence_store.specs.declared.messages.request.TheConstants.{NO_POSITION}
+use Rattle.prevalence_store.specs.declared.mode.Mode.TheVariants.{Rescue}
+use Rattle.prevalence_store.specs.declared.outcome.Outcome.TheVariants.{Refused}
+use Rattle.prevalence_store.specs.calls.Execute.{DeviceFails, Executes, IsAccepted, SurvivesAs}
+use Rattle.prevalence_store.specs.calls.ExecuteAll.{AllOrNone, LogsAll}
+use Rattle.prevalence_store.specs.calls.Store.{StoreView}
+use Rattle.prevalence_store.specs.meaning.Acceptance.{after}
+use Rattle.prevalence_store.specs.messages.Answers.{Round, answered, begun}
+use Rattle.prevalence_store.specs.messages.Position.{own_text, position, position_property}
+use Rattle.prevalence_store.specs.messages.Rounds.{told_in}
+use Rattle.prevalence_store.specs.steps.Failure.{failure_number, is_device}
+use Rattle.user_macros.specs.Functions.{Functions}
+
+-- where no message wrote nothing is left of requests
+abbrev pub entries_by : Bool → List LogRecord → List LogRecord
+entries_by true entries = entries
+entries_by false entries = []
+
+abbrev pub left_after : Bool → WorldState → WorldState → WorldState
+left_after true world left = left
+left_after false world left = world
+
+module _ (functions : Functions) {D R : Type 0} (state : D → State) (old new : StoreView D R) (world : WorldState) (round : Round) where
+  abbrev records : List LogRecord
+  records = entries_by round.wrote round.entries
+
+  -- The requests have these answers, and what came of them was logged together, with the position. Where no message wrote, all is as
+  -- it was, the disk too.
+  pub record AreAnswered (replies : Replies) : Type 0 where
+    pub told : map told_in replies.answers.items ≡ round.told
+    pub last : replies.last ≡ round.last
+    pub logs : LogsAll state old new records (left_after round.wrote world round.left)
+    pub survives : SurvivesAs functions state old new world records (length records)
+    pub all_or_none : AllOrNone functions state old new world records
+
+  -- the device failed as it was logged, for which there was room: all of it may be in the file, or nothing
+  pub record Fail : Type 0 where
+    pub again : after functions world records ≡ Some round.left
+    pub some : 0 < length records
+    pub fits : old.size + length (flat_map open_record records) ≤ old.limit
+    pub failed : DeviceFails state old new (opposite_of old.half)
+    pub survives : SurvivesAs functions state old new world records 0
+    pub all_or_none : AllOrNone functions state old new world records
+
+  -- They were not logged, and this is why. Unless the device failed all is as it was.
+  pub record AreLeft (cause : Failure) : Type 0 where
+    pub unchanged : is_device cause ≡ false → new ≡ old
+    pub full : cause ≡ failure.Full → old.limit < old.size + length (flat_map open_record records)
+    pub stopped : is_device cause ≡ true → Fail
+
+  -- the number of the cause
+  abbrev pub AreLeftWith : ℕ → Type 0
+  AreLeftWith number = (cause : Failure) × (number ≡ failure_number cause) × AreLeft cause
+
+module _ (functions : Functions) {D R : Type 0} (state : D → State) (old new : StoreView D R) (world : WorldState) where
+  -- What `answer_requests` answers, each answer with its cause.
+  abbrev pub AnswersRequests : ℕ → List Request → Result Replies ℕ → Type 0
+  AnswersRequests last requests (Ok replies) = AreAnswered functions state old new world (answered functions (begun last world) requests) replies
+  AnswersRequests last requests (Err number) = AreLeftWith functions state old new world (answered functions (begun last world) requests) number
+
+  -- the form that sets the position to 0 was accepted, and logged if it wrote
+  abbrev pub SetsFirst : Type 0
+  SetsFirst = (value : Object) × IsAccepted functions state old new world Rescue (own_text (Position 0)) value
+
+  -- What `begin_messages` answers: the position, which is there or was set to 0.
+  abbrev pub BeginsMessages : Result ℕ ℕ → Type 0
+  BeginsMessages (Ok number) = ((position world ≡ Some number) × (new ≡ old)) ⊎ ((number ≡ 0) × (position_property world ≡ None) × SetsFirst)
+  BeginsMessages (Err number) =
+      ((number ≡ NO_POSITION) × (position world ≡ None) × IsSome (position_property world) × (new ≡ old))
+      ⊎ (((number ≡ NO_MEMORY) × (new ≡ old))
+      ⊎ ((position_property world ≡ None) × Executes functions state old new world Rescue (own_text (Position 0)) (Refused number)))
+
+  -- what a round does, by the failure
+  abbrev pub TakesRound : ℕ → List Request → Result Replies Failure → Type 0
+  TakesRound last requests result =
+      MatchResult result (AreAnswered functions state old new world (answered functions (begun last world) requests))
+      (AreLeft functions state old new world (answered functions (begun last world) requests))

@@ -1,0 +1,12 @@
+// Messages with numbers, and questions.
+//
+// - `request`: what is asked, and what is answered; `texts`: answers as bytes
+// - `place`: the property that is the position; `own`: the store's own forms, by which it is changed
+// - `round`: requests that are answered one after the other, and logged together
+// - `ask`: a question
+mod ask;
+pub(crate) mod own;
+pub(crate) mod place;
+pub mod request;
+pub(crate) mod round;
+mod texts;

@@ -1,0 +1,163 @@
+// Messages with numbers, and questions, over a store.
+ghost use Rattle.std.specs.Prelude.{◌≡◌, true, false, None, Some, IsSome, IfOk, Err};
+ghost use Rattle.std.specs.Option.{option_and_then};
+ghost use Rattle.lisp_object.specs.declared.refusal.TheConstants.{REOPEN as NOT_OPEN};
+ghost use Rattle.plist_state.specs.State.{WorldState};
+ghost use Rattle.prevalence_store.specs.messages.Calls.{AnswersRequests, BeginsMessages, TakesRound};
+ghost use Rattle.prevalence_store.specs.messages.Position.{position, position_property};
+ghost use Rattle.prevalence_store.specs.steps.Failure.{is_device};
+ghost use Rattle.user_macros.specs.Functions.{are_registered};
+
+use crate::batch::Batch;
+use crate::failure::Failure;
+use crate::messages::own::Own;
+use crate::messages::place::Place;
+use crate::messages::request::{NO_POSITION, Replies, Request};
+use crate::messages::round::Round;
+use crate::mode::Mode;
+use crate::outcome::Outcome;
+use crate::store::Store;
+use disk_trait::Disk;
+use lisp_object::refusal::{NO_MEMORY, REOPEN};
+use std::alloc::AllocError;
+use user_macros::MacroFunctions;
+
+impl<D: Disk, R: MacroFunctions> Store<D, R> {
+    /// The position: the number of the last message that wrote, or of a later one that was answered with it. `None` where the
+    /// property is no number of 64 bits, or is not there, and after a device fault.
+    pub fn position(&self) -> Result<Option<u64>, AllocError>
+        ensures { IfOk result (λ found. found ≡ option_and_then position self.now.world) }
+    {
+        let place = Place::new(self.alloc)?;
+        match self.world() {
+            Some(world) => Ok(place.number(world)),
+            None => Ok(None),
+        }
+    }
+
+    /// Begins with messages: gives the position. In a store that has none yet it is 0, which is logged.
+    ///
+    /// # Errors
+    ///
+    /// 61 after an earlier device fault; 52 if the property that is to be the position is no number of 64 bits; else, of the form
+    /// that sets it to 0, as `execute` says. After 60 the store has to be opened again, after any other it is as it was.
+    pub fn begin_messages(&mut self) -> Result<u64, u16>
+        requires answers { R.answers self.old.macros }
+        requires whole { are_registered R.Meaning.functions (R.functions self.old.macros) ≡ true }
+        ensures reopen { self.old.world ≡ None → (result ≡ Err NOT_OPEN) × (self.new ≡ self.old) }
+        ensures begins { (world : WorldState) → self.old.world ≡ Some world
+            → BeginsMessages R.Meaning.functions D.state self.old self.new world result }
+        ensures honest { (D.state self.new.disk).honest ≡ (D.state self.old.disk).honest }
+        ensures macros { self.new.macros ≡ self.old.macros }
+    {
+        if !self.is_open() {
+            return Err(REOPEN);
+        }
+        let Ok(place) = Place::new(self.alloc) else {
+            return Err(NO_MEMORY);
+        };
+        match place.number(&self.world) {
+            Some(number) => Ok(number),
+            None if place.is_taken(&self.world) => Err(NO_POSITION),
+            None => self.set_first_position(),
+        }
+    }
+
+    // Makes 0 the position, which is not there.
+    fn set_first_position(&mut self) -> Result<u64, u16>
+        requires answers { R.answers self.old.macros }
+        requires whole { are_registered R.Meaning.functions (R.functions self.old.macros) ≡ true }
+        ensures begins { (world : WorldState) → self.old.world ≡ Some world
+            → position_property world ≡ None
+            → BeginsMessages R.Meaning.functions D.state self.old self.new world result }
+        ensures honest { (D.state self.new.disk).honest ≡ (D.state self.old.disk).honest }
+        ensures macros { self.new.macros ≡ self.old.macros }
+    {
+        let Ok(text) = Own::Position(0).text(self.alloc) else {
+            return Err(NO_MEMORY);
+        };
+        match self.execute(Mode::Rescue, text.as_slice()) {
+            Outcome::Refused(number) => Err(number),
+            _ => Ok(0),
+        }
+    }
+
+    /// Answers these requests one after the other, where `last` is the number of the last message before them. Each message is
+    /// carried out in a world without the position. What the messages that write need is appended to the log together, and the new
+    /// position after it: a crash leaves none or all.
+    ///
+    /// # Errors
+    ///
+    /// 61 after an earlier device fault; 64 if the half has no room for them, 90 if a growth was refused, and any number under which
+    /// a form of the store's own would be refused: the store is then as it was. After 60 it has to be opened again.
+    pub fn answer_requests(&mut self, last: u64, requests: &[Request<'_>]) -> Result<Replies, u16>
+        requires answers { R.answers self.old.macros }
+        requires whole { are_registered R.Meaning.functions (R.functions self.old.macros) ≡ true }
+        ensures reopen { self.old.world ≡ None → (result ≡ Err NOT_OPEN) × (self.new ≡ self.old) }
+        ensures answer { (world : WorldState) → self.old.world ≡ Some world
+            → AnswersRequests R.Meaning.functions D.state self.old self.new world last requests.now result }
+        ensures honest { (D.state self.new.disk).honest ≡ (D.state self.old.disk).honest }
+        ensures macros { self.new.macros ≡ self.old.macros }
+    {
+        if !self.is_open() {
+            return Err(REOPEN);
+        }
+        let Ok(place) = Place::new(self.alloc) else {
+            return Err(NO_MEMORY);
+        };
+        match self.take_round(place, last, requests) {
+            Ok(replies) => Ok(replies),
+            Err(failure) => Err(failure.number()),
+        }
+    }
+
+    // Answers requests one after the other, and logs what those that wrote need together, with the position. Where nothing is logged,
+    // the store is as it was.
+    fn take_round(
+        &mut self,
+        place: Place,
+        last: u64,
+        requests: &[Request<'_>],
+    ) -> Result<Replies, Failure>
+        requires answers { R.answers self.old.macros }
+        requires whole { are_registered R.Meaning.functions (R.functions self.old.macros) ≡ true }
+        requires open { IsSome self.old.world }
+        ensures takes { (world : WorldState) → self.old.world ≡ Some world
+            → TakesRound R.Meaning.functions D.state self.old self.new world last requests.now result }
+        ensures honest { (D.state self.new.disk).honest ≡ (D.state self.old.disk).honest }
+        ensures macros { self.new.macros ≡ self.old.macros }
+    {
+        let Ok(batch) = Batch::begin(self.alloc, &mut self.world) else {
+            return Err(Failure::OutOfMemory);
+        };
+        let mut round = Round::new(batch, place, last);
+        match round.answer_all(&mut self.world, &self.macros, requests) {
+            Ok(()) => {}
+            Err(failure) => {
+                self.world.back_to(0);
+                return Err(unlogged(failure));
+            }
+        }
+        if !round.wrote {
+            self.world.back_to(0);
+            return Ok(round.into_replies());
+        }
+        match round.batch.log(&mut self.log, &mut self.world) {
+            Ok(()) => Ok(round.into_replies()),
+            Err(failure) => Err(failure),
+        }
+    }
+}
+
+// Why requests were not answered, of which nothing was to be logged yet.
+fn unlogged(failure: Failure) -> Failure
+    ensures calm { is_device result ≡ false }
+    ensures room { result ≡ Failure.Full → ⊥ }
+{
+    match failure {
+        Failure::Refused(number) => Failure::Refused(number),
+        Failure::Full => Failure::OutOfMemory,
+        Failure::DeviceFault => Failure::OutOfMemory,
+        Failure::OutOfMemory => Failure::OutOfMemory,
+    }
+}
