@@ -59,13 +59,16 @@ pub fn kept_account<D: Disk, M: MacroFunctions, I: Read>(
     requires answers { M.answers store.old.macros }
     requires whole { are_registered M.Meaning.functions (M.functions store.old.macros) ≡ true }
 {
+    let first = Snapshot::of(store);
+    let input = Snapshot::of(reader);
+    let last = Snapshot::of(store);
     let mut keeper = Keeper {
         bytes: Vec::new(alloc),
         mode: wanted.mode,
-        first: Snapshot::of(store),
-        input: Snapshot::of(reader),
+        first,
+        input,
         forms: Some(0),
-        last: Snapshot::of(store),
+        last,
     };
     let ended = store.serve_wanted(reader, &mut keeper, wanted);
     let Keeper {

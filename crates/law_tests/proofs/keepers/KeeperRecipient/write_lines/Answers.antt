@@ -1,4 +1,4 @@
-use Rattle.std.proofs.Common.{◌≡◌, ℕ, ◌+◌, List, Option, None, Some, unwrap_or, refl, sym, ap, ◌∙◌}
+use Rattle.std.proofs.Common.{◌≡◌, ℕ, ◌+◌, List, Option, None, Some, unwrap_or, refl, subst, sym, ap, ◌∙◌}
 use Rattle.std.specs.Option.{option_map}
 use Rattle.plist_state.specs.State.{WorldState, initial}
 use Rattle.prevalence_store.specs.calls.Account.{Account, with_forms}
@@ -24,4 +24,5 @@ pub returns-clause-kept : goal.returns-clause-kept
 returns-clause-kept g c = λ later is.
     let k = c.args.self.now in
     kept_on k.mode k.first.value k.last.value c.args.store.now (g.I.Read.remaining k.input.value) k.forms c.with_more-self.result c.args.forms later c.with_more-self.ensures
-    (λ some there. let s = c.requires.stored _ (ap (option_map (kept_by k.mode k.first.value (g.I.Read.remaining k.input.value) k.last.value)) there) in (s.far.world, s.left)) is
+    (λ some there. let s = c.requires.stored _ (ap (option_map (kept_by k.mode k.first.value (g.I.Read.remaining k.input.value) k.last.value)) there) in (s.far.world, s.left))
+    (subst (λ (store : StoreView g.row.D.Denot g.row.M.Denot). option_map (kept_by k.mode k.first.value (g.I.Read.remaining k.input.value) store) c.with_more-self.result ≡ Some later) c.of.ensures is)
