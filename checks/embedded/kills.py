@@ -50,8 +50,8 @@ def run(built, times):
         writer.wait()
         answered = int([line for line in told if line.strip()][-1])
         found = value_in(built.library, folder)
-        # the group that was under way is there or not, and the form after it; or, where the engine has no groups, one after the other
-        if found - answered not in ((0, 3, 4) if built.has_groups else range(5)):
+        # the group that was under way is there or not, and the form after it
+        if found - answered not in (0, 3, 4):
             raise AssertionError(f"kill {turn + 1}: {answered} was answered, and {found} is there")
         if built.has_program and value_by_program(os.path.join(built.code, "program"), folder) != found:
             raise AssertionError(f"kill {turn + 1}: the program has another value than the library")

@@ -19,25 +19,18 @@ class Setting(ctypes.Structure):
     _fields_ = (("limit", ctypes.c_uint64), ("seed_first", ctypes.c_uint64), ("seed_second", ctypes.c_uint64))
 
 
-def has_groups(library):
-    """Whether the engine has a call for many forms."""
-    return hasattr(library, "pzt_execute_all")
-
-
 def load(path):
     """The exports of crates/pazturrok_c, in a shared library."""
     library = ctypes.CDLL(path)
     slot, done, text, word = ctypes.POINTER(Slot), ctypes.POINTER(Done), ctypes.c_char_p, ctypes.c_uint64
     library.pzt_open.argtypes = [slot, text, SIZE, text, SIZE, ctypes.POINTER(Setting), done]
     library.pzt_execute.argtypes = [slot, ctypes.c_bool, text, SIZE, text, SIZE, done]
-    if has_groups(library):
-        library.pzt_execute_all.argtypes = [slot, ctypes.c_bool, text, SIZE, ctypes.POINTER(word), SIZE, done]
-        library.pzt_execute_all.restype = None
+    library.pzt_execute_all.argtypes = [slot, ctypes.c_bool, text, SIZE, ctypes.POINTER(word), SIZE, done]
     library.pzt_snapshot.argtypes = [slot, done]
     library.pzt_answer.argtypes = library.pzt_orders.argtypes = [slot, SIZE, text, SIZE]
     library.pzt_answer.restype = library.pzt_orders.restype = SIZE
     library.pzt_performed.argtypes, library.pzt_close.argtypes = [slot, SIZE], [slot]
-    for name in ("open", "execute", "snapshot", "performed", "close"):
+    for name in ("open", "execute", "execute_all", "snapshot", "performed", "close"):
         getattr(library, "pzt_" + name).restype = None
     return library
 
@@ -176,7 +169,7 @@ def run(path, courses, ignores_syncs=False):
     for _ in range(courses):
         one = Course(library, dice, ignores_syncs)
         for _ in range(60):
-            dice.choice([one.form, one.form, one.form, one.form, one.group if has_groups(library) else one.form, one.snapshot])()
+            dice.choice([one.form, one.form, one.form, one.form, one.group, one.snapshot])()
         one.engine.close()
         crashes += one.crashes
     return crashes
@@ -188,7 +181,7 @@ def refuses_without_performed(path):
     engine.orders()
     number, _ = engine.execute(b"(SETF (GET 'A 'B) 1)")
     given = engine.fetched(engine.library.pzt_orders, engine.done.orders)
-    group = engine.execute_all([b"1"])[0] if has_groups(engine.library) else 61
+    group = engine.execute_all([b"1"])[0]
     found = [number, engine.execute(b"(SETF (GET 'A 'B) 2)")[0], engine.snapshot()[0], group]
     same = engine.fetched(engine.library.pzt_orders, len(given)) == given
     engine.orders()

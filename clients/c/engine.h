@@ -45,8 +45,8 @@ void pzt_execute(pzt_slot *slot, bool rescue, const uint8_t *text, size_t length
                  pzt_done *done);
 
 /* Executes the forms of which these are the texts, one after the other; `ends` says where each ends. The answer has for each
-   the number of its refusal or 0 in two bytes, a length in eight, and so many bytes. Where the engine has no such call, as now,
-   each form is executed alone. */
+   the number of its refusal or 0 in two bytes, a length in eight, and so many bytes. What they write is logged together where
+   there is room. */
 void pzt_execute_all(pzt_slot *slot, bool rescue, const uint8_t *texts, size_t length, const uint64_t *ends, size_t count,
                      pzt_done *done);
 

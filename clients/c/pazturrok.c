@@ -110,8 +110,6 @@ static int join_texts(struct texts *joined, const char *const *texts, const size
     return 0;
 }
 
-#ifndef PZT_ONE_BY_ONE
-
 /* Fills the outcomes that an answer tells, each with a zero after its answer. Gives whether they are that many, and none is 60. */
 static bool fill(pazturrok_outcome *outcomes, size_t count, char *answer, size_t length) {
     size_t at = 0;
@@ -131,40 +129,9 @@ static bool fill(pazturrok_outcome *outcomes, size_t count, char *answer, size_t
     return at == length;
 }
 
-#endif
-
 static void empty(pazturrok_outcome *outcomes, size_t count) {
     for (size_t place = 0; place < count; place++) outcomes[place] = (pazturrok_outcome){PAZTURROK_REOPEN, "", 0};
 }
-
-#ifdef PZT_ONE_BY_ONE
-
-/* The engine has no call for many: each form is executed alone, and its orders are carried out before the next one. */
-static int execute_texts(struct store *store, bool rescue, const struct texts *texts, pazturrok_outcome *outcomes) {
-    size_t start = 0, at = 0;
-    for (size_t place = 0; place < texts->count; place++) {
-        pzt_done done = {0, 0, 0};
-        size_t end = (size_t)texts->ends[place];
-        pzt_execute(&store->engine, rescue, texts->bytes + start, end - start, NULL, 0, &done);
-        bool has_room = at + done.answer + 1 <= store->capacity || make_room(store, 2 * (at + done.answer + 1));
-        if (done.number == 0 && !has_room) done.number = PAZTURROK_NO_MEMORY;
-        else if (done.number == 0) (void)pzt_answer(&store->engine, 0, (uint8_t *)store->answer + at, done.answer);
-        int number = finish(store, &done);
-        if (number == PAZTURROK_DEVICE || store->has_failed) return fail(store, PAZTURROK_DEVICE);
-        outcomes[place] = (pazturrok_outcome){number, NULL, number ? 0 : done.answer};
-        if (number == 0) at += done.answer;
-        store->answer[at++] = 0;
-        start = end;
-    }
-    at = 0;
-    for (size_t place = 0; place < texts->count; place++) {
-        outcomes[place].answer = store->answer + at;
-        at += outcomes[place].length + 1;
-    }
-    return 0;
-}
-
-#else
 
 /* The outcomes are looked at before the orders are carried out: with a 60 among them none is. */
 static int execute_texts(struct store *store, bool rescue, const struct texts *texts, pazturrok_outcome *outcomes) {
@@ -176,8 +143,6 @@ static int execute_texts(struct store *store, bool rescue, const struct texts *t
         done.number = PAZTURROK_DEVICE;
     return finish(store, &done);
 }
-
-#endif
 
 int pazturrok_execute_all(pazturrok_store id, int mode, const char *const *texts, const size_t *lengths, size_t count,
                           pazturrok_outcome *outcomes) {

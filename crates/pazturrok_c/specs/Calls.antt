@@ -1,8 +1,8 @@
 -- What C is given of a call on an engine.
 use Rattle.std.specs.Prelude.{◌≡◌, ◌⊎◌, ◌-◌, ℕ, Bool, List, [], length, min, take, drop, Option, None, Some}
 use Rattle.deferred_disk.specs.Bytes.{orders_bytes}
-use Rattle.deferred_disk.specs.Disk.{pending_of}
-use Rattle.lisp_object.specs.declared.refusal.TheConstants.{NO_MEMORY}
+use Rattle.deferred_disk.specs.Disk.{IsReported, pending_of}
+use Rattle.lisp_object.specs.declared.refusal.TheConstants.{NO_MEMORY, REOPEN}
 use Rattle.pazturrok_c.specs.Engine.{ExecutesMany, IsBarred, IsExecuted, IsOpenedOn, IsSnapshotted, IsUnopenedOn, mode_in}
 use Rattle.pazturrok_c.specs.declared.done.Done.{Done}
 use Rattle.pazturrok_c.specs.declared.engine.Engine.{Engine}
@@ -21,18 +21,44 @@ abbrev pub Opens : List ℕ → List ℕ → ℕ → Option Engine → ℕ → T
 Opens a b limit (Some engine) number = (number ≡ 0) × IsOpenedOn a b limit engine.store
 Opens a b limit None number = MayRefuse a b limit number
 
--- The engine was asked: it does this, unless orders are open; and it tells how long its answer and its orders are.
-pub record IsAsked (old new : Engine) (done : Done) (Does : Type 0) : Type 0 where
+-- how a call ended: its number; of the answer, if it has one, how many bytes it has; and how many the orders have
+pub record TellsEnd (engine : Engine) (number answer : ℕ) (done : Done) : Type 0 where
+  pub number_is : done.number ≡ number
+  pub answer_is : number ≡ 0 → done.answer ≡ answer
+  pub orders : done.orders ≡ length (orders_bytes (pending_of engine.store.disk))
+
+-- The engine was asked: it does this, unless orders are open; and it tells how long its answer is and its orders are.
+pub record IsAsked (old new : Engine) (answer : ℕ) (done : Done) (Does : Type 0) : Type 0 where
   pub barred : IsBarred (pending_of old.store.disk) old new done.number
   pub does : pending_of old.store.disk ≡ [] → Does
-  pub answer : done.number ≡ 0 → done.answer ≡ length new.answer.items
+  pub answer_is : done.number ≡ 0 → done.answer ≡ answer
   pub orders : done.orders ≡ length (orders_bytes (pending_of new.store.disk))
 
-abbrev pub ExecutesForm : Engine → Engine → Bool → List ℕ → Done → Type 0
-ExecutesForm old new rescue text done = IsAsked old new done (IsExecuted old.store new.store (mode_in rescue) text done.number new.answer.items)
+module _ (old new : Engine) (rescue : Bool) where
+  abbrev pub ExecutesForm : List ℕ → Done → Type 0
+  ExecutesForm text done = IsAsked old new (length new.answer.items) done (IsExecuted old.store new.store (mode_in rescue) text done.number new.answer.items)
 
-abbrev pub ExecutesForms : Engine → Engine → Bool → List ℕ → List ℕ → Done → Type 0
-ExecutesForms old new rescue texts ends done = IsAsked old new done (ExecutesMany old.store new.store (mode_in rescue) texts ends done.number new.answer.items)
+  abbrev pub ExecutesForms : List ℕ → List ℕ → Done → Type 0
+  ExecutesForms texts ends done =
+      IsAsked old new (length new.answer.items) done (ExecutesMany old.store new.store (mode_in rescue) texts ends done.number new.answer.items)
 
 abbrev pub TakesSnapshot : Engine → Engine → Done → Type 0
-TakesSnapshot old new done = IsAsked old new done (IsSnapshotted old.store new.store done.number)
+TakesSnapshot old new done = IsAsked old new 0 done (IsSnapshotted old.store new.store done.number)
+
+-- so many bytes of orders were reported done
+pub record IsPerformed (old new : Engine) (count : ℕ) : Type 0 where
+  pub reported : IsReported count old.store.disk new.store.disk
+  pub store : new.store ≡ record old.store { disk = new.store.disk }
+  pub answer : new.answer ≡ old.answer
+
+-- What a call does that leaves an engine where it found one; where it found none, its number is 61.
+abbrev pub OnEngine : Option Engine → Option Engine → ℕ → (Engine → Engine → Type 0) → Type 0
+OnEngine (Some old) (Some new) number Does = Does old new
+OnEngine None None number Does = number ≡ REOPEN
+OnEngine (Some old) None number Does = ⊥
+OnEngine None (Some new) number Does = ⊥
+
+-- the first bytes of the answer, as many as there is room for
+abbrev pub ShowsAnswer : Option Engine → List ℕ → List ℕ → Type 0
+ShowsAnswer (Some engine) old new = IsCopied engine.answer.items 0 old new (min (length engine.answer.items) (length old))
+ShowsAnswer None old new = Unit {0}

@@ -50,6 +50,10 @@ outcome_bytes left (Accepted value) = told 0 (value_in left (object_of value))
 outcome_bytes left Snapshotted = told 0 []
 outcome_bytes left (Refused number) = told number []
 
+-- The number of many outcomes, and what is told of them. Where there is no room for that the number is 90.
+abbrev pub AreAnswered : Option WorldState → List Outcome → ℕ → List ℕ → Type 0
+AreAnswered left outcomes number answers = ((number ≡ 0) × (answers ≡ flat_map (outcome_bytes left) outcomes)) ⊎ (number ≡ NO_MEMORY)
+
 -- ---- the calls
 
 -- While orders are open, a call is refused with 61, and nothing changes.
@@ -94,7 +98,7 @@ module _ {R : Type 0} (old new : StoreView DeferredDisk R) where
     pub outcomes : List Outcome
     pub reopen : old.world ≡ None → AreExecuted six_functions state_of old new mode texts outcomes
     pub executes : (world : WorldState) → old.world ≡ Some world → ExecutesAll six_functions state_of old new world mode texts outcomes
-    pub answered : ((number ≡ 0) × (answers ≡ flat_map (outcome_bytes new.world) outcomes)) ⊎ (number ≡ NO_MEMORY)
+    pub answered : AreAnswered new.world outcomes number answers
 
   abbrev pub ExecutesMany : Mode → List ℕ → List ℕ → ℕ → List ℕ → Type 0
   ExecutesMany mode bytes ends number answers = AreExecutedOf mode bytes ends number answers ⊎ ((number ≡ NO_MEMORY) × (new ≡ old))

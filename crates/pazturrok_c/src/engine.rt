@@ -1,14 +1,16 @@
 // A store whose device is its caller.
 ghost use Rattle.std.specs.Prelude.{◌≡◌, ◌↔◌, [], true, IfOk, IfErr, IsTrue};
+ghost use Rattle.std.specs.List.{All};
 ghost use Rattle.deferred_disk.specs.Bytes.{orders_bytes};
 ghost use Rattle.deferred_disk.specs.Disk.{pending_of, state_of};
-ghost use Rattle.pazturrok_c.specs.Engine.{IsAnswered, IsBarred, IsExecuted, IsOpenedOn, IsSnapshotted, IsUnopenedOn, mode_in};
+ghost use Rattle.pazturrok_c.specs.Engine.{AreAnswered, ExecutesMany, IsAnswered, IsBarred, IsExecuted, IsOpenedOn, IsSnapshotted, IsUnopenedOn, mode_in};
 ghost use Rattle.prevalence_store.specs.calls.Execute.{IsProperOutcome};
 ghost use Rattle.six_functions.specs.MacroFunctions.{six_functions};
 ghost use Rattle.user_macros.specs.Functions.{are_registered};
 
 use crate::answer::{EngineStore, printed};
 use crate::done::Setting;
+use crate::many::{answers_to, texts_of};
 use deferred_disk::DeferredDisk;
 use disk_trait::Disk;
 use fixed_macros::Fixed;
@@ -46,6 +48,8 @@ fn mode_of(rescue: bool) -> Mode
 }
 
 impl Engine {
+    ghost use Rattle.pazturrok_c.specs.Calls.{IsPerformed};
+
     /// Opens the store of two files that hold these bytes.
     pub(crate) fn open(
         alloc: Global,
@@ -122,6 +126,39 @@ impl Engine {
         }
     }
 
+    /// Executes the forms whose texts end at these places, unless orders are open.
+    pub(crate) fn execute_all(&mut self, rescue: bool, texts: &[u8], ends: &[u64]) -> u16
+        ensures barred { IsBarred (pending_of self.old.store.disk) self.old self.new result }
+        ensures executes { pending_of self.old.store.disk ≡ [] → ExecutesMany self.old.store self.new.store
+            (mode_in rescue) texts.now ends.now result self.new.answer.items }
+    {
+        if !self.is_done() {
+            return REOPEN;
+        }
+        let Ok(texts) = texts_of(self.alloc, texts, ends) else {
+            return NO_MEMORY;
+        };
+        let Ok(outcomes) = self.store.execute_all(mode_of(rescue), &texts) else {
+            return NO_MEMORY;
+        };
+        self.answer_to_all(&outcomes)
+    }
+
+    // Keeps the answers to forms, and gives the number.
+    fn answer_to_all(&mut self, outcomes: &[Outcome]) -> u16
+        requires { All IsProperOutcome outcomes.now }
+        ensures store { self.new.store ≡ self.old.store }
+        ensures answered { AreAnswered self.new.store.world outcomes.now result self.new.answer.items }
+    {
+        match answers_to(self.alloc, &self.store, outcomes) {
+            Ok(answer) => {
+                self.answer = answer;
+                0
+            }
+            Err(_) => NO_MEMORY,
+        }
+    }
+
     /// Takes a snapshot, unless orders are open.
     pub(crate) fn snapshot(&mut self) -> u16
         ensures barred { IsBarred (pending_of self.old.store.disk) self.old self.new result }
@@ -138,8 +175,7 @@ impl Engine {
 
     /// Says that so many bytes of orders were carried out.
     pub(crate) fn report_done(&mut self, count: usize)
-        ensures store { self.new.store ≡ record self.old.store { disk = self.new.store.disk } }
-        ensures answer { self.new.answer ≡ self.old.answer }
+        ensures { IsPerformed self.old self.new count }
     {
         self.store.report_done(count);
     }

@@ -4,28 +4,22 @@ ghost use Rattle.deferred_disk.specs.Bytes.{orders_bytes};
 ghost use Rattle.deferred_disk.specs.Disk.{pending_of};
 ghost use Rattle.lisp_object.specs.Refusal.{name_of as name};
 ghost use Rattle.lisp_object.specs.declared.refusal.TheConstants.{REOPEN as reopen};
-ghost use Rattle.pazturrok_c.specs.Calls.{IsCopied, MayRefuse, Opens};
+ghost use Rattle.pazturrok_c.specs.Calls.{ExecutesForm, ExecutesForms, IsCopied, IsPerformed, MayRefuse, OnEngine, Opens, ShowsAnswer, TakesSnapshot};
 ghost use Rattle.pazturrok_c.specs.Engine.{IsOpenedOn};
 ghost use Rattle.pazturrok_c.specs.declared.engine.Engine.{Engine as AnEngine};
 
+use crate::calls::copy_out;
 use crate::done::{Done, Setting, Told};
 use crate::engine::Engine;
 use crate::slot::Slot;
 use lisp_object::refusal::{NO_MEMORY, REOPEN, name_of};
 use std::alloc::Global;
 
-// As many bytes as there is room for, from a place on. Gives how many.
-fn copy_out(from: &[u8], at: usize, out: &mut [u8]) -> usize
-    ensures { IsCopied from.now at out.old out.new result }
-{
-    if at >= from.len() {
-        return 0;
-    }
-    let rest = &from[at..];
-    let count = rest.len().min(out.len());
-    out[..count].copy_from_slice(&rest[..count]);
-    count
-}
+const NO_ENGINE: Done = Done {
+    number: REOPEN,
+    answer: 0,
+    orders: 0,
+};
 
 fn opened(alloc: Global, a: &[u8], b: &[u8], setting: &Setting) -> Result<Box<Engine>, u16>
     ensures opened { IfOk result (λ engine. IsOpenedOn a.now b.now setting.now.limit engine.value.store) }
@@ -86,36 +80,51 @@ pub extern "C" fn pzt_execute(
     answer: &mut [u8],
     done: &mut Done,
 )
-    ensures none { slot.old.handle.engine ≡ None → (done.new.number ≡ reopen) × (slot.new.handle.engine ≡ None) }
+    ensures asks { OnEngine slot.old.handle.engine slot.new.handle.engine done.new.number
+        (λ old new. ExecutesForm old new rescue text.now done.new) }
+    ensures copies { done.new.number ≡ 0 → ShowsAnswer slot.new.handle.engine answer.old answer.new }
 {
-    done.answer = 0;
-    done.orders = 0;
     let Some(mut engine) = slot.take(alloc) else {
-        done.number = REOPEN;
+        *done = NO_ENGINE;
         return;
     };
-    done.number = engine.execute(rescue, text);
-    if done.number == 0 {
-        copy_out(engine.answer(), 0, answer);
-        done.answer = engine.answer().len();
-    }
-    done.orders = engine.orders().len();
+    *done = engine.execute_for(rescue, text, answer);
+    slot.put(engine);
+}
+
+/// Executes the forms whose texts end at these places, one after the other. What they wrote is logged together where there is room.
+/// The answer has for each its number in two bytes, a length in eight, and so many bytes.
+#[unsafe(no_mangle)]
+pub extern "C" fn pzt_execute_all(
+    alloc: Global,
+    slot: &mut Slot,
+    rescue: bool,
+    texts: &[u8],
+    ends: &[u64],
+    done: &mut Done,
+)
+    ensures { OnEngine slot.old.handle.engine slot.new.handle.engine done.new.number
+        (λ old new. ExecutesForms old new rescue texts.now ends.now done.new) }
+{
+    let Some(mut engine) = slot.take(alloc) else {
+        *done = NO_ENGINE;
+        return;
+    };
+    *done = engine.execute_all_for(rescue, texts, ends);
     slot.put(engine);
 }
 
 /// Takes a snapshot.
 #[unsafe(no_mangle)]
 pub extern "C" fn pzt_snapshot(alloc: Global, slot: &mut Slot, done: &mut Done)
-    ensures none { slot.old.handle.engine ≡ None → (done.new.number ≡ reopen) × (slot.new.handle.engine ≡ None) }
+    ensures { OnEngine slot.old.handle.engine slot.new.handle.engine done.new.number
+        (λ old new. TakesSnapshot old new done.new) }
 {
-    done.answer = 0;
-    done.orders = 0;
     let Some(mut engine) = slot.take(alloc) else {
-        done.number = REOPEN;
+        *done = NO_ENGINE;
         return;
     };
-    done.number = engine.snapshot();
-    done.orders = engine.orders().len();
+    *done = engine.snapshot_for();
     slot.put(engine);
 }
 
@@ -151,7 +160,10 @@ pub extern "C" fn pzt_orders(alloc: Global, slot: &mut Slot, at: usize, out: &mu
 
 /// Says that so many bytes of orders were carried out: all that there were.
 #[unsafe(no_mangle)]
-pub extern "C" fn pzt_performed(alloc: Global, slot: &mut Slot, count: usize) {
+pub extern "C" fn pzt_performed(alloc: Global, slot: &mut Slot, count: usize)
+    ensures { OnEngine slot.old.handle.engine slot.new.handle.engine reopen
+        (λ old new. IsPerformed old new count) }
+{
     if let Some(mut engine) = slot.take(alloc) {
         engine.report_done(count);
         slot.put(engine);

@@ -5,7 +5,7 @@
 //! `engine.h` has these exports.
 //!
 //! - `engine`: a store over a disk that defers its calls, and what it answered last.
-//!   `answer` prints answers.
+//!   `answer` prints answers, `many` takes many texts and gives many answers, and `calls` has what C asks for.
 //! - `slot`, `handle`, `parts`: an engine as C holds it. Their proofs alone are walks over raw pointers.
 //! - `exports`: what C calls. `done` is how a call ended.
 //!
@@ -13,10 +13,12 @@
 #![tactic(auto)]
 
 mod answer;
+mod calls;
 mod done;
 mod engine;
 mod exports;
 mod handle;
+mod many;
 mod parts;
 mod slot;
 

@@ -1,0 +1,61 @@
+// What C asks of an engine.
+ghost use Rattle.std.specs.Prelude.{◌≡◌, length, min};
+ghost use Rattle.pazturrok_c.specs.Calls.{ExecutesForm, ExecutesForms, IsCopied, TakesSnapshot, TellsEnd};
+
+use crate::done::Done;
+use crate::engine::Engine;
+
+/// As many bytes as there is room for, from a place on. Gives how many.
+pub(crate) fn copy_out(from: &[u8], at: usize, out: &mut [u8]) -> usize
+    ensures { IsCopied from.now at out.old out.new result }
+{
+    if at >= from.len() {
+        return 0;
+    }
+    let rest = &from[at..];
+    let count = rest.len().min(out.len());
+    out[..count].copy_from_slice(&rest[..count]);
+    count
+}
+
+impl Engine {
+    // How a call ended that answers so many bytes, if it was not refused.
+    fn done(&self, number: u16, answer: usize) -> Done
+        ensures { TellsEnd self.now number answer result }
+    {
+        Done {
+            number,
+            answer: if number == 0 { answer } else { 0 },
+            orders: self.orders().len(),
+        }
+    }
+
+    /// Executes a form. As much of its answer is copied as there is room for.
+    pub(crate) fn execute_for(&mut self, rescue: bool, text: &[u8], answer: &mut [u8]) -> Done
+        ensures asked { ExecutesForm self.old self.new rescue text.now result }
+        ensures copies { result.number ≡ 0 → IsCopied self.new.answer.items 0 answer.old answer.new
+            (min (length self.new.answer.items) (length answer.old)) }
+    {
+        let number = self.execute(rescue, text);
+        if number == 0 {
+            copy_out(self.answer(), 0, answer);
+        }
+        self.done(number, self.answer().len())
+    }
+
+    /// Executes the forms whose texts end at these places.
+    pub(crate) fn execute_all_for(&mut self, rescue: bool, texts: &[u8], ends: &[u64]) -> Done
+        ensures { ExecutesForms self.old self.new rescue texts.now ends.now result }
+    {
+        let number = self.execute_all(rescue, texts, ends);
+        self.done(number, self.answer().len())
+    }
+
+    /// Takes a snapshot.
+    pub(crate) fn snapshot_for(&mut self) -> Done
+        ensures { TakesSnapshot self.old self.new result }
+    {
+        let number = self.snapshot();
+        self.done(number, 0)
+    }
+}
