@@ -5,7 +5,8 @@ from __future__ import annotations
 import asyncio
 import contextlib
 import uuid
-from collections.abc import Awaitable
+from collections.abc import Awaitable, Coroutine
+from typing import Any
 
 from .frames import LIMIT, NoFrameError, answer, read_request
 from .node import Appender, Node
@@ -15,6 +16,9 @@ AT_ONCE = 1000
 
 UNREAD = 1 << 24
 """A client that leaves so many bytes of answers unread is let go. It may ask again, under the names of its requests."""
+
+UNPLACED = 1 << 22
+"""And so many bytes of its forms may wait for etcd, before more are read."""
 
 BUFFER = LIMIT + 1024
 """How many bytes of a request are held at most."""
@@ -44,7 +48,7 @@ class Client:
     def __init__(self, node: Node, appender: Appender, reader: asyncio.StreamReader, writer: asyncio.StreamWriter) -> None:
         self._node, self._appender, self._reader, self._writer = node, appender, reader, writer
         self.pending: asyncio.Queue[asyncio.Task[bytes] | None] = asyncio.Queue(AT_ONCE)
-        self._unread = 0
+        self._unread = self._unplaced = 0
 
     async def take(self) -> None:
         """Takes requests, until the client sends no more."""
@@ -52,15 +56,26 @@ class Client:
         while (request := await read_request(self._reader)) is not None:
             kind, name, text = request
             if kind == "do":
-                # one after the other: so a client's messages are in the log in its order
-                work = self._answer_to(await self._appender.append((name or uuid.uuid4().hex).encode("ascii"), text))
+                work = await self._append((name or uuid.uuid4().hex).encode("ascii"), text)
             else:
                 work = self._ask(kind, text, before)
             before = asyncio.ensure_future(work)
             await self.pending.put(before)
 
-    async def _answer_to(self, told: Awaitable[tuple[int, bytes]]) -> bytes:
-        return self._held(answer(*await told))
+    async def _append(self, name: bytes, text: bytes) -> Coroutine[Any, Any, bytes]:
+        """Has an entry put, and gives what waits for its answer."""
+        placed = self._appender.append(name, text)
+        self._unplaced += len(text)
+        placed.add_done_callback(lambda _: self._count_placed(len(text)))
+        if self._unplaced > UNPLACED:
+            await asyncio.wait([placed])
+        return self._answer_to(name, placed)
+
+    def _count_placed(self, size: int) -> None:
+        self._unplaced -= size
+
+    async def _answer_to(self, name: bytes, placed: Awaitable[int]) -> bytes:
+        return self._held(answer(*await self._node.answers.answer_to(name, await placed)))
 
     async def _ask(self, kind: str, text: bytes, before: Awaitable[bytes] | None) -> bytes:
         # it sees what the same client has sent before

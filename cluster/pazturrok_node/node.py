@@ -198,12 +198,12 @@ class Appender:
         self._waiting: collections.deque[tuple[bytes, bytes, asyncio.Future[int]]] = collections.deque()
         self._some = asyncio.Event()
 
-    async def append(self, name: bytes, text: bytes) -> asyncio.Future[tuple[int, bytes]]:
-        """Puts an entry into the log, once, however often it is tried: what will have its number and its answer."""
+    def append(self, name: bytes, text: bytes) -> asyncio.Future[int]:
+        """Puts an entry into the log, once, however often it is tried, and after those of earlier calls: what will have its number."""
         placed: asyncio.Future[int] = asyncio.get_running_loop().create_future()
         self._waiting.append((name, text, placed))
         self._some.set()
-        return self._node.answers.answer_to(name, await placed)
+        return placed
 
     async def run(self) -> None:
         """Puts them, for ever."""
