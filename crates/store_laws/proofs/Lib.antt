@@ -1,3 +1,4 @@
 pub mod Events
 pub mod Outcomes
 pub mod Handings
+pub mod MessagesDone

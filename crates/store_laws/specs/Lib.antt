@@ -4,3 +4,5 @@ pub mod Histories
 pub mod Outcomes
 -- what is handed to the recipient of a session
 pub mod Sessions
+-- what a crash leaves of a store in which messages were answered
+pub mod Messages

@@ -1,0 +1,236 @@
+// The answers to frames: from the store, and to the output.
+ghost use Rattle.std.specs.Prelude.{◌≡◌, true, IfErr, OnErr, OnOk};
+ghost use Rattle.lisp_object.specs.declared.refusal.TheConstants.{OUTPUT as OUTPUT_FAULT};
+ghost use Rattle.prevalence_store.specs.calls.Streams.{Writes, WritesPart};
+ghost use Rattle.user_macros.specs.Functions.{are_registered};
+
+use crate::ended::Ended;
+use disk_trait::Disk;
+use lisp_object::refusal::{LOG_FULL, NO_MEMORY, OUTPUT, SNAPSHOT_TOO_LARGE};
+use message_frames::{Frame, Kind, push_answer};
+use prevalence_store::{Answer, Outcome, Replies, Request, Store};
+use std::alloc::{AllocError, Global};
+use std::io::Write;
+use user_macros::MacroFunctions;
+
+/// How far a session has come: the number of the last message, and how many messages wrote since the last snapshot.
+#[derive(Clone, Copy)]
+pub(crate) struct Course {
+    pub(crate) last: u64,
+    pub(crate) wrote: u64,
+    pub(crate) snapshot_every: u64,
+}
+
+impl Course {
+    /// The most frames that are answered together: as many as may write before the next snapshot.
+    pub(crate) fn most(&self) -> usize {
+        if self.snapshot_every == 0 {
+            return usize::MAX;
+        }
+        self.snapshot_every.saturating_sub(self.wrote).max(1) as usize
+    }
+
+    /// Takes a snapshot if one is due.
+    fn renew_if_due<D: Disk, R: MacroFunctions>(
+        &mut self,
+        store: &mut Store<D, R>,
+    ) -> Result<(), Ended>
+        ensures macros { store.new.macros ≡ store.old.macros }
+    {
+        if self.snapshot_every == 0 || self.wrote < self.snapshot_every {
+            return Ok(());
+        }
+        self.wrote = 0;
+        renew(store)
+    }
+}
+
+/// Takes a snapshot. One that is too large for the half is passed over.
+pub(crate) fn renew<D: Disk, R: MacroFunctions>(store: &mut Store<D, R>) -> Result<(), Ended>
+    ensures macros { store.new.macros ≡ store.old.macros }
+{
+    match store.snapshot() {
+        Outcome::Refused(SNAPSHOT_TOO_LARGE) => Ok(()),
+        Outcome::Refused(number) => Err(Ended::Fault(number)),
+        _ => Ok(()),
+    }
+}
+
+// Why frames were not answered together.
+#[derive(Clone, Copy)]
+enum Stop {
+    // The store did not take them, for this number, and is as it was unless that is 60.
+    Untaken(u16),
+    // The session has ended.
+    Ended(Ended),
+}
+
+impl Stop {
+    fn ended(self) -> Ended {
+        match self {
+            Stop::Untaken(number) => Ended::Fault(number),
+            Stop::Ended(ended) => ended,
+        }
+    }
+}
+
+/// Answers frames: together, or one by one where there is no room or no memory for them together.
+pub(crate) fn answer_frames<D: Disk, R: MacroFunctions, O: Write>(
+    alloc: Global,
+    store: &mut Store<D, R>,
+    course: &mut Course,
+    frames: &[Frame<'_>],
+    output: &mut O,
+) -> Result<(), Ended>
+    requires answers { R.answers store.old.macros }
+    requires whole { are_registered R.Meaning.functions (R.functions store.old.macros) ≡ true }
+    ensures macros { store.new.macros ≡ store.old.macros }
+{
+    match take_frames(alloc, store, course, frames, output) {
+        Ok(()) => Ok(()),
+        Err(Stop::Untaken(LOG_FULL)) => {
+            // the half that is begun holds the text of the world alone
+            match renew(store) {
+                Ok(()) => {}
+                Err(ended) => return Err(ended),
+            }
+            course.wrote = 0;
+            answer_each(alloc, store, course, frames, output)
+        }
+        Err(Stop::Untaken(NO_MEMORY)) => answer_each(alloc, store, course, frames, output),
+        Err(stop) => Err(stop.ended()),
+    }
+}
+
+// Answers frames together; where they have no room or no memory, one by one.
+fn answer_each<D: Disk, R: MacroFunctions, O: Write>(
+    alloc: Global,
+    store: &mut Store<D, R>,
+    course: &mut Course,
+    frames: &[Frame<'_>],
+    output: &mut O,
+) -> Result<(), Ended>
+    requires answers { R.answers store.old.macros }
+    requires whole { are_registered R.Meaning.functions (R.functions store.old.macros) ≡ true }
+    ensures macros { store.new.macros ≡ store.old.macros }
+{
+    match take_frames(alloc, store, course, frames, output) {
+        Ok(()) => return Ok(()),
+        Err(Stop::Untaken(LOG_FULL)) => {}
+        Err(Stop::Untaken(NO_MEMORY)) => {}
+        Err(stop) => return Err(stop.ended()),
+    }
+    let mut rest = frames;
+    'frames: while !rest.is_empty() {
+        match take_frames(alloc, store, course, &rest[..1], output) {
+            Ok(()) => {}
+            Err(stop) => return Err(stop.ended()),
+        }
+        rest = &rest[1..];
+    }
+    Ok(())
+}
+
+// Answers frames together, writes the answers, and takes a snapshot if one is due.
+fn take_frames<D: Disk, R: MacroFunctions, O: Write>(
+    alloc: Global,
+    store: &mut Store<D, R>,
+    course: &mut Course,
+    frames: &[Frame<'_>],
+    output: &mut O,
+) -> Result<(), Stop>
+    requires answers { R.answers store.old.macros }
+    requires whole { are_registered R.Meaning.functions (R.functions store.old.macros) ≡ true }
+    ensures macros { store.new.macros ≡ store.old.macros }
+{
+    let Ok(requests) = requests_of(alloc, frames) else {
+        return Err(Stop::Untaken(NO_MEMORY));
+    };
+    let replies = match store.answer_requests(course.last, requests.as_slice()) {
+        Ok(replies) => replies,
+        Err(number) => return Err(Stop::Untaken(number)),
+    };
+    course.last = replies.last;
+    course.wrote = course.wrote.saturating_add(count_written(&replies));
+    // they are carried out, so that nothing tries them again
+    let Ok(bytes) = bytes_of(alloc, frames, &replies) else {
+        return Err(Stop::Ended(Ended::Fault(NO_MEMORY)));
+    };
+    match write_whole(output, bytes.as_slice()) {
+        Ok(()) => {}
+        Err(ended) => return Err(Stop::Ended(ended)),
+    }
+    match course.renew_if_due(store) {
+        Ok(()) => Ok(()),
+        Err(ended) => Err(Stop::Ended(ended)),
+    }
+}
+
+// How many messages wrote.
+fn count_written(replies: &Replies) -> u64 {
+    let mut count = 0u64;
+    for answer in &replies.answers {
+        if answer.wrote {
+            count = count.saturating_add(1);
+        }
+    }
+    count
+}
+
+// What is asked of the store.
+fn requests_of<'a>(alloc: Global, frames: &[Frame<'a>]) -> Result<Vec<Request<'a>>, AllocError> {
+    let mut requests = Vec::with_capacity(alloc, frames.len())?;
+    for frame in frames {
+        let number = match frame.kind {
+            Kind::Do(number) => Some(number),
+            Kind::Ask => None,
+        };
+        let text = frame.text;
+        requests.push(Request { number, text })?;
+    }
+    Ok(requests)
+}
+
+// The answers to frames as bytes.
+fn bytes_of(alloc: Global, frames: &[Frame<'_>], replies: &Replies) -> Result<Vec<u8>, AllocError> {
+    let mut bytes = Vec::new(alloc);
+    for (frame, answer) in frames.iter().zip(replies.answers.iter()) {
+        push_answer(&mut bytes, frame.kind, answer.text.as_slice())?;
+    }
+    Ok(bytes)
+}
+
+/// Writes a text whole, and flushes it. Where a write fails or takes nothing, a part of it was written, from its front.
+pub(crate) fn write_whole<O: Write>(output: &mut O, text: &[u8]) -> Result<(), Ended>
+    ensures whole { OnOk result (Writes (O.contents output.old) (O.contents output.new) text.now) }
+    ensures part { OnErr result (WritesPart (O.contents output.old) (O.contents output.new) text.now) }
+    ensures fault { IfErr result (λ ended. ended ≡ Ended.Fault OUTPUT_FAULT) }
+{
+    match write_text(output, text) {
+        Ok(()) => {
+            // the answers were taken, so a flush that fails ends no session
+            let _flushed = output.flush();
+            Ok(())
+        }
+        Err(ended) => Err(ended),
+    }
+}
+
+// Writes a text whole, or a part of it from its front.
+fn write_text<O: Write>(output: &mut O, text: &[u8]) -> Result<(), Ended>
+    ensures whole { OnOk result (Writes (O.contents output.old) (O.contents output.new) text.now) }
+    ensures part { OnErr result (WritesPart (O.contents output.old) (O.contents output.new) text.now) }
+    ensures fault { IfErr result (λ ended. ended ≡ Ended.Fault OUTPUT_FAULT) }
+{
+    let mut rest = text;
+    'pieces: while !rest.is_empty() {
+        let Ok(count) = output.write(rest) else {
+            return Err(Ended::Fault(OUTPUT));
+        };
+        if count == 0 {
+            return Err(Ended::Fault(OUTPUT));
+        }
+        rest = &rest[count..];
+    }
+    Ok(())
+}
