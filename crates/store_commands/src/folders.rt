@@ -56,7 +56,7 @@ impl Folders for HostRuntime {
 }
 
 /// Opens the files of a folder, which has a name. What is missing is made, or, if the store is to exist, refused.
-pub(crate) fn open_folder<R: Folders>(
+pub fn open_folder<R: Folders>(
     rt: &R,
     folder: &str,
     existing: bool,

@@ -39,7 +39,7 @@ pub use diagnostics::{
     write_refusal,
 };
 pub use export::export_on;
-pub use folders::{Folders, TellsCause, holds_store};
+pub use folders::{Folders, TellsCause, holds_store, open_folder};
 pub use half_line::write_half_line;
 pub use laws::existing_stores_are_open;
 pub use looking::Looking;

@@ -11,6 +11,7 @@ ghost use Rattle.user_macros.specs.Functions.{are_registered};
 use crate::opening::Telling;
 use command_words::{Way, asks_for_quiet, way_of};
 use lisp_object::refusal::NO_MEMORY;
+use message_command::{asks_for_messages, run_messages};
 use program_streams::{Cleared, Progress, Refusals, Uninterrupted, write_counts};
 use readtable_core::FnName;
 use six_functions::{SixFunctions, macro_functions};
@@ -64,6 +65,11 @@ fn serve_words<M: MacroFunctions + Drop, F: Write>(
     requires answers { M.answers macros }
 {
     let mut output = Uninterrupted::new(rt.stdout());
+    if asks_for_messages(words) {
+        let mut input = Uninterrupted::new(rt.stdin());
+        let folders = Telling::new(rt, rt);
+        return run_messages(&folders, macros, words, &mut input, &mut output, faults);
+    }
     match way_of(words) {
         Way::Look => look(rt, macros, words, &mut output, faults),
         Way::Check => {

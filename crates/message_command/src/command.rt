@@ -1,0 +1,137 @@
+// A session of messages, as the words ask.
+ghost use Rattle.std.specs.Prelude.{◌≡◌, ◌<◌, ◌-◌, ◌^◌};
+
+use crate::words::{Asked, asked_in};
+use disk_trait::{Disk, HostError};
+use lisp_object::refusal::INPUT;
+use message_session::{Ended, serve_messages};
+use plist_state::Seed;
+use prevalence_store::{NO_POSITION, Store};
+use std::alloc::Global;
+use std::convert::AsStr;
+use std::fmt::Write as WriteText;
+use std::io::{Read, Write};
+use std::random::RandomSource;
+use store_commands::{
+    Folders, HALF_LIMIT, Status, TellsCause, Told, answer_words, end_with, end_with_told,
+    open_folder,
+};
+use user_macros::MacroFunctions;
+
+/// Serves the frames of an input over the store in a folder, as the words ask (`asks_for_messages`), and answers how that ended. The first
+/// word is the program's name. What ends the session is told on `faults`.
+pub fn run_messages<R, M, S, I, O, F>(
+    rt: &R,
+    macros: M,
+    words: &[S],
+    input: &mut I,
+    output: &mut O,
+    faults: &mut F,
+) -> Status
+where
+    R: Folders + RandomSource + AllocGlobal,
+    M: MacroFunctions + Drop,
+    S: AsStr,
+    I: Read,
+    O: Write,
+    F: Write,
+    requires answers { M.answers macros }
+{
+    match asked_in(rt.alloc(), words) {
+        Ok(asked) => serve_asked(rt, macros, asked, input, output, faults),
+        Err(error) => {
+            let status = answer_words(&error, output, faults);
+            end_with(faults, status)
+        }
+    }
+}
+
+// Opens the folder, and serves.
+fn serve_asked<R, M, I, O, F>(
+    rt: &R,
+    macros: M,
+    asked: Asked<'_>,
+    input: &mut I,
+    output: &mut O,
+    faults: &mut F,
+) -> Status
+where
+    R: Folders + RandomSource + AllocGlobal,
+    M: MacroFunctions + Drop,
+    I: Read,
+    O: Write,
+    F: Write,
+    requires answers { M.answers macros }
+{
+    let Ok(seed) = Seed::draw(rt) else {
+        return end_with(faults, Status::Fault(INPUT));
+    };
+    let disk = match open_folder(rt, asked.folder, asked.existing) {
+        Ok(disk) => disk,
+        Err(error) => {
+            let status = Status::of_host(&error);
+            return end_with_told(faults, status, &Told::Cause(error));
+        }
+    };
+    let (ended, disk) = serve_on(
+        rt.alloc(),
+        disk,
+        macros,
+        seed,
+        asked.snapshot_every,
+        input,
+        output,
+    );
+    end_after(faults, ended, &disk)
+}
+
+// Serves over the store that a disk holds. Gives how it ended, and the disk.
+fn serve_on<D, M, I, O>(
+    alloc: Global,
+    disk: D,
+    macros: M,
+    seed: Seed,
+    snapshot_every: u64,
+    input: &mut I,
+    output: &mut O,
+) -> (Ended, D)
+where
+    D: Disk,
+    M: MacroFunctions + Drop,
+    I: Read,
+    O: Write,
+    requires room { (D.state disk).failures < 2 ^ 64 - 1 }
+    requires answers { M.answers macros }
+{
+    match Store::open_with_seed(alloc, disk, macros, HALF_LIMIT, seed) {
+        Ok(store) => {
+            let mut store = store;
+            let ended = serve_messages(alloc, &mut store, input, output, snapshot_every);
+            let (disk, _macros) = store.close();
+            (ended, disk)
+        }
+        Err(unopened) => (Ended::Fault(unopened.number), unopened.disk),
+    }
+}
+
+// The status after a session that ended so; what ended it is told.
+fn end_after<D: TellsCause, F: Write>(faults: &mut F, ended: Ended, disk: &D) -> Status {
+    match ended {
+        Ended::End => end_with(faults, Status::Done),
+        Ended::NoFrame(place) => {
+            let _ = writeln!(faults, "no frame at byte {place}");
+            Status::FormRefused
+        }
+        Ended::Fault(NO_POSITION) => {
+            let _ = writeln!(faults, "! {NO_POSITION} NO-POSITION");
+            Status::Fault(NO_POSITION)
+        }
+        Ended::Fault(number) => match disk.cause() {
+            Some(error) => {
+                let told = Told::Cause(HostError::System(error));
+                end_with_told(faults, Status::Fault(number), &told)
+            }
+            None => end_with(faults, Status::Fault(number)),
+        },
+    }
+}
