@@ -29,6 +29,9 @@ use store_commands::{
 use store_looks::{check, look};
 use user_macros::{Answer, Call, Cause, MacroFn, MacroFunctions, Macros, Refusal};
 
+/// How many bytes of the stack are taken at the start. The deepest form takes fewer.
+const STACK: usize = 524_288;
+
 // The words that the program was started with, or the status where they are not had: they are no text, or there is no memory.
 fn words_given(rt: &HostRuntime) -> Result<Vec<String>, Status> {
     match env::args(rt) {
@@ -55,6 +58,15 @@ fn serve<M: MacroFunctions + Drop, F: Write>(rt: &HostRuntime, macros: M, faults
     }
 }
 
+// Writes to so much of the stack, which the process has from then on, and answers one of the bytes. Where memory has a limit, a growth of the
+// stack that finds none ends the process by a signal, and one of the heap is a refusal.
+#[inline(never)]
+fn take_stack(place: usize) -> u8 {
+    let mut room = [0u8; STACK];
+    room[place % STACK] = 1;
+    room[place / 2 % STACK]
+}
+
 // The same with these words.
 fn serve_words<M: MacroFunctions + Drop, F: Write>(
     rt: &HostRuntime,
@@ -64,6 +76,10 @@ fn serve_words<M: MacroFunctions + Drop, F: Write>(
 ) -> Status
     requires answers { M.answers macros }
 {
+    // what was written is there, which no compiler knows
+    if take_stack(words.len()) > 1 {
+        return end_with(faults, Status::Fault(NO_MEMORY));
+    }
     let mut output = Uninterrupted::new(rt.stdout());
     if asks_for_messages(words) {
         let mut input = Uninterrupted::new(rt.stdin());
