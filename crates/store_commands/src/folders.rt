@@ -56,11 +56,7 @@ impl Folders for HostRuntime {
 }
 
 /// Opens the files of a folder, which has a name. What is missing is made, or, if the store is to exist, refused.
-pub fn open_folder<R: Folders>(
-    rt: &R,
-    folder: &str,
-    existing: bool,
-) -> Result<R::Disk, HostError>
+pub fn open_folder<R: Folders>(rt: &R, folder: &str, existing: bool) -> Result<R::Disk, HostError>
     ensures room { IfOk result (λ disk. (R.Disk.state disk).failures ≡ 0) }
     ensures opens { ((folder.now ≡ []) × (result ≡ Err HostError.NoName))
         ⊎ ((folder.now ≢ [])
