@@ -1,9 +1,9 @@
--- External symbols by their names, where one is added last or taken away.
+-- Symbols and external symbols by their names, where one is added last or taken away.
 --     chained_same      the same names at the places that are there
 --     chained_kept      the same places, kept elsewhere
 --     chained_push, chained_pop, name_there      the last place
 --     last_is      what a place says of those below it
---     chained_symbol, chained_external, chained_cut      where a symbol or an external one is added, and where what was added goes
+--     chained_symbol, chained_external, chained_second, chained_cut, chained_front      where a symbol or an external one is added, and where what was added goes
 use Rattle.std.proofs.Common.{◌≡◌, ◌<◌, ◌≤◌, ◌⊎◌, inl, inr, ℕ, zero, suc, Bool, true, false, cond, nat_eq, List, [], ◌∷◌, ◌++◌, length, get_or, refl, sym, ap, subst, ◌∙◌, take, arith}
 use Rattle.std.proofs.lemmas.Bool.{false≢true}
 use Rattle.std.proofs.lemmas.Bool.Decides.{Decides-eqb}
@@ -11,7 +11,7 @@ use Rattle.std.proofs.lemmas.List.{length_push, get_or_append_left, get_or_push,
 use Rattle.package_sets.specs.declared.chains.Chains.{Chains}
 use Rattle.package_sets.specs.Kept.{pair_at}
 use Rattle.package_sets.specs.Good.{AreWithin}
-use Rattle.package_sets.specs.Chained.{external_name, last_below, AreChained}
+use Rattle.package_sets.specs.Chained.{external_name, second_of, last_below, AreChained}
 use Rattle.package_sets.proofs.Places.{all_at}
 
 -- a number is below another, or it is not
@@ -142,6 +142,20 @@ chained_external symbols externals e name number c d is last lasts befores all =
     (ap (λ (q : ℕ × ℕ). (pair_at symbols q.1).1) (get_or_push externals e (0, 0) (length externals) refl) ∙ sym is)
     (λ j. lasts j ∙ ap (λ n. cond (nat_eq name j) n (get_or c.lasts.items j 0)) (last ∙ size)) befores before)
 
+-- where a pair is added, whose second number is the name
+pub chained_second : (ps : List (ℕ × ℕ)) (e : ℕ × ℕ) (last : ℕ) (c d : Chains) → last ≡ length (ps ++ e ∷ [])
+    → ((j : ℕ) → get_or d.lasts.items j 0 ≡ cond (nat_eq e.1 j) last (get_or c.lasts.items j 0))
+    → d.befores.items ≡ c.befores.items ++ get_or c.lasts.items e.1 0 ∷ []
+    → AreChained (second_of ps) (length ps) c → AreChained (second_of (ps ++ e ∷ [])) (length (ps ++ e ∷ [])) d
+chained_second ps e last c d is lasts befores all =
+    let size : length (ps ++ e ∷ []) ≡ suc (length ps) = (let more = length_push ps e in omega (arith, more)) in
+    let before = chained_same (second_of ps) (second_of (ps ++ e ∷ [])) (length ps) c
+    (λ x less. sym (ap (λ (q : ℕ × ℕ). q.1) (get_or_append_left ps (e ∷ []) (0, 0) x less))) all in
+    subst (λ n. AreChained (second_of (ps ++ e ∷ [])) n d) (sym size)
+    (chained_push (second_of (ps ++ e ∷ [])) (length ps) e.1 c d
+    (ap (λ (q : ℕ × ℕ). q.1) (get_or_push ps e (0, 0) (length ps) refl))
+    (λ j. lasts j ∙ ap (λ n. cond (nat_eq e.1 j) n (get_or c.lasts.items j 0)) (is ∙ size)) befores before)
+
 -- how long a front is
 pub take_within : (n : ℕ) (ps : List (ℕ × ℕ)) → length (take n ps) ≤ length ps
 take_within zero ps = omega arith
@@ -169,3 +183,9 @@ chained_cut symbols externals packages n m c within =
     let second : (pair_at (take n externals) x).1 < m = omega (arith, there, take_fits m symbols) in
     ap (λ (q : ℕ × ℕ). (pair_at symbols q.1).1) (sym (get_or-take n externals x (0, 0) first))
     ∙ ap (λ (q : ℕ × ℕ). q.1) (sym (get_or-take m symbols (pair_at (take n externals) x).1 (0, 0) second)))
+
+-- where only the first pairs stay
+pub chained_front : (ps : List (ℕ × ℕ)) (n : ℕ) (c : Chains) → AreChained (second_of ps) (length (take n ps)) c → AreChained (second_of (take n ps)) (length (take n ps)) c
+chained_front ps n c =
+    chained_same (second_of ps) (second_of (take n ps)) (length (take n ps)) c
+    (λ x less. let first : x < n = omega (arith, less, take_fits n ps) in ap (λ (q : ℕ × ℕ). q.1) (sym (get_or-take n ps x (0, 0) first)))

@@ -3,4 +3,5 @@ pub mod Positions
 pub mod Chaining
 pub mod Seeking
 pub mod Growing
+pub mod Namesakes
 pub mod Cut

@@ -1,14 +1,13 @@
-//! External symbols by their names: for each name the last external symbol that has it, and for each of them the one
-//! before it.
+//! Symbols, or external symbols, by their names: for each name the last that has it, and for each of them the one before it.
 ghost use Rattle.std.specs.Prelude.{◌≡◌, ◌<◌, ◌++◌, ◌∷◌, [], ℕ, nat_eq, length, take, get_or, if◌then◌else◌, IfOk, OnOk};
 ghost use Rattle.std.specs.List.{AllByRecursion};
 ghost use Rattle.std.specs.Vec.{vec_len, vec_capacity};
-ghost use Rattle.package_sets.specs.Chained.{external_name, AreChained};
+ghost use Rattle.package_sets.specs.Chained.{external_name, second_of, AreChained};
 
-use crate::Pairs;
+use crate::{Pairs, Symbols};
 use std::alloc::{AllocError, Global};
 
-/// Places of external symbols, each kept as one more than it, and 0 for none.
+/// Places, each kept as one more than it, and 0 for none.
 pub(crate) struct Chains {
     // For each name the last place that has it.
     lasts: Vec<u32>,
@@ -107,8 +106,21 @@ impl Chains {
         self.lasts[name as usize] = before;
     }
 
+    /// Keeps the first `len` places of what is named by the second numbers of pairs. Takes no memory, and time in proportion to
+    /// what goes.
+    pub(crate) fn truncate_seconds(&mut self, pairs: &Pairs, len: u32)
+        requires { AreChained (second_of pairs.now) (length pairs.now) self.old }
+        ensures { AreChained (second_of pairs.now) (length (take len pairs.now)) self.new }
+    {
+        let mut kept = pairs.len();
+        while kept > len {
+            kept = kept - 1;
+            self.pop(pairs.at(kept).second);
+        }
+    }
+
     /// Keeps the first `len` places of what is external. Takes no memory, and time in proportion to what goes.
-    pub(crate) fn truncate(&mut self, symbols: &Pairs, externals: &Pairs, len: u32)
+    pub(crate) fn truncate(&mut self, symbols: &Symbols, externals: &Pairs, len: u32)
         requires within { AllByRecursion (λ e. e.1 < length symbols.now) externals.now }
         requires chained { AreChained (external_name symbols.now externals.now) (length externals.now) self.old }
         ensures { AreChained (external_name symbols.now externals.now) (length (take len externals.now)) self.new }

@@ -10,8 +10,8 @@
 //! - `sets`: `PackageSets`, a copy of them, their lengths and going back; `look_ups` and `changes`: their calls
 //! - `names`: `Names`, each once, and `name`: one of them; `pairs`: `Pairs` of numbers, each once, and the positions of
 //!   those with the same first, and `pair`: one of them
-//! - `chains`: `Chains`, external symbols by their names: for each name the last that has it, and for each of them the one
-//!   before. `find_inherited` goes along them
+//! - `chains`: `Chains`, symbols or external symbols by their names: for each name the last that has it, and for each of them
+//!   the one before. `find_inherited` goes along them, and so does `find` of `symbols`: `Symbols`, which are pairs
 //! - `seed`: `Seed`, with which both are hashed: names come from clients, who must not know where they fall
 //!
 //! # Laws for the crates above
@@ -34,6 +34,7 @@ mod pairs;
 mod seed;
 mod sets;
 mod sizes;
+mod symbols;
 
 pub use look_ups::Inherited;
 pub use names::Names;
@@ -42,3 +43,4 @@ pub use pairs::Pairs;
 pub use seed::Seed;
 pub use sets::PackageSets;
 pub use sizes::Sizes;
+pub use symbols::Symbols;

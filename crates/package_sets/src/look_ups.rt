@@ -67,6 +67,9 @@ impl PackageSets {
     pub fn find_import(&self, owner: u32, name: u32) -> Option<u32>
         ensures { result ≡ import_of self.now owner name }
     {
+        if self.imports.of(owner).is_empty() {
+            return None;
+        }
         match self.imports.find(owner, name) {
             Some(number) => Some(self.imported[number as usize]),
             None => None,

@@ -5,7 +5,7 @@ ghost use Rattle.package_sets.specs.Good.{IsGood};
 ghost use Rattle.package_sets.specs.Chained.{external_name, AreChained};
 
 use crate::chains::Chains;
-use crate::{Names, Pairs, Seed, Sizes};
+use crate::{Names, Pairs, Seed, Sizes, Symbols};
 use std::alloc::{AllocError, Global};
 use std::marker::Model;
 
@@ -14,7 +14,7 @@ pub struct PackageSets {
     pub(crate) alloc: Global,
     pub(crate) names: Names,
     pub(crate) packages: Names,
-    pub(crate) symbols: Pairs,
+    pub(crate) symbols: Symbols,
     pub(crate) imports: Pairs,
     // For each import the number of the symbol.
     pub(crate) imported: Vec<u32>,
@@ -64,7 +64,7 @@ impl PackageSets {
             alloc,
             names: Names::new(alloc, seed),
             packages: Names::new(alloc, seed),
-            symbols: Pairs::new(alloc, seed),
+            symbols: Symbols::new(alloc, seed),
             imports: Pairs::new(alloc, seed),
             imported: Vec::new(alloc),
             externals: Pairs::new(alloc, seed),
@@ -95,7 +95,7 @@ impl PackageSets {
     {
         let names = self.names.copy()?;
         let packages = self.packages.copy()?;
-        let symbols = self.symbols.copy()?;
+        let symbols = self.symbols.copy(alloc)?;
         let imports = self.imports.copy()?;
         let externals = self.externals.copy()?;
         let uses = self.uses.copy()?;
