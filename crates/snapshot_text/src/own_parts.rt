@@ -12,7 +12,7 @@ ghost use Rattle.snapshot_text.specs.Phases.{HasOwn};
 ghost use Rattle.snapshot_text.specs.Own.{IsOwnName, HasOwnName};
 ghost use Rattle.snapshot_text.specs.Answers.{OrNoMemory};
 
-use crate::error::BuildError;
+use snapshot_lines::BuildError;
 use crate::parts::name_in;
 use lisp_object::Datum;
 use plist_state::World;

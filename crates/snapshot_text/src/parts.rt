@@ -6,7 +6,7 @@ ghost use Rattle.lisp_object.specs.Datum.{object_of, is_proper};
 ghost use Rattle.world_text.specs.Snapshot.{number};
 ghost use Rattle.snapshot_text.specs.Answers.{Succeeds};
 
-use crate::error::BuildError;
+use snapshot_lines::BuildError;
 use lisp_object::{Bytes, Datum};
 
 // The bytes of a text.

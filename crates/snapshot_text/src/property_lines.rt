@@ -10,10 +10,10 @@ ghost use Rattle.snapshot_text.specs.Rows.{IsUpTo, row_text, text_after};
 ghost use Rattle.world_text.specs.Snapshot.{line, properties_object};
 ghost use Rattle.snapshot_text.specs.Answers.{Makes};
 
-use crate::error::BuildError;
-use crate::lines::object_at;
+use snapshot_lines::BuildError;
+use snapshot_lines::object_at;
 use crate::property_parts::put_row;
-use crate::source::Source;
+use snapshot_lines::Source;
 use plist_state::World;
 use user_macros::MacroFunctions;
 

@@ -17,7 +17,7 @@ ghost use Rattle.world_text.specs.Snapshot.{number, dispatch_objects, entry_obje
 ghost use Rattle.snapshot_text.specs.Built.{with_table, with_properties_of, with_readtables_of, CanBeMade, IsWritable, IsSubFunction, IsNamedEntry};
 ghost use Rattle.snapshot_text.specs.Answers.{OrNoMemory, Succeeds};
 
-use crate::error::BuildError;
+use snapshot_lines::BuildError;
 use crate::parts::{character_in, items_in, text_in};
 use lisp_object::Datum;
 use package_table::standardized::KEYWORD;
