@@ -3,8 +3,8 @@ use Rattle.std.proofs.Common.{◌≡◌, ◌∙◌}
 use Rattle.std.specs.Prelude.{Result, Ok, Err, MatchResult}
 use Rattle.std.specs.Result.{IsErrAnd}
 use Rattle.package_table.specs.declared.error.PackageError.{PackageError}
-use Rattle.snapshot_text.specs.declared.error.BuildError.{BuildError}
-use Rattle.snapshot_text.specs.declared.error.BuildError.TheVariants.{OutOfMemory}
+use Rattle.snapshot_lines.specs.declared.error.BuildError.{BuildError}
+use Rattle.snapshot_lines.specs.declared.error.BuildError.TheVariants.{OutOfMemory}
 
 pub same_ok : {A : Type 0} (x y : A) → ◌≡◌ {A = Result A PackageError} (Ok x) (Ok y) → x ≡ y
 same_ok x y e = cc

@@ -14,7 +14,6 @@ pub mod PartMakes
 pub mod OwnNames
 pub mod KeysSoFar
 pub mod PropertyParts
-pub mod NextLine
 pub mod LaterLines
 pub mod PropertyLines
 pub mod TableParts

@@ -19,9 +19,9 @@ use Rattle.package_table.proofs.Frames.{equal_names, not_equal, get_inserted}
 use Rattle.package_table.proofs.Found.{found_finds, found_none}
 use Rattle.package_table.proofs.Keeping.{present_at_home, new_home}
 use Rattle.package_table.proofs.KeptSound.{no_entry}
-use Rattle.snapshot_text.specs.declared.error.BuildError.{BuildError}
-use Rattle.snapshot_text.specs.declared.error.BuildError.TheVariants.{OutOfMemory as NoMemory}
-use Rattle.snapshot_text.specs.Refused.{of_packages}
+use Rattle.snapshot_lines.specs.declared.error.BuildError.{BuildError}
+use Rattle.snapshot_lines.specs.declared.error.BuildError.TheVariants.{OutOfMemory as NoMemory}
+use Rattle.snapshot_lines.specs.Refused.{of_packages}
 use Rattle.snapshot_text.specs.Part.{IsPartOf}
 use Rattle.snapshot_text.specs.Answers.{OrNoMemory}
 use Rattle.snapshot_text.proofs.Gave.{same_ok}

@@ -29,7 +29,7 @@ use Rattle.world_text.proofs.Whole.{object_read_back}
 use Rattle.world_text.proofs.WithinLimits.{tokens_short, plist_depth}
 use Rattle.world_text.proofs.PlainObjects.{no_prefix}
 use Rattle.world_text.proofs.OneLine.{good_symbols, row_good}
-use Rattle.snapshot_text.proofs.NextLine.{after_text, byte_within, after_byte, byte_is}
+use Rattle.snapshot_lines.proofs.NextLine.{after_text, byte_within, after_byte, byte_is}
 use Rattle.snapshot_text.proofs.PropertyParts.{key_at, at_last}
 use Rattle.user_macros.specs.Functions.{Functions}
 

@@ -1,7 +1,7 @@
 -- What a call answers that makes a part of a world, or reads a part of data.
 use Rattle.std.specs.Prelude.{◌≡◌, MatchResult, Result}
-use Rattle.snapshot_text.specs.declared.error.BuildError.{BuildError}
-use Rattle.snapshot_text.specs.declared.error.BuildError.TheVariants.{OutOfMemory}
+use Rattle.snapshot_lines.specs.declared.error.BuildError.{BuildError}
+use Rattle.snapshot_lines.specs.declared.error.BuildError.TheVariants.{OutOfMemory}
 
 -- it is so, or memory ran out
 abbrev pub OrNoMemory : {A : Type 0} → Type 0 → Result A BuildError → Type 0

@@ -1,7 +1,6 @@
 pub mod Answers
 pub mod Built
 pub mod Covered
-pub mod Lines
 pub mod Own
 pub mod Part
 pub mod Phases

@@ -3,8 +3,7 @@ ghost use Rattle.std.specs.Prelude.{◌≡◌};
 ghost use Rattle.snapshot_text.specs.Refused.{number_of};
 
 use lisp_object::refusal;
-use package_table::PackageError;
-use plist_state::ReadtableError;
+use snapshot_lines::BuildError;
 use std::alloc::AllocError;
 
 /// Why a text is refused as a snapshot.
@@ -52,54 +51,6 @@ impl From<BuildError> for SnapshotError {
         match error {
             BuildError::Damaged => SnapshotError::Damaged,
             BuildError::OutOfMemory => SnapshotError::OutOfMemory,
-        }
-    }
-}
-
-/// Why no world is built from a text.
-#[derive(Clone, Copy, Debug, PartialEq, Eq)]
-pub(crate) enum BuildError {
-    /// The text is of no world.
-    Damaged,
-    /// Memory ran out.
-    OutOfMemory,
-}
-
-impl From<AllocError> for BuildError {
-    ghost use Rattle.std.specs.Prelude.{◌≡◌};
-    ghost use Rattle.snapshot_text.specs.declared.error.BuildError.TheVariants.{OutOfMemory};
-
-    ghost from_gives = { λ _ e. e ≡ OutOfMemory };
-
-    fn from(_: AllocError) -> BuildError {
-        BuildError::OutOfMemory
-    }
-}
-
-impl From<PackageError> for BuildError {
-    ghost use Rattle.std.specs.Prelude.{◌≡◌};
-    ghost use Rattle.snapshot_text.specs.Refused.{of_packages};
-
-    ghost from_gives = { λ error refusal. refusal ≡ of_packages error };
-
-    fn from(error: PackageError) -> BuildError {
-        match error {
-            PackageError::OutOfMemory => BuildError::OutOfMemory,
-            _ => BuildError::Damaged,
-        }
-    }
-}
-
-impl From<ReadtableError> for BuildError {
-    ghost use Rattle.std.specs.Prelude.{◌≡◌};
-    ghost use Rattle.snapshot_text.specs.Refused.{of_readtables};
-
-    ghost from_gives = { λ error refusal. refusal ≡ of_readtables error };
-
-    fn from(error: ReadtableError) -> BuildError {
-        match error {
-            ReadtableError::OutOfMemory => BuildError::OutOfMemory,
-            _ => BuildError::Damaged,
         }
     }
 }

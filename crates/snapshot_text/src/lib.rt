@@ -6,9 +6,8 @@
 //! text of no sound state, or of one that names a missing function, but where memory runs out (specs/Covered.antt). The law
 //! `one_text_one_state` of world_text says that no other sound state has that text.
 //!
-//! - `reader`: `read`, and `read_with_seed`, which hashes the names of the world by a seed; `source`: what it reads
-//!   from; `lines`: the objects of a text, one at a time; `property_lines`: the line of property lists, of which one row
-//!   is in memory at a time
+//! - `reader`: `read`, and `read_with_seed`, which hashes the names of the world by a seed; `property_lines`: the line of
+//!   property lists, of which one row is in memory at a time; snapshot_lines reads the objects
 //! - `package_parts` (over `own_parts`), `property_parts`, `table_parts`: a world made from data, by its own calls; `parts`:
 //!   texts, lists and numbers in data; `known`: which data may be stored
 //! - `error`: `SnapshotError`
@@ -23,14 +22,12 @@
 
 mod error;
 mod known;
-mod lines;
 mod own_parts;
 mod package_parts;
 mod parts;
 mod property_lines;
 mod property_parts;
 mod reader;
-mod source;
 mod table_parts;
 
 pub use error::SnapshotError;

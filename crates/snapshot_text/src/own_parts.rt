@@ -12,10 +12,10 @@ ghost use Rattle.snapshot_text.specs.Phases.{HasOwn};
 ghost use Rattle.snapshot_text.specs.Own.{IsOwnName, HasOwnName};
 ghost use Rattle.snapshot_text.specs.Answers.{OrNoMemory};
 
-use crate::error::BuildError;
 use crate::parts::name_in;
 use lisp_object::Datum;
 use plist_state::World;
+use snapshot_lines::BuildError;
 
 // Makes a package of this name, where there is none.
 fn make_owner(world: &mut World, owner: &[u8]) -> Result<(), BuildError>

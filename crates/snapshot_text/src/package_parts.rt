@@ -10,11 +10,11 @@ ghost use Rattle.snapshot_text.specs.Phases.{HasSymbols, HasExternals, HasUses, 
 ghost use Rattle.world_text.specs.Snapshot.{imported_name, package_object, packages_object};
 ghost use Rattle.snapshot_text.specs.Answers.{Makes, OrNoMemory, Succeeds};
 
-use crate::error::BuildError;
 use crate::own_parts::make_own;
 use crate::parts::{items_in, name_in, text_in};
 use lisp_object::Datum;
 use plist_state::World;
+use snapshot_lines::BuildError;
 use std::alloc::{AllocError, Global};
 
 // A package as a snapshot has it.

@@ -6,8 +6,8 @@ ghost use Rattle.lisp_object.specs.Datum.{object_of, is_proper};
 ghost use Rattle.world_text.specs.Snapshot.{number};
 ghost use Rattle.snapshot_text.specs.Answers.{Succeeds};
 
-use crate::error::BuildError;
 use lisp_object::{Bytes, Datum};
+use snapshot_lines::BuildError;
 
 // The bytes of a text.
 pub(crate) fn text_in(datum: &Datum) -> Result<&Bytes, BuildError>

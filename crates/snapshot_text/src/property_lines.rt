@@ -10,11 +10,9 @@ ghost use Rattle.snapshot_text.specs.Rows.{IsUpTo, row_text, text_after};
 ghost use Rattle.world_text.specs.Snapshot.{line, properties_object};
 ghost use Rattle.snapshot_text.specs.Answers.{Makes};
 
-use crate::error::BuildError;
-use crate::lines::object_at;
 use crate::property_parts::put_row;
-use crate::source::Source;
 use plist_state::World;
+use snapshot_lines::{BuildError, Source, object_at};
 use user_macros::MacroFunctions;
 
 // Puts the row of property lists that begins at `at`. Gives its end.

@@ -11,11 +11,11 @@ ghost use Rattle.world_text.specs.Snapshot.{symbol_object, plist_object};
 ghost use Rattle.snapshot_text.specs.Built.{with_properties, with_each};
 ghost use Rattle.snapshot_text.specs.Answers.{Makes, OrNoMemory};
 
-use crate::error::BuildError;
 use crate::known::{is_there, is_value};
 use crate::parts::items_in;
 use lisp_object::Datum;
 use plist_state::{Symbol, World};
+use snapshot_lines::BuildError;
 use std::alloc::Global;
 
 // An interned symbol.

@@ -10,14 +10,12 @@ ghost use Rattle.lisp_object.specs.Object.{Object};
 ghost use Rattle.snapshot_text.specs.Answers.{Makes, OrNoMemory};
 
 use crate::SnapshotError;
-use crate::error::BuildError;
-use crate::lines::next_object;
 use crate::package_parts::make_packages;
 use crate::property_lines::read_properties;
-use crate::source::Source;
 use crate::table_parts::put_tables;
 use plist_state::{Seed, World};
 use readtable_core::Readtable;
+use snapshot_lines::{BuildError, Source, next_object};
 use std::alloc::{AllocError, Global};
 use user_macros::MacroFunctions;
 use world_text::{table_named, write_in};

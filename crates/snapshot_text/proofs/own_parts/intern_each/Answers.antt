@@ -8,8 +8,8 @@ use Rattle.package_table.specs.Growth.{Grows}
 use Rattle.package_table.proofs.Growing.{grows_both}
 use Rattle.plist_state.specs.State.{Worlds}
 use Rattle.plist_state.specs.Changes.{with_packages}
-use Rattle.snapshot_text.specs.declared.error.BuildError.{BuildError}
-use Rattle.snapshot_text.specs.declared.error.BuildError.TheVariants.{OutOfMemory}
+use Rattle.snapshot_lines.specs.declared.error.BuildError.{BuildError}
+use Rattle.snapshot_lines.specs.declared.error.BuildError.TheVariants.{OutOfMemory}
 use Rattle.snapshot_text.specs.Answers.{OrNoMemory}
 use Rattle.snapshot_text.specs.Own.{IsOwnName, HasOwnName}
 use Rattle.snapshot_text.proofs.own_parts.intern_each.Goals as goal

@@ -3,7 +3,7 @@ use Rattle.plist_state.specs.Changes.{plist}
 use Rattle.world_text.specs.Texts.{row_of}
 use Rattle.snapshot_text.specs.Rows.{symbol_at, row_text, text_after}
 use Rattle.snapshot_text.proofs.Gave.{refused_same}
-use Rattle.snapshot_text.proofs.NextLine.{text_fits}
+use Rattle.snapshot_lines.proofs.NextLine.{text_fits}
 use Rattle.snapshot_text.proofs.PropertyLines.{more_after, row_read}
 use Rattle.snapshot_text.proofs.PropertyParts.{row_at, next_up_to}
 use Rattle.snapshot_text.proofs.property_lines.read_row.Goals as goal

@@ -7,7 +7,7 @@ use Rattle.snapshot_text.specs.Part.{IsPartOf}
 use Rattle.world_text.specs.Snapshot.{packages_object}
 use Rattle.snapshot_text.proofs.Gave.{refused_same}
 use Rattle.world_text.proofs.LinesRead.{first_read}
-use Rattle.snapshot_text.proofs.NextLine.{line_fits}
+use Rattle.snapshot_lines.proofs.NextLine.{line_fits}
 use Rattle.snapshot_text.proofs.PartSame.{first_part}
 use Rattle.snapshot_text.proofs.reader.read_packages.Goals as goal
 

@@ -3,7 +3,7 @@ use Rattle.canon_printer.specs.Printed.{printed}
 use Rattle.std.proofs.Common.{Some, sym, ap, ◌∙◌}
 use Rattle.snapshot_text.proofs.Gave.{refused_same}
 use Rattle.snapshot_text.proofs.LaterLines.{third_line}
-use Rattle.snapshot_text.proofs.NextLine.{line_fits}
+use Rattle.snapshot_lines.proofs.NextLine.{line_fits}
 use Rattle.snapshot_text.proofs.reader.read_tables.Goals as goal
 
 pub returns-in_err-tables : goal.returns-in_err-tables

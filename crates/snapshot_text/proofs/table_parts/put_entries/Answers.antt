@@ -1,6 +1,6 @@
 use Rattle.std.proofs.Common.{◌≡◌, rules, arith}
 use Rattle.world_text.specs.Snapshot.{entry_objects}
-use Rattle.snapshot_text.specs.declared.error.BuildError.TheVariants.{OutOfMemory}
+use Rattle.snapshot_lines.specs.declared.error.BuildError.TheVariants.{OutOfMemory}
 use Rattle.snapshot_text.proofs.ReadtableParts.{first_making, entry_row_at, last_making}
 use Rattle.snapshot_text.proofs.table_parts.put_entries.Goals as goal
 

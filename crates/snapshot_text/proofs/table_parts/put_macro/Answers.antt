@@ -4,7 +4,7 @@ use Rattle.lisp_object.specs.Object.{text}
 use Rattle.readtable_core.specs.Names.{is_dispatch_name}
 use Rattle.readtable_core.specs.Changes.{with_entry, dispatching_entry}
 use Rattle.world_text.specs.Snapshot.{dispatch_objects}
-use Rattle.snapshot_text.specs.declared.error.BuildError.TheVariants.{OutOfMemory}
+use Rattle.snapshot_lines.specs.declared.error.BuildError.TheVariants.{OutOfMemory}
 use Rattle.snapshot_text.proofs.TableParts.{same_ok, changed_to}
 use Rattle.snapshot_text.proofs.MacroParts.{function_of, function_is, function_name, first_filling, pair_at, last_filling}
 use Rattle.snapshot_text.proofs.table_parts.put_macro.Goals as goal

@@ -1,6 +1,6 @@
 use Rattle.std.proofs.Common.{◌≡◌, rules, map, arith}
 use Rattle.world_text.specs.Snapshot.{table_named}
-use Rattle.snapshot_text.specs.declared.error.BuildError.TheVariants.{OutOfMemory}
+use Rattle.snapshot_lines.specs.declared.error.BuildError.TheVariants.{OutOfMemory}
 use Rattle.snapshot_text.proofs.NamedTables.{names, row_of, first_naming, table_row_at, last_naming}
 use Rattle.snapshot_text.proofs.table_parts.put_readtables.Goals as goal
 

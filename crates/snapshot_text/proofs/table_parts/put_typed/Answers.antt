@@ -3,7 +3,7 @@ use Rattle.readtable_core.specs.declared.characters.Syntax.TheVariants.{Whitespa
 use Rattle.readtable_core.specs.Tables.{CharacterEntry}
 use Rattle.readtable_core.specs.Changes.{with_entry}
 use Rattle.snapshot_text.specs.Built.{with_table}
-use Rattle.snapshot_text.specs.declared.error.BuildError.TheVariants.{OutOfMemory}
+use Rattle.snapshot_lines.specs.declared.error.BuildError.TheVariants.{OutOfMemory}
 use Rattle.snapshot_text.proofs.EntryParts.{standard_is}
 use Rattle.snapshot_text.proofs.table_parts.put_typed.Goals as goal
 

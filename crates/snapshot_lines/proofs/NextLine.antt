@@ -8,9 +8,9 @@ use Rattle.std.proofs.lemmas.List.{length-drop, drop-drop, append-nil, get_or-dr
 use Rattle.std.proofs.lemmas.List.Folds.{drop_split}
 use Rattle.lisp_object.specs.declared.datum.Datum.{Datum}
 use Rattle.lisp_object.specs.Object.{Object}
-use Rattle.snapshot_text.specs.declared.error.BuildError.{BuildError}
-use Rattle.snapshot_text.specs.declared.error.BuildError.TheVariants.{OutOfMemory}
-use Rattle.snapshot_text.specs.Lines.{IsNext}
+use Rattle.snapshot_lines.specs.declared.error.BuildError.{BuildError}
+use Rattle.snapshot_lines.specs.declared.error.BuildError.TheVariants.{OutOfMemory}
+use Rattle.snapshot_lines.specs.Lines.{IsNext}
 
 pub rest_is : (bytes : List ℕ) (at : ℕ) → at ≤ length bytes → slice_range bytes at (length bytes) ≡ drop at bytes
 rest_is bytes at h = sym (drop_split bytes at (length bytes) h ∙ ap (λ xs. slice_range bytes at (length bytes) ++ xs) (drop-length bytes) ∙ append-nil (slice_range bytes at (length bytes)))

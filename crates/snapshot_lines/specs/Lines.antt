@@ -3,8 +3,8 @@ use Rattle.std.specs.Prelude.{◌≡◌, ℕ, true, List, drop, Result, Ok, Err}
 use Rattle.lisp_object.specs.declared.datum.Datum.{Datum}
 use Rattle.lisp_object.specs.Datum.{object_of, is_proper}
 use Rattle.lisp_object.specs.Object.{Object}
-use Rattle.snapshot_text.specs.declared.error.BuildError.{BuildError}
-use Rattle.snapshot_text.specs.declared.error.BuildError.TheVariants.{OutOfMemory}
+use Rattle.snapshot_lines.specs.declared.error.BuildError.{BuildError}
+use Rattle.snapshot_lines.specs.declared.error.BuildError.TheVariants.{OutOfMemory}
 use Rattle.readtable_core.specs.Tables.{standard}
 use Rattle.package_table.specs.Table.{common_lisp_user}
 use Rattle.user_macros.specs.Functions.{Functions}

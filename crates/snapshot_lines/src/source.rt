@@ -5,7 +5,7 @@ use std::alloc::Global;
 
 /// The bytes of a snapshot, the standard readtable, under which they are read, and the functions of users.
 #[derive(Drop)]
-pub(crate) struct Source<'a, R> {
+pub struct Source<'a, R> {
     pub alloc: Global,
     pub table: &'a Readtable,
     pub macros: &'a R,

@@ -1,7 +1,7 @@
 use Rattle.std.proofs.Common.{◌≡◌, ◌<◌, ◌++◌, length, rules, arith, ap, ◌∙◌}
 use Rattle.lisp_reading.specs.Reading.{reads}
-use Rattle.snapshot_text.proofs.NextLine.{rest_is, text_within, after_text, next_refused}
-use Rattle.snapshot_text.proofs.lines.object_at.Goals as goal
+use Rattle.snapshot_lines.proofs.NextLine.{rest_is, text_within, after_text, next_refused}
+use Rattle.snapshot_lines.proofs.lines.object_at.Goals as goal
 
 pub returns-in_err-datum-clause-read : goal.returns-in_err-datum-clause-read
 returns-in_err-datum-clause-read g c = λ x text rest next fits at more read.

@@ -2,8 +2,8 @@ use Rattle.std.proofs.Common.{◌∷◌, [], append_assoc, sym, ap, ◌∙◌, a
 use Rattle.package_table.specs.Table.{common_lisp_user}
 use Rattle.canon_printer.specs.Printed.{printed}
 use Rattle.lisp_reading.specs.Reading.{reads}
-use Rattle.snapshot_text.proofs.NextLine.{after_byte, next_refused}
-use Rattle.snapshot_text.proofs.lines.next_object.Goals as goal
+use Rattle.snapshot_lines.proofs.NextLine.{after_byte, next_refused}
+use Rattle.snapshot_lines.proofs.lines.next_object.Goals as goal
 
 pub returns-in_err-datum : goal.returns-in_err-datum
 returns-in_err-datum g c = λ packages x rest fits at read.

@@ -5,7 +5,7 @@ ghost use Rattle.readtable_core.specs.Tables.{standard};
 ghost use Rattle.package_table.specs.Table.{Table};
 ghost use Rattle.lisp_reading.specs.Reading.{form, reads};
 ghost use Rattle.world_text.specs.Lines.{IsLineRead};
-ghost use Rattle.snapshot_text.specs.Lines.{IsFirst, IsNext, line_setting};
+ghost use Rattle.snapshot_lines.specs.Lines.{IsFirst, IsNext, line_setting};
 ghost use Rattle.world_text.specs.Snapshot.{line};
 
 use crate::error::BuildError;
@@ -51,7 +51,7 @@ fn first_object<R: MacroFunctions>(
 }
 
 /// The object that begins at `at`, where more follows, and its end.
-pub(crate) fn object_at<R: MacroFunctions>(
+pub fn object_at<R: MacroFunctions>(
     source: &Source<'_, R>,
     world: &World,
     at: usize,
@@ -73,7 +73,7 @@ pub(crate) fn object_at<R: MacroFunctions>(
 }
 
 /// The object of the line that begins at `at`, and where the next line begins.
-pub(crate) fn next_object<R: MacroFunctions>(
+pub fn next_object<R: MacroFunctions>(
     source: &Source<'_, R>,
     world: &World,
     at: usize,
