@@ -4,9 +4,9 @@
 --     searched_by      what a binary search by the orders finds
 --     unknown, unmatched, mismatched, matched      what the index says of an indicator
 --     orders-set, orders-remove      the orders of a row that is written
---     IsIndexed-nil, IsIndexed-remove, IsIndexed-take, IsIndexed-noted, IsIndexed-added, IsIndexed-next      an index stays one
+--     IsIndexed-nil, IsIndexed-remove, IsIndexed-take, IsIndexed-noted, IsIndexed-added, IsIndexed-next, IsIndexed-insert      an index stays one
 use Rattle.std.proofs.Common.{◌≡◌, ◌≢◌, ℕ, zero, suc, ◌+◌, ◌-◌, ◌<◌, ◌≤◌, true, false, cond, Option, None, Some, unwrap_or, Result, Ok, Err, IfOk, IfErr, List, [], ◌∷◌, ◌++◌, length, take, get_or, set, refl, sym, ap, subst, ◌∙◌, arith}
-use Rattle.std.specs.List.{position, position_from, remove, slice_get}
+use Rattle.std.specs.List.{position, position_from, insert, remove, slice_get}
 use Rattle.std.specs.List.Sorted.{IsSearchInRange, IsBinarySearchResult, IsNonDecreasingBy}
 use Rattle.std.specs.Ordering.{nat_cmp, eq_by_cmp, ordering_index}
 use Rattle.std.proofs.lemmas.Bool.Decides.{nat_tests}
@@ -16,7 +16,7 @@ use Rattle.std.specs.Prelude.{nat_lt, is_some}
 use Rattle.std.proofs.Math.Seq.{get_or-append_seam, take-suc}
 use Rattle.std.proofs.lemmas.Bool.{false≢true}
 use Rattle.std.proofs.lemmas.List.{length_push, length-map, length-take-le, get_or-take, get_or_append_left}
-use Rattle.std.proofs.lemmas.List.Edits.{length-remove, get_or-remove_below, get_or-remove_above}
+use Rattle.std.proofs.lemmas.List.Edits.{length-insert, length-remove, get_or-insert_above, get_or-insert_at, get_or-insert_below, get_or-remove_above, get_or-remove_below}
 use Rattle.std.proofs.lemmas.List.Sorted.{IsNonDecreasingBy-from_default}
 use Rattle.lisp_object.specs.declared.datum.Datum.{Datum}
 use Rattle.lisp_object.specs.declared.datum.Datum.TheVariants.{Char}
@@ -305,3 +305,79 @@ above_last items p is rising k less next more =
     let end : (nth (orders items) (length items - 1)).1 ≡ p.order = ap (λ (e : ℕ × ℕ). e.1) last in
     let at : k ≡ length items - 1 → (nth (orders items) k).1 ≡ p.order = λ e. ap (λ m. (nth (orders items) m).1) e ∙ end in
     grind (arith, long, end, at, rising k (length items - 1), less, more)
+
+-- a property that comes to a place where the orders rise, and that the index has
+pub orders-insert : (items : List NumberedProperty) (k : ℕ) (p : NumberedProperty) → orders (insert items k p) ≡ insert (orders items) k (order_of p)
+orders-insert [] zero p = refl
+orders-insert [] (suc k) p = refl
+orders-insert (q ∷ qs) zero p = refl
+orders-insert (q ∷ qs) (suc k) p = ap (λ ps. order_of q ∷ ps) (orders-insert qs k p)
+
+module _ (x ks : Orders) (k i o : ℕ) (within : k ≤ length ks) (has_order : order_in x i ≡ Some o)
+    (low : 0 < k → (nth ks (k - 1)).1 < o) (high : k < length ks → o < (nth ks k).1) (indexed : IsIndexed x ks) where
+  abbrev later : Orders
+  later = insert ks k (i, o)
+
+  one_more_long : length later ≡ length ks + 1
+  one_more_long = length-insert ks k (i, o) within
+
+  kept_before : (j : ℕ) → j < k → nth later j ≡ nth ks j
+  kept_before j lt = get_or-insert_below ks k (i, o) (0, 0) j lt within
+
+  put_here : (j : ℕ) → j ≡ k → nth later j ≡ (i, o)
+  put_here j is = ap (nth later) is ∙ get_or-insert_at ks k (i, o) (0, 0) within
+
+  moved_after : (j : ℕ) → k < j → nth later j ≡ nth ks (j - 1)
+  moved_after j lt =
+      let is : j ≡ (j - 1) + 1 = omega (arith, lt) in
+      ap (nth later) is ∙ get_or-insert_above ks k (i, o) (0, 0) (j - 1) (omega (arith, lt)) within
+
+  -- by where a place is
+  by_place : (j : ℕ) (P : Type 0) → (j < k → P) → (j ≡ k → P) → (k < j → P) → P
+  by_place j P a b c = elim (nat_lt j k) as (λ t. nat_lt j k ≡ t → P) [
+    | true ↦ λ t. a (grind (arith, nat_tests, t))
+    | false ↦ λ t. elim (nat_lt k j) as (λ u. nat_lt k j ≡ u → P) [
+      | true ↦ λ u. c (grind (arith, nat_tests, u))
+      | false ↦ λ u. b (grind (arith, nat_tests, t, u))
+    ] refl
+  ] refl
+
+  rises_to : (a b : ℕ) → a ≤ b → b < length ks → (nth ks a).1 ≤ (nth ks b).1
+  rises_to a b le less = grind (arith, indexed.rising a b, λ (same : a ≡ b). ap (λ m. (nth ks m).1) same, le, less)
+
+  finds_each : (j : ℕ) → j < length ks + 1 → order_in x (nth later j).0 ≡ Some (nth later j).1
+  finds_each j less = by_place j (order_in x (nth later j).0 ≡ Some (nth later j).1)
+      (λ lt. subst (λ (p : ℕ × ℕ). order_in x p.0 ≡ Some p.1) (sym (kept_before j lt)) (indexed.finds j (omega (arith, lt, within))))
+      (λ is. subst (λ (p : ℕ × ℕ). order_in x p.0 ≡ Some p.1) (sym (put_here j is)) has_order)
+      (λ lt. subst (λ (p : ℕ × ℕ). order_in x p.0 ≡ Some p.1) (sym (moved_after j lt)) (indexed.finds (j - 1) (omega (arith, lt, less))))
+
+  order_same : (p q : ℕ × ℕ) → p ≡ q → p.1 ≡ q.1
+  order_same p q e = ap (λ (r : ℕ × ℕ). r.1) e
+
+  rises_on : (a b : ℕ) → a < b → b < length ks + 1 → (nth later a).1 < (nth later b).1
+  rises_on a b lt less = by_place b ((nth later a).1 < (nth later b).1)
+      (λ left.
+      let p : (nth later a).1 ≡ (nth ks a).1 = order_same _ _ (kept_before a (omega (arith, lt, left))) in
+      let q : (nth later b).1 ≡ (nth ks b).1 = order_same _ _ (kept_before b left) in
+      omega (arith, p, q, indexed.rising a b lt (omega (arith, left, within))))
+      (λ is.
+      let p : (nth later a).1 ≡ (nth ks a).1 = order_same _ _ (kept_before a (omega (arith, lt, is))) in
+      let q : (nth later b).1 ≡ o = order_same _ _ (put_here b is) in
+      omega (arith, p, q, rises_to a (k - 1) (omega (arith, lt, is)) (omega (arith, lt, is, within)), low (omega (arith, lt, is))))
+      (λ right. let q : (nth later b).1 ≡ (nth ks (b - 1)).1 = order_same _ _ (moved_after b right) in
+      by_place a ((nth later a).1 < (nth later b).1)
+      (λ left.
+      let p : (nth later a).1 ≡ (nth ks a).1 = order_same _ _ (kept_before a left) in
+      omega (arith, p, q, indexed.rising a (b - 1) (omega (arith, left, right)) (omega (arith, less, right))))
+      (λ is.
+      let p : (nth later a).1 ≡ o = order_same _ _ (put_here a is) in
+      omega (arith, p, q, high (omega (arith, less, right)), rises_to k (b - 1) (omega (arith, right)) (omega (arith, less, right))))
+      (λ on.
+      let p : (nth later a).1 ≡ (nth ks (a - 1)).1 = order_same _ _ (moved_after a on) in
+      omega (arith, p, q, indexed.rising (a - 1) (b - 1) (omega (arith, on, lt)) (omega (arith, less, right)))))
+
+  pub IsIndexed-insert : IsIndexed x later
+  IsIndexed-insert = record {
+    finds = λ j less. finds_each j (omega (arith, one_more_long, less));
+    rising = λ a b lt less. rises_on a b lt (omega (arith, one_more_long, less));
+  }

@@ -1,19 +1,20 @@
 -- An index that is given the order of an indicator which is new in its row, and rows whose properties are written.
 --     still, next      the index of the row as it was, and with the new property
+--     back      the index of the row to which a property comes back
 --     indexed_set, indexed_removed, indexed_taken, indexed_push      the index of a row that is written
-use Rattle.std.proofs.Common.{◌≡◌, ◌≢◌, ℕ, ◌<◌, ◌≤◌, None, Some, List, [], ◌∷◌, ◌++◌, length, take, set, get_or, sym, ap, subst, ◌∙◌, arith}
-use Rattle.std.specs.List.{position, remove}
+use Rattle.std.proofs.Common.{◌≡◌, ◌≢◌, ℕ, ◌-◌, ◌<◌, ◌≤◌, cond, None, Some, List, [], ◌∷◌, ◌++◌, length, take, set, get_or, sym, ap, subst, ◌∙◌, arith}
+use Rattle.std.specs.List.{position, insert, remove}
 use Rattle.std.specs.Map.{set_value}
-use Rattle.std.specs.Ordering.{nat_cmp}
+use Rattle.std.specs.Ordering.{nat_cmp, eq_by_cmp}
 use Rattle.std.specs.BTreeMap.{insert_entry, is_at}
 use Rattle.std.proofs.lemmas.List.{length-map, map-append}
 use Rattle.lisp_object.specs.declared.datum.Datum.{Datum}
 use Rattle.plist_state.specs.declared.property.NumberedProperty.{NumberedProperty}
-use Rattle.plist_state.specs.Indexed.{Index, Indexes, order_of, orders, nth, index_at, IsRising, IsIndexed, IsIndexedIn}
+use Rattle.plist_state.specs.Indexed.{Index, Indexes, order_of, orders, nth, order_in, index_at, IsRising, IsIndexed, IsIndexedIn}
 use Rattle.plist_state.proofs.Indices.{has}
 use Rattle.plist_state.proofs.ListRows.{number_tied}
 use Rattle.plist_state.proofs.Placing.{inserted, written_at, not_same, index_put, same_some}
-use Rattle.plist_state.proofs.Indexing.{elsewhere, orders-set, orders-remove, orders-take, IsIndexed-remove, IsIndexed-take, IsIndexed-noted, IsIndexed-added}
+use Rattle.plist_state.proofs.Indexing.{elsewhere, orders-set, orders-insert, orders-remove, orders-take, IsIndexed-insert, IsIndexed-remove, IsIndexed-take, IsIndexed-noted, IsIndexed-added}
 
 module _ (old new : Indexes) (n : ℕ) (items : List NumberedProperty) (i o : ℕ) (x later : Index)
     (there : index_at old n ≡ Some x) (is : new ≡ set_value (is_at (nat_cmp n)) old later)
@@ -45,6 +46,32 @@ module _ (old new : Indexes) (n : ℕ) (items : List NumberedProperty) (i o : �
       (subst (IsIndexed later.entries) (sym both)
       (IsIndexed-added x.entries later.entries (orders items) i o (inserted x.entries later.entries i o put) unlike (λ q other. not_same q i other) (number_tied i) (indexed x there)
       (λ k lt. above (indexed x there).rising k (omega (arith, long, lt)))))
+
+-- ---- a property comes back to a place of its row, and the index is given its order
+module _ (old new : Indexes) (n : ℕ) (items : List NumberedProperty) (p : NumberedProperty) (k : ℕ) (x later : Index)
+    (there : index_at old n ≡ Some x) (is : new ≡ set_value (is_at (nat_cmp n)) old later)
+    (put : (q : ℕ) → order_in later.entries q ≡ cond (eq_by_cmp nat_cmp q p.indicator) (Some p.order) (order_in x.entries q))
+    (indexed : IsIndexedIn old n items) (absent : position (has p.indicator) items ≡ None) (within : k ≤ length items)
+    (low : 0 < k → (nth (orders items) (k - 1)).1 < p.order) (high : k < length items → p.order < (nth (orders items) k).1) where
+  as_long : length (orders items) ≡ length items
+  as_long = length-map items order_of
+
+  none : (j : ℕ) → j < length (orders items) → (nth (orders items) j).0 ≢ p.indicator
+  none j lt = elsewhere items p.indicator absent j (omega (arith, as_long, lt))
+
+  known : order_in later.entries p.indicator ≡ Some p.order
+  known = put p.indicator ∙ ap (λ b. cond b (Some p.order) (order_in x.entries p.indicator)) (number_tied p.indicator)
+
+  learnt : IsIndexed later.entries (orders items)
+  learnt = IsIndexed-noted x.entries later.entries (orders items) p.indicator p.order put none (λ q other. not_same q p.indicator other) (number_tied p.indicator) (indexed x there)
+
+  pub back : IsIndexedIn new n (insert items k p)
+  back y e =
+      let same : later ≡ y = same_some later y (sym (index_put old new n (Some later) (written_at old new n x later there is) (number_tied n)) ∙ e) in
+      subst (λ (z : Index). IsIndexed z.entries (orders (insert items k p))) same
+      (subst (IsIndexed later.entries) (sym (orders-insert items k p))
+      (IsIndexed-insert later.entries (orders items) k p.indicator p.order (omega (arith, as_long, within)) known low
+      (λ lt. high (omega (arith, as_long, lt))) learnt))
 
 -- ---- a row that is written, and the indexes as they are
 module _ (indexes : Indexes) (n : ℕ) (items : List NumberedProperty) (indexed : IsIndexedIn indexes n items) where

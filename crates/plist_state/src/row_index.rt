@@ -1,9 +1,10 @@
 //! The index of a long row: the order of each of its properties by the number of its indicator.
-ghost use Rattle.std.specs.Prelude.{◌≡◌, ◌≢◌, ◌<◌, ◌++◌, ◌∷◌, [], ℕ, None, length, IfOk, IfErr, IfSome, OnOk};
-ghost use Rattle.std.specs.List.{position};
+ghost use Rattle.std.specs.Prelude.{◌≡◌, ◌≢◌, ◌≤◌, ◌<◌, ◌-◌, ◌++◌, ◌∷◌, [], ℕ, true, None, Some, cond, length, IfOk, IfErr, IfSome, OnOk};
+ghost use Rattle.std.specs.List.{position, insert};
+ghost use Rattle.std.specs.Ordering.{nat_cmp, eq_by_cmp};
 ghost use Rattle.plist_state.specs.declared.property.NumberedProperty.{NumberedProperty as Numbered};
 ghost use Rattle.plist_state.specs.Lists.{same_number};
-ghost use Rattle.plist_state.specs.Indexed.{orders, nth, IsRising, IsIndexed, IsIndexedIn, KeepsOthers};
+ghost use Rattle.plist_state.specs.Indexed.{Orders, orders, nth, order_in, IsRising, IsIndexed, IsIndexedIn, KeepsOthers};
 
 use crate::property::NumberedProperty;
 use std::alloc::{AllocError, Global};
@@ -177,4 +178,74 @@ pub(crate) fn new_order(
     make_index(alloc, row, indexes, number)?;
     note_order(row, indexes, number, indicator, order)?;
     Ok(order)
+}
+
+// Whether the orders rise where a property of this order comes to a place.
+fn is_between(row: &[NumberedProperty], place: usize, order: u64) -> bool
+    requires { place ≤ length row.now }
+    ensures below { result ≡ true → 0 < place → (nth (orders row.now) (place - 1)).1 < order }
+    ensures above { result ≡ true → place < length row.now → order < (nth (orders row.now) place).1 }
+{
+    if place > 0 && row[place - 1].order >= order {
+        return false;
+    }
+    place == row.len() || order < row[place].order
+}
+
+// Whether a property that comes to a place of the row of a number is new there, and its order between those beside it.
+fn fits(
+    row: &[NumberedProperty],
+    indexes: &Indexes,
+    number: u32,
+    index: usize,
+    property: &NumberedProperty,
+) -> bool
+    requires indexed { IsIndexedIn indexes.now.entries number row.now }
+    requires index { index ≤ length row.now }
+    ensures new { result ≡ true → position (λ p. same_number property.now.indicator p.indicator) row.now ≡ None }
+    ensures below { result ≡ true → 0 < index → (nth (orders row.now) (index - 1)).1 < property.now.order }
+    ensures above { result ≡ true → index < length row.now → property.now.order < (nth (orders row.now) index).1 }
+{
+    if place(row, indexes, number, property.indicator).is_some() {
+        return false;
+    }
+    is_between(row, index, property.order)
+}
+
+// Gives an index the order of an indicator, if it has one, and tells whether it has.
+fn set_order(index: &mut Index, indicator: u32, order: u64) -> bool
+    ensures { result ≡ true → (q : ℕ) → order_in index.new.entries q
+        ≡ cond (eq_by_cmp nat_cmp q indicator) (Some order) (order_in index.old.entries q) }
+{
+    match index.get_mut(&indicator) {
+        Some(known) => {
+            *known = order;
+            true
+        }
+        None => false,
+    }
+}
+
+/// A property comes back to a place of the row of a number: its index knows it then. Where it does not fit, the row has no
+/// index any more.
+pub(crate) fn note_back(
+    row: &[NumberedProperty],
+    indexes: &mut Indexes,
+    number: u32,
+    index: usize,
+    property: &NumberedProperty,
+)
+    requires indexed { IsIndexedIn indexes.old.entries number row.now }
+    requires index { index ≤ length row.now }
+    ensures indexed { IsIndexedIn indexes.new.entries number (insert row.now index property.now) }
+    ensures others { KeepsOthers indexes.old.entries indexes.new.entries number }
+{
+    if fits(row, indexes, number, index, property) {
+        if let Some(known) = indexes.get_mut(&number) {
+            if set_order(known, property.indicator, property.order) {
+                return;
+            }
+        }
+    }
+    let _index = indexes.remove(&number);
 }

@@ -15,7 +15,7 @@ ghost use Rattle.plist_state.specs.Kept.{IsProperRow, IsProperRows, IsProperChan
 use crate::first_items::{put_first, take_first};
 use crate::note::PropertyChange;
 use crate::property::NumberedProperty;
-use crate::row_index::{Indexes, new_order, place};
+use crate::row_index::{Indexes, new_order, note_back, place};
 use lisp_object::Datum;
 use std::alloc::{AllocError, Global};
 use std::collections::BTreeMap;
@@ -197,8 +197,7 @@ fn revert(
         }
         PropertyChange::Removed { index, property } => {
             let index = index.min(row.len());
-            // the next new property makes the index again
-            let _index = indexes.remove(&number);
+            note_back(row.as_slice(), indexes, number, index, &property);
             if let Err(_) = row.insert(index, property) {
                 unreachable!()
             }
