@@ -7,8 +7,7 @@ ghost use Rattle.lisp_operators.specs.Evaluated.{IsArgument};
 ghost use Rattle.lisp_operators.specs.Readtables.{AreFunctionNames};
 
 use crate::read_form::ReadForm;
-use crate::transaction::{are_names, intern_symbols};
-use evaluator::evaluate;
+use crate::transaction::{are_names, attempt};
 use lisp_operators::{Evaluated, EvaluationError};
 use plist_state::World;
 use readtable_core::FnName;
@@ -53,32 +52,8 @@ fn ask(
     ensures marked { IfOk result (λ _. world.new.1 ≡ world.old.1 ++ world.old.0 ∷ []) }
     ensures unchanged { IfErr result (λ _. world.new ≡ world.old) }
 {
-    let mark = world.mark()?;
-    match run(alloc, world, names, form) {
-        Ok(evaluated) => Ok(evaluated),
-        Err(error) => {
-            world.back_to(mark);
-            Err(error)
-        }
-    }
-}
-
-// Interns the symbols of a form, and evaluates it. Where it is refused, or memory runs out, the world is as that left it.
-fn run(
-    alloc: Global,
-    world: &mut World,
-    names: &[FnName],
-    form: &ReadForm,
-) -> Result<Evaluated, EvaluationError>
-    requires names { AreFunctionNames names.now }
-    requires form { MayEvaluate world.old.0.packages form.now }
-    ensures gives { IsAsked names.now (object_of form.now.datum) world.old.0 world.new.0 result }
-    ensures value { IfOk result (λ e. IsArgument world.new.0.packages e.value) }
-    ensures marked { world.new.1 ≡ world.old.1 }
-{
-    world.soundness();
-    match intern_symbols(alloc, world, form) {
-        Ok(_) => evaluate(alloc, world, names, &form.datum),
-        Err(error) => Err(EvaluationError::from(error)),
+    match attempt(alloc, world, names, form) {
+        Ok((_, evaluated)) => Ok(evaluated),
+        Err(error) => Err(error),
     }
 }

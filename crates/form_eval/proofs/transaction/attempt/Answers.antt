@@ -1,7 +1,7 @@
 use Rattle.std.proofs.Common.{sym, subst}
 use Rattle.plist_state.specs.State.{Worlds}
 use Rattle.form_eval.specs.Laws.{MayEvaluate}
-use Rattle.form_eval.proofs.asking.ask.Goals as goal
+use Rattle.form_eval.proofs.transaction.attempt.Goals as goal
 
 pub run-requires-clause-form : goal.run-requires-clause-form
 run-requires-clause-form c =
