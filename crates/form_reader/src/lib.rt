@@ -10,7 +10,8 @@
 //! - specs/Step.antt, specs/EndOfText.antt: what one byte, and the end of the text, are to the outcome; specs/Reader.antt: what a
 //!   reader is after, and what it answers
 //!
-//! - `reader`: `FormReader`, `Advance`, `ReadOutcome`; `reader/feed`: bytes at once; `reader/whole`: `read_one`
+//! - `reader`: `FormReader`, `Advance`, `ReadOutcome`; `reader/feed`: bytes at once; `reader/whole`: `read_one`, which asks
+//!   `plain_reader` first
 //! - `context`: what reading is handed; `state`: where a reader is in the innermost call; `stack`: open calls
 //! - `step`: one byte, wherever a reader is in a form; `step/in_place`: one that goes on what is gathered, where it is gathered;
 //!   `step/object`: one where an object may begin

@@ -225,10 +225,6 @@ pub(crate) fn take_byte<R: MacroFunctions>(
     ensures anew { IfOk result (BeginsAnew stack.new) }
     ensures starts { IfOk result (Starts (setting R.functions with.now) stack.old state start at c) }
 {
-    if let State::Object = &state {
-        let brought = at_object(with, stack, at, c)?;
-        return change_of(with, stack, brought, start, at + 1);
-    }
     match feed(with, stack, state, at, c)? {
         Passed::Brings(event) => change_of(with, stack, event, start, at + 1),
         Passed::Done(found) => done_before(with, stack, found, start, at, c),

@@ -10,6 +10,7 @@ ghost use Rattle.form_reader.specs.Reader.{IsOutcome};
 use crate::reader::{Advance, FormReader, ReadOutcome};
 use lisp_reading::Limits;
 use package_table::Packages;
+use plain_reader::read_plain;
 use readtable_core::Readtable;
 use std::alloc::{AllocError, Global};
 use user_macros::MacroFunctions;
@@ -37,6 +38,15 @@ pub fn read_one<R: MacroFunctions>(
     ensures blank { 0 < limits.text → list_all (is_whitespace readtable.now) bytes.now ≡ true
         → result ≡ Ok ReadEmpty }
 {
+    // Most forms are plain, and need no reader of bytes.
+    if let Some(plain) = read_plain(alloc, limits, readtable, base, packages, current, bytes)? {
+        return Ok(ReadOutcome::Form {
+            datum: plain.datum,
+            start: 0,
+            end: plain.end,
+            next: plain.end,
+        });
+    }
     let mut reader = FormReader::new(alloc, limits);
     if bytes.is_empty() {
         return reader.finish(readtable, base, packages, current, macros);

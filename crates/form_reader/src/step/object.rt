@@ -85,15 +85,7 @@ pub(crate) fn after_token<R: MacroFunctions>(
 pub(crate) fn is_blank(syntax: Syntax) -> bool
     ensures { result ≡ is_blank syntax }
 {
-    match syntax {
-        Syntax::Whitespace => true,
-        Syntax::TerminatingMacro => false,
-        Syntax::NonTerminatingMacro => false,
-        Syntax::Invalid => false,
-        Syntax::Constituent => false,
-        Syntax::SingleEscape => false,
-        Syntax::MultipleEscape => false,
-    }
+    matches!(syntax, Syntax::Whitespace)
 }
 
 /// What a byte is after what was found before it.
@@ -143,13 +135,11 @@ pub(crate) fn stands_alone(syntax: Syntax) -> bool
     ensures { result ≡ stands_alone syntax }
 {
     match syntax {
-        Syntax::Whitespace => true,
-        Syntax::TerminatingMacro => true,
-        Syntax::NonTerminatingMacro => true,
-        Syntax::Invalid => true,
-        Syntax::Constituent => false,
-        Syntax::SingleEscape => false,
-        Syntax::MultipleEscape => false,
+        Syntax::Whitespace
+        | Syntax::TerminatingMacro
+        | Syntax::NonTerminatingMacro
+        | Syntax::Invalid => true,
+        Syntax::Constituent | Syntax::SingleEscape | Syntax::MultipleEscape => false,
     }
 }
 

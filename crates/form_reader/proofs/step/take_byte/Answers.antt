@@ -19,7 +19,7 @@ returns-in-Done-clause-turns g c = λ cs.
 pub returns-in-Brings-clause-turns : goal.returns-in-Brings-clause-turns
 returns-in-Brings-clause-turns g c = λ cs.
     let setting = setting g.R.MacroFunctions.functions c.args.with.now in
-    c.change_of-in-Brings.ensures.turns cs _ (taken_brings setting c.feed.new.stack c.args.at c.args.c cs c.in_ok-event.field-0 c.in-Brings.event _ c.in-Brings.is (c.in_ok-event.ensures.passes cs))
+    c.change_of.ensures.turns cs _ (taken_brings setting c.feed.new.stack c.args.at c.args.c cs c.in_ok-event.field-0 c.in-Brings.event _ c.in-Brings.is (c.in_ok-event.ensures.passes cs))
 
 pub returns-in-Done-clause-starts : goal.returns-in-Done-clause-starts
 returns-in-Done-clause-starts g c =
@@ -30,4 +30,4 @@ returns-in-Done-clause-starts g c =
 pub returns-in-Brings-clause-starts : goal.returns-in-Brings-clause-starts
 returns-in-Brings-clause-starts g c =
     let setting = setting g.R.MacroFunctions.functions c.args.with.now in
-    kept_starts setting c.args.stack.now c.args.state c.args.start c.args.at c.args.c c.change_of-in-Brings.result c.change_of-in-Brings.ensures.starts
+    kept_starts setting c.args.stack.now c.args.state c.args.start c.args.at c.args.c c.change_of.result c.change_of.ensures.starts

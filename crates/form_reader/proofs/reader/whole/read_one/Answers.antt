@@ -1,9 +1,26 @@
-use Rattle.std.proofs.Common.{◌<◌, [], length, sym, subst, ◌∙◌}
+use Rattle.std.proofs.Common.{◌≡◌, ◌<◌, ◌++◌, true, List, ℕ, [], length, Option, IfSome, append-nil, sym, subst, ◌∙◌}
 use Rattle.std.proofs.lemmas.Bool.{eqb-true}
+use Rattle.lisp_object.specs.Object.{IsSound}
+use Rattle.lisp_object.specs.Datum.{is_proper, object_of}
 use Rattle.lisp_reading.specs.declared.limits.Limits.{Limits}
+use Rattle.lisp_reading.specs.Reading.{form, reads}
+use Rattle.plain_reader.specs.declared.plain.PlainForm.{PlainForm}
 use Rattle.lisp_reading.specs.Setting.{Setting, setting_of}
 use Rattle.form_reader.proofs.Feeds.{whole_form, whole_refusal, whole_after, finished_whole, finished_none, none_in, decided_not_more, form_is, refused_is}
 use Rattle.form_reader.proofs.reader.whole.read_one.Goals as goal
+
+pub returns-in-Some-clause-outcome : goal.returns-in-Some-clause-outcome
+returns-in-Some-clause-outcome g c =
+    let functions = g.R.MacroFunctions.functions c.args.macros.now in
+    let setting = setting_of c.args.limits c.args.readtable.now c.args.base c.args.packages.now.0 c.args.current.now functions in
+    let bytes = c.args.bytes.now in
+    let f = c.in-Some.plain in (
+      subst (λ (t : List ℕ). reads setting t ≡ form (object_of f.datum) 0 f.end f.end) (append-nil bytes)
+          (subst (λ (o : Option PlainForm). IfSome o (λ f. reads setting (bytes ++ []) ≡ form (object_of f.datum) 0 f.end f.end)) c.in-Some.is
+          (c.in_ok-plain.ensures.form functions [])),
+      subst (λ (o : Option PlainForm). IfSome o (λ f. is_proper f.datum ≡ true)) c.in-Some.is c.in_ok-plain.ensures.proper,
+      subst (λ (o : Option PlainForm). IfSome o (λ f. IsSound (object_of f.datum))) c.in-Some.is c.in_ok-plain.ensures.sound,
+    )
 
 pub returns-in-Form-clause-outcome : goal.returns-in-Form-clause-outcome
 returns-in-Form-clause-outcome g c =
