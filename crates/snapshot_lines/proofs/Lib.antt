@@ -1,1 +1,2 @@
 pub mod NextLine
+pub mod Quoted

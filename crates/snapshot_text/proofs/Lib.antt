@@ -5,6 +5,7 @@ pub mod PartCounts
 pub mod PartSteps
 pub mod Gave
 pub mod ReadRows
+pub mod PackageRows
 pub mod PackageLists
 pub mod Begins
 pub mod AllPackages

@@ -1,5 +1,5 @@
 -- The line of property lists, row by row: how each row is read, and what stands between the rows.
-use Rattle.std.proofs.Common.{◌≡◌, ℕ, ◌+◌, ◌≤◌, ◌<◌, true, List, [], ◌∷◌, ◌++◌, length, map, drop, get_or, min, append_assoc, Option, inl, inr, refl, sym, ap, ◌∙◌, arith}
+use Rattle.std.proofs.Common.{◌≡◌, ℕ, ◌+◌, ◌≤◌, ◌<◌, true, List, [], ◌∷◌, ◌++◌, length, map, drop, get_or, min, append_assoc, inl, inr, refl, sym, ap, ◌∙◌, arith}
 use Rattle.std.specs.Prelude.{codes, ◌⊎◌}
 use Rattle.std.proofs.lemmas.List.{drop_more}
 use Rattle.std.proofs.Math.ListN.{drop_of_length-le}
@@ -7,8 +7,6 @@ use Rattle.std.proofs.Math.Nat.{eq-or-lt_of_le}
 use Rattle.lisp_object.specs.Object.{Object, list_of}
 use Rattle.readtable_core.specs.Tables.{standard}
 use Rattle.token_scan.specs.Spelling.{may_end}
-use Rattle.user_macros.specs.declared.call.Gather.{Gather}
-use Rattle.user_macros.specs.Calls.{MacroCall, MacroAnswer}
 use Rattle.package_table.specs.Table.{Name, common_lisp_user}
 use Rattle.canon_printer.specs.Written.{written_rest}
 use Rattle.canon_printer.specs.Printed.{printed, printed_prefix}

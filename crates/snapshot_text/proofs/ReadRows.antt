@@ -1,14 +1,12 @@
--- Lists of data, read item by item.
+-- Lists, item by item.
 use Rattle.std.proofs.Common.{◌≡◌, ℕ, ◌+◌, ◌<◌, Bool, true, false, List, [], ◌∷◌, ◌++◌, map, length, get_or, refl, sym, ap, subst, ◌∙◌, inl, inr, length-append, arith}
+use Rattle.std.specs.Prelude.{All}
 use Rattle.std.specs.List.{list_all}
 use Rattle.std.proofs.lemmas.Bool.{false≢true}
 use Rattle.std.proofs.Math.Nat.{eq-or-lt_of_le}
 use Rattle.std.proofs.Math.Seq.{get_or-append_seam}
 use Rattle.std.proofs.lemmas.List.{length-map, get_or-map, get_or_append_left}
 use Rattle.std.proofs.lemmas.List.Folds.{list_all_at}
-use Rattle.lisp_object.specs.declared.datum.Datum.{Datum}
-use Rattle.lisp_object.specs.Object.{Object}
-use Rattle.lisp_object.specs.Datum.{object_of}
 use Rattle.package_table.specs.Table.{Table}
 use Rattle.snapshot_text.specs.declared.package_parts.PackageParts.{PackageParts}
 use Rattle.snapshot_text.specs.Phases.{IsRowOf, AreFirstRows, other_packages}
@@ -34,8 +32,11 @@ passing_item test xs all i d lt =
       | false ↦ λ no. absurd (false≢true (sym (list_all_at test xs i d lt no) ∙ all))
     ] refl
 
-pub read_item : (items : List Datum) (xs : List Object) → map object_of items ≡ xs → (i : ℕ) (d : Datum) → i < length items → object_of (get_or items i d) ≡ get_or xs i (object_of d)
-read_item items xs is i d lt = sym (get_or-map object_of items i d (object_of d) lt) ∙ ap (λ zs. get_or zs i (object_of d)) is
+-- what holds of the items of a mapped list
+pub of_mapped : {A B : Type 0} (P : B → Type 0) (f : A → B) (xs : List A) → All P (map f xs) → All (λ x. P (f x)) xs
+of_mapped P f xs all = λ k d lt.
+    let long = length-map xs f in
+    subst P (get_or-map f xs k d (f d) lt) (all k (f d) (omega arith))
 
 -- ---- rows
 

@@ -1,19 +1,25 @@
 -- What is there, phase by phase, while the packages of a world are made from those of a snapshot: first all packages with the
 -- symbols at home in them, then what they import, what is external and what they use.
-use Rattle.std.specs.Prelude.{◌≡◌, ◌<◌, ℕ, true, not, List, [], map, filter, length, bytes_eq, slice_index_or}
-use Rattle.std.specs.List.{list_all}
-use Rattle.lisp_object.specs.Object.{text}
-use Rattle.lisp_object.specs.Datum.{object_of, is_proper}
+use Rattle.std.specs.Prelude.{◌≡◌, ◌≢◌, ◌<◌, ℕ, not, List, [], map, filter, length, bytes_eq, slice_index_or}
 use Rattle.package_table.specs.Table.{Name, Table, common_lisp, IsPackage, IsPresent, IsExternal, Uses, IsSound}
 use Rattle.package_table.specs.Readers.{package_names, used_names, imports}
 use Rattle.snapshot_text.specs.declared.package_parts.PackageParts.{PackageParts}
-use Rattle.world_text.specs.Snapshot.{made_names, shown_names, imported_name}
+use Rattle.world_text.specs.Snapshot.{made_names, shown_names}
+use Rattle.snapshot_lines.specs.Texts.{unescaped, unescaped_pair}
 use Rattle.snapshot_text.specs.Part.{IsPartOf}
 
 -- t has the package p, with the symbols that are at home there in s
 pub record HasOwn (t s : Table) (p : Name) : Type 0 where
   pub there : IsPackage t p
   pub names : (n : Name) → IsPresent s p n p → IsPresent t p n p
+
+-- a name and the home, another one, of a symbol that is present in p
+abbrev pub IsImport : Table → Name → Name × Name → Type 0
+IsImport t p r = IsPresent t p r.0 r.1 × (r.1 ≢ p)
+
+-- a name that is present in p from this home
+abbrev pub HasImport : Table → Name → Name × Name → Type 0
+HasImport t p r = IsPresent t p r.0 r.1
 
 -- t has in p all symbols that are present there in s
 pub record HasSymbols (t s : Table) (p : Name) : Type 0 where
@@ -33,18 +39,13 @@ pub record IsBegun (t s : Table) : Type 0 where
   pub part : IsPartOf t s
   pub own : (q : Name) → IsPackage s q → HasOwn t s q
 
--- a row of data that says of p what s has
+-- a row that says of p what s has
 pub record IsRowOf (s : Table) (p : Name) (row : PackageParts) : Type 0 where
-  pub name : object_of row.name.now ≡ text p
-  pub used : map object_of row.used.now ≡ map (λ n. text n) (used_names s p)
-  pub own : map object_of row.own.now ≡ map (λ n. text n) (made_names s p)
-  pub shown : map object_of row.shown.now ≡ map (λ n. text n) (shown_names s p)
-  pub imported : map object_of row.imported.now ≡ map imported_name (imports s p)
-  pub proper_name : is_proper row.name.now ≡ true
-  pub proper_used : list_all is_proper row.used.now ≡ true
-  pub proper_own : list_all is_proper row.own.now ≡ true
-  pub proper_shown : list_all is_proper row.shown.now ≡ true
-  pub proper_imported : list_all is_proper row.imported.now ≡ true
+  pub name : unescaped row.name.now ≡ p
+  pub used : map (λ b. unescaped b.now) row.used.items ≡ used_names s p
+  pub own : map (λ b. unescaped b.now) row.own.items ≡ made_names s p
+  pub shown : map (λ b. unescaped b.now) row.shown.items ≡ shown_names s p
+  pub imported : map unescaped_pair row.imported.items ≡ imports s p
 
 -- the packages of s but COMMON-LISP, in the order of their names
 abbrev pub other_packages : Table → List Name

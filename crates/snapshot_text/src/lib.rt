@@ -8,12 +8,14 @@
 //!
 //! - `reader`: `read`, and `read_with_seed`, which hashes the names of the world by a seed; `property_lines`: the line of
 //!   property lists, of which one row is in memory at a time; snapshot_lines reads the objects
-//! - `package_parts` (over `own_parts`), `property_parts`, `table_parts`: a world made from data, by its own calls; `parts`:
-//!   texts, lists and numbers in data; `known`: which data may be stored
+//! - `package_parts` (over `own_parts`): the packages, made from their line, of which each text stays where it is written;
+//!   `property_parts`, `table_parts`: the rest of a world, made from data by its own calls; `parts`: texts, lists and numbers in
+//!   data; `known`: which data may be stored
 //! - `error`: `SnapshotError`
 //!
 //! # Lemmas for the crates above
 //!
+//! - proofs/PackageRows.antt: the line of packages, part by part.
 //! - proofs/PackageLists.antt, proofs/OwnNames.antt: what the lists of packages and of their names say.
 //! - proofs/PartFinds.antt, proofs/PartMakes.antt, proofs/PartSteps.antt: packages that are a part of others, while they are made.
 //! - proofs/PartSame.antt, proofs/AllPackages.antt: where all is made, the packages are the same.

@@ -1,21 +1,17 @@
-//! A package of a world, with the symbols at home in it, made from a row of the first object of a snapshot.
-ghost use Rattle.std.specs.Prelude.{◌≡◌, ◌≢◌, ◌<◌, All, true, map};
-ghost use Rattle.std.specs.List.{list_all};
-ghost use Rattle.lisp_object.specs.Object.{text};
-ghost use Rattle.lisp_object.specs.Datum.{object_of, is_proper};
-ghost use Rattle.package_table.specs.Table.{Name, Table, IsPackage, IsSound, common_lisp};
+//! A package of a world, with the symbols at home in it, made from a row of the first line of a snapshot.
+ghost use Rattle.std.specs.Prelude.{◌≡◌, ◌≢◌, ◌<◌, All, map};
+ghost use Rattle.package_table.specs.Table.{Table, IsPackage, IsPresent, IsSound, common_lisp};
 ghost use Rattle.package_table.specs.Growth.{Grows};
 ghost use Rattle.plist_state.specs.Changes.{with_packages};
 ghost use Rattle.world_text.specs.Snapshot.{made_names};
+ghost use Rattle.snapshot_lines.specs.Texts.{unescaped};
+ghost use Rattle.snapshot_lines.specs.Answers.{OrNoMemory};
 ghost use Rattle.snapshot_text.specs.Part.{IsPartOf};
 ghost use Rattle.snapshot_text.specs.Phases.{HasOwn};
-ghost use Rattle.snapshot_text.specs.Own.{IsOwnName, HasOwnName};
-ghost use Rattle.snapshot_text.specs.Answers.{OrNoMemory};
 
-use crate::parts::name_in;
-use lisp_object::Datum;
 use plist_state::World;
-use snapshot_lines::BuildError;
+use snapshot_lines::{BuildError, name_of};
+use std::alloc::Global;
 
 // Makes a package of this name, where there is none.
 fn make_owner(world: &mut World, owner: &[u8]) -> Result<(), BuildError>
@@ -34,47 +30,58 @@ fn make_owner(world: &mut World, owner: &[u8]) -> Result<(), BuildError>
 }
 
 // Makes the symbol that a text names, where the package has none of that name.
-fn intern_one(world: &mut World, owner: &[u8], name: &Datum) -> Result<(), BuildError>
+fn intern_one(alloc: Global, world: &mut World, owner: &[u8], name: &[u8]) -> Result<(), BuildError>
     ensures there { (s : Table) → IsSound s → IsPartOf world.old.0.packages s
         → IsPackage world.old.0.packages owner.now → owner.now ≢ common_lisp
-        → IsOwnName s owner.now name.now
+        → IsPresent s owner.now (unescaped name.now) owner.now
         → OrNoMemory (IsPartOf world.new.0.packages s
-        × HasOwnName world.new.0.packages owner.now name.now) result }
+        × IsPresent world.new.0.packages owner.now (unescaped name.now) owner.now) result }
     ensures rest { world.new ≡ (with_packages world.old.0 world.new.0.packages, world.old.1) }
     ensures grows { Grows world.old.0.packages world.new.0.packages }
 {
     world.packages().soundness();
-    world.intern(owner, name_in(name)?)?;
+    let name = name_of(alloc, name)?;
+    world.intern(owner, name.as_slice())?;
     Ok(())
 }
 
-fn intern_each(world: &mut World, owner: &[u8], names: &[Datum]) -> Result<(), BuildError>
+fn intern_each(
+    alloc: Global,
+    world: &mut World,
+    owner: &[u8],
+    names: &[&[u8]],
+) -> Result<(), BuildError>
     ensures there { (s : Table) → IsSound s → IsPartOf world.old.0.packages s
         → IsPackage world.old.0.packages owner.now → owner.now ≢ common_lisp
-        → All (IsOwnName s owner.now) names.now
+        → All (λ b. IsPresent s owner.now (unescaped b.now) owner.now) names.now
         → OrNoMemory (IsPartOf world.new.0.packages s
-        × All (HasOwnName world.new.0.packages owner.now) names.now) result }
+        × All (λ b. IsPresent world.new.0.packages owner.now (unescaped b.now) owner.now) names.now) result }
     ensures rest { world.new ≡ (with_packages world.old.0 world.new.0.packages, world.old.1) }
     ensures grows { Grows world.old.0.packages world.new.0.packages }
 {
     for name in names {
-        intern_one(world, owner, name)?;
+        intern_one(alloc, world, owner, name)?;
     }
     Ok(())
 }
 
 /// Makes a package, where it is none of the first, and its own symbols.
-pub(crate) fn make_own(world: &mut World, name: &Datum, own: &[Datum]) -> Result<(), BuildError>
-    ensures own { (s : Table) (p : Name) → IsSound s → IsPackage s p → p ≢ common_lisp
-        → IsPartOf world.old.0.packages s → object_of name.now ≡ text p → is_proper name.now ≡ true
-        → map object_of own.now ≡ map (λ n. text n) (made_names s p)
-        → list_all is_proper own.now ≡ true
-        → OrNoMemory (IsPartOf world.new.0.packages s × HasOwn world.new.0.packages s p) result }
+pub(crate) fn make_own(
+    alloc: Global,
+    world: &mut World,
+    name: &[u8],
+    own: &[&[u8]],
+) -> Result<(), BuildError>
+    ensures own { (s : Table) → IsSound s → IsPackage s (unescaped name.now)
+        → unescaped name.now ≢ common_lisp → IsPartOf world.old.0.packages s
+        → map (λ b. unescaped b.now) own.now ≡ made_names s (unescaped name.now)
+        → OrNoMemory (IsPartOf world.new.0.packages s
+        × HasOwn world.new.0.packages s (unescaped name.now)) result }
     ensures rest { world.new ≡ (with_packages world.old.0 world.new.0.packages, world.old.1) }
     ensures grows { Grows world.old.0.packages world.new.0.packages }
 {
     world.packages().soundness();
-    let owner = name_in(name)?;
-    make_owner(world, owner)?;
-    intern_each(world, owner, own)
+    let owner = name_of(alloc, name)?;
+    make_owner(world, owner.as_slice())?;
+    intern_each(alloc, world, owner.as_slice(), own)
 }

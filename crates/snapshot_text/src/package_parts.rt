@@ -1,47 +1,64 @@
-//! The packages of a world, made from the first object of a snapshot.
-ghost use Rattle.std.specs.Prelude.{◌≡◌, ◌≢◌, true, [], ◌∷◌, ◌++◌, IfOk};
-ghost use Rattle.lisp_object.specs.Object.{text};
-ghost use Rattle.lisp_object.specs.Datum.{object_of, is_proper};
-ghost use Rattle.package_table.specs.Table.{Name, Table, common_lisp, keyword, IsPresent, IsExternal, IsSound, Uses};
+//! The packages of a world, made from the first line of a snapshot. No text of the line is copied but one at a time.
+ghost use Rattle.std.specs.Prelude.{◌≡◌, ◌≢◌, ◌<◌, ◌++◌, ℕ, List, [], ◌∷◌, All, length, map, IfOk};
+ghost use Rattle.package_table.specs.Table.{Name, Table, common_lisp, keyword, IsPackage, IsPresent, IsExternal, IsSound, Uses};
 ghost use Rattle.package_table.specs.Growth.{Grows};
 ghost use Rattle.plist_state.specs.Changes.{with_packages};
+ghost use Rattle.world_text.specs.Snapshot.{package_object, packages_object};
+ghost use Rattle.world_text.specs.Texts.{object_text};
+ghost use Rattle.snapshot_lines.specs.Texts.{unescaped, unescaped_pair, texts_text};
+ghost use Rattle.snapshot_lines.specs.Answers.{Makes, OrNoMemory};
 ghost use Rattle.snapshot_text.specs.Part.{IsPartOf};
-ghost use Rattle.snapshot_text.specs.Phases.{HasSymbols, HasExternals, HasUses, IsBegun, IsRowOf, AreRowsOf, Everywhere};
-ghost use Rattle.world_text.specs.Snapshot.{imported_name, package_object, packages_object};
-ghost use Rattle.snapshot_text.specs.Answers.{Makes, OrNoMemory, Succeeds};
+ghost use Rattle.snapshot_text.specs.Phases.{IsImport, HasImport, HasOwn, HasSymbols, HasExternals, HasUses, IsBegun, IsRowOf, AreRowsOf, Everywhere};
 
 use crate::own_parts::make_own;
-use crate::parts::{items_in, name_in, text_in};
-use lisp_object::Datum;
 use plist_state::World;
-use snapshot_lines::BuildError;
+use snapshot_lines::{
+    BuildError, Coming, after_byte, coming_item, name_of, pairs_in, text_of, texts_in, written_text,
+};
 use std::alloc::{AllocError, Global};
 
-// A package as a snapshot has it.
+// A package as a snapshot has it: each text as it is written.
 #[derive(Drop)]
 struct PackageParts<'a> {
-    name: &'a Datum,
-    used: &'a [Datum],
-    own: &'a [Datum],
-    shown: &'a [Datum],
-    imported: &'a [Datum],
+    name: &'a [u8],
+    used: Vec<&'a [u8]>,
+    own: Vec<&'a [u8]>,
+    shown: Vec<&'a [u8]>,
+    imported: Vec<(&'a [u8], &'a [u8])>,
 }
 
-// The parts of a row.
-fn package_parts(row: &Datum) -> Result<PackageParts<'_>, BuildError>
-    ensures { (s : Table) (p : Name) → is_proper row.now ≡ true
-        → object_of row.now ≡ package_object s p → Succeeds result (λ parts. IsRowOf s p parts) }
+// The texts of the list that begins after a space, and what stands after it.
+fn later_texts(alloc: Global, bytes: &[u8]) -> Result<(Vec<&[u8]>, &[u8]), BuildError>
+    ensures texts { (names : List Name) (after : List ℕ)
+        → bytes.now ≡ 32 ∷ (texts_text names ++ after)
+        → Makes result (λ read. (map (λ b. unescaped b.now) read.0.items ≡ names)
+        × (read.1.now ≡ after)) }
+    ensures shorter { IfOk result (λ read. length read.1.now < length bytes.now) }
 {
-    let [name, used, own, shown, imported] = items_in(row)? else {
-        return Err(BuildError::Damaged);
-    };
-    Ok(PackageParts {
+    texts_in(alloc, after_byte(bytes, b' ')?)
+}
+
+// The package whose row begins here, and what stands after it.
+fn package_parts(alloc: Global, bytes: &[u8]) -> Result<(PackageParts<'_>, &[u8]), BuildError>
+    ensures row { (s : Table) (p : Name) (after : List ℕ) → IsSound s
+        → bytes.now ≡ object_text s (package_object s p) ++ after
+        → Makes result (λ read. IsRowOf s p read.0 × (read.1.now ≡ after)) }
+    ensures shorter { IfOk result (λ read. length read.1.now < length bytes.now) }
+{
+    let (name, rest) = written_text(after_byte(bytes, b'(')?)?;
+    let (used, rest) = later_texts(alloc, rest)?;
+    let (own, rest) = later_texts(alloc, rest)?;
+    let (shown, rest) = later_texts(alloc, rest)?;
+    let (imported, rest) = pairs_in(alloc, after_byte(rest, b' ')?)?;
+    let after = after_byte(rest, b')')?;
+    let parts = PackageParts {
         name,
-        used: items_in(used)?,
-        own: items_in(own)?,
-        shown: items_in(shown)?,
-        imported: items_in(imported)?,
-    })
+        used,
+        own,
+        shown,
+        imported,
+    };
+    Ok((parts, after))
 }
 
 fn push_parts<'a>(
@@ -54,42 +71,40 @@ fn push_parts<'a>(
     Ok(())
 }
 
-// The rows of all packages.
-fn rows_in(alloc: Global, packages: &Datum) -> Result<Vec<PackageParts<'_>>, BuildError>
-    ensures { (s : Table) → is_proper packages.now ≡ true
-        → object_of packages.now ≡ packages_object s
-        → Makes result (λ rows. AreRowsOf s rows.items) }
+// The rows of all packages, of which the list begins here, and what stands after it.
+fn rows_in(alloc: Global, bytes: &[u8]) -> Result<(Vec<PackageParts<'_>>, &[u8]), BuildError>
+    ensures { (s : Table) (after : List ℕ) → IsSound s
+        → bytes.now ≡ object_text s (packages_object s) ++ after
+        → Makes result (λ read. AreRowsOf s read.0.items × (read.1.now ≡ after)) }
 {
     let mut rows = Vec::new(alloc);
-    for row in items_in(packages)? {
-        push_parts(&mut rows, package_parts(row)?)?;
+    let mut rest = bytes;
+    'rows: loop {
+        match coming_item(rest)? {
+            Coming::End(after) => return Ok((rows, after)),
+            Coming::Item(item) => {
+                let (parts, after) = package_parts(alloc, item)?;
+                push_parts(&mut rows, parts)?;
+                rest = after;
+            }
+        }
     }
-    Ok(rows)
-}
-
-// The name and the home of an import.
-fn import_parts(import: &Datum) -> Result<(&[u8], &[u8]), BuildError>
-    ensures { (n h : Name) → is_proper import.now ≡ true
-        → object_of import.now ≡ imported_name (n, h)
-        → Succeeds result (λ parts. (parts.0.now ≡ n) × (parts.1.now ≡ h)) }
-{
-    let [name, home] = items_in(import)? else {
-        return Err(BuildError::Damaged);
-    };
-    Ok((text_in(name)?.as_slice(), text_in(home)?.as_slice()))
 }
 
 // Imports a symbol, which is given by its name and its home.
-fn import_one(world: &mut World, owner: &[u8], import: &Datum) -> Result<(), BuildError>
-    ensures made { (s : Table) (p n h : Name) → IsBegun world.old.0.packages s → owner.now ≡ p
-        → p ≢ common_lisp → is_proper import.now ≡ true
-        → object_of import.now ≡ imported_name (n, h) → IsPresent s p n h → h ≢ p
+fn import_symbol(
+    world: &mut World,
+    owner: &[u8],
+    name: &[u8],
+    home: &[u8],
+) -> Result<(), BuildError>
+    ensures made { (s : Table) (p : Name) → IsBegun world.old.0.packages s → owner.now ≡ p
+        → p ≢ common_lisp → IsPresent s p name.now home.now → home.now ≢ p
         → OrNoMemory (IsPartOf world.new.0.packages s
-        × IsPresent world.new.0.packages p n h) result }
+        × IsPresent world.new.0.packages p name.now home.now) result }
     ensures grows { Grows world.old.0.packages world.new.0.packages }
     ensures rest { world.new ≡ (with_packages world.old.0 world.new.0.packages, world.old.1) }
 {
-    let (name, home) = import_parts(import)?;
     if !world.packages().is_symbol(home, name) {
         return Err(BuildError::Damaged);
     }
@@ -97,8 +112,47 @@ fn import_one(world: &mut World, owner: &[u8], import: &Datum) -> Result<(), Bui
     Ok(())
 }
 
+// The same of texts as they are written.
+fn import_one(
+    alloc: Global,
+    world: &mut World,
+    owner: &[u8],
+    import: (&[u8], &[u8]),
+) -> Result<(), BuildError>
+    ensures made { (s : Table) (p : Name) → IsBegun world.old.0.packages s → owner.now ≡ p
+        → p ≢ common_lisp → IsImport s p (unescaped_pair import.entry)
+        → OrNoMemory (IsPartOf world.new.0.packages s
+        × HasImport world.new.0.packages p (unescaped_pair import.entry)) result }
+    ensures grows { Grows world.old.0.packages world.new.0.packages }
+    ensures rest { world.new ≡ (with_packages world.old.0 world.new.0.packages, world.old.1) }
+{
+    let (name, home) = import;
+    let name = text_of(alloc, name)?;
+    let home = text_of(alloc, home)?;
+    import_symbol(world, owner, name.as_slice(), home.as_slice())
+}
+
+fn import_pairs(
+    alloc: Global,
+    world: &mut World,
+    owner: &[u8],
+    imports: &[(&[u8], &[u8])],
+) -> Result<(), BuildError>
+    ensures made { (s : Table) (p : Name) → IsBegun world.old.0.packages s → owner.now ≡ p
+        → p ≢ common_lisp → All (λ b. IsImport s p (unescaped_pair b)) imports.now
+        → OrNoMemory (IsPartOf world.new.0.packages s
+        × All (λ b. HasImport world.new.0.packages p (unescaped_pair b)) imports.now) result }
+    ensures grows { Grows world.old.0.packages world.new.0.packages }
+    ensures rest { world.new ≡ (with_packages world.old.0 world.new.0.packages, world.old.1) }
+{
+    for import in imports {
+        import_one(alloc, world, owner, *import)?;
+    }
+    Ok(())
+}
+
 // Imports what a package has from other homes.
-fn import_each(world: &mut World, row: &PackageParts<'_>) -> Result<(), BuildError>
+fn import_each(alloc: Global, world: &mut World, row: &PackageParts<'_>) -> Result<(), BuildError>
     ensures made { (s : Table) (p : Name) → IsBegun world.old.0.packages s → IsRowOf s p row.now
         → p ≢ common_lisp
         → OrNoMemory (IsPartOf world.new.0.packages s
@@ -106,32 +160,63 @@ fn import_each(world: &mut World, row: &PackageParts<'_>) -> Result<(), BuildErr
     ensures grows { Grows world.old.0.packages world.new.0.packages }
     ensures rest { world.new ≡ (with_packages world.old.0 world.new.0.packages, world.old.1) }
 {
-    let owner = text_in(row.name)?.as_slice();
-    for import in row.imported {
-        import_one(world, owner, import)?;
-    }
-    Ok(())
+    let owner = text_of(alloc, row.name)?;
+    import_pairs(alloc, world, owner.as_slice(), row.imported.as_slice())
 }
 
 // Makes the symbol that a package has by this name external.
-fn export_one(world: &mut World, owner: &[u8], name: &Datum) -> Result<(), BuildError>
-    ensures made { (s : Table) (p n : Name) → IsBegun world.old.0.packages s
+fn export_symbol(world: &mut World, owner: &[u8], name: &[u8]) -> Result<(), BuildError>
+    requires { All (λ b. b < 128) name.now }
+    ensures made { (s : Table) (p : Name) → IsBegun world.old.0.packages s
         → HasSymbols world.old.0.packages s p → owner.now ≡ p → p ≢ common_lisp → p ≢ keyword
-        → is_proper name.now ≡ true → object_of name.now ≡ text n → IsExternal s p n
+        → IsExternal s p name.now
         → OrNoMemory (IsPartOf world.new.0.packages s
-        × IsExternal world.new.0.packages p n) result }
+        × IsExternal world.new.0.packages p name.now) result }
     ensures grows { Grows world.old.0.packages world.new.0.packages }
     ensures rest { world.new ≡ (with_packages world.old.0 world.new.0.packages, world.old.1) }
 {
-    let name = name_in(name)?;
     world.soundness();
     let interned = world.intern(owner, name)?;
     world.export(owner, interned.home.as_slice(), name)?;
     Ok(())
 }
 
+// The same of a text as it is written.
+fn export_one(alloc: Global, world: &mut World, owner: &[u8], name: &[u8]) -> Result<(), BuildError>
+    ensures made { (s : Table) (p : Name) → IsBegun world.old.0.packages s
+        → HasSymbols world.old.0.packages s p → owner.now ≡ p → p ≢ common_lisp → p ≢ keyword
+        → IsExternal s p (unescaped name.now)
+        → OrNoMemory (IsPartOf world.new.0.packages s
+        × IsExternal world.new.0.packages p (unescaped name.now)) result }
+    ensures grows { Grows world.old.0.packages world.new.0.packages }
+    ensures rest { world.new ≡ (with_packages world.old.0 world.new.0.packages, world.old.1) }
+{
+    let name = name_of(alloc, name)?;
+    export_symbol(world, owner, name.as_slice())
+}
+
+fn export_names(
+    alloc: Global,
+    world: &mut World,
+    owner: &[u8],
+    names: &[&[u8]],
+) -> Result<(), BuildError>
+    ensures made { (s : Table) (p : Name) → IsBegun world.old.0.packages s
+        → HasSymbols world.old.0.packages s p → owner.now ≡ p → p ≢ common_lisp
+        → All (λ b. (p ≢ keyword) × IsExternal s p (unescaped b.now)) names.now
+        → OrNoMemory (IsPartOf world.new.0.packages s
+        × All (λ b. IsExternal world.new.0.packages p (unescaped b.now)) names.now) result }
+    ensures grows { Grows world.old.0.packages world.new.0.packages }
+    ensures rest { world.new ≡ (with_packages world.old.0 world.new.0.packages, world.old.1) }
+{
+    for name in names {
+        export_one(alloc, world, owner, name)?;
+    }
+    Ok(())
+}
+
 // Makes the symbols that a package has by these names external.
-fn export_each(world: &mut World, row: &PackageParts<'_>) -> Result<(), BuildError>
+fn export_each(alloc: Global, world: &mut World, row: &PackageParts<'_>) -> Result<(), BuildError>
     ensures made { (s : Table) (p : Name) → IsBegun world.old.0.packages s
         → HasSymbols world.old.0.packages s p → IsRowOf s p row.now → p ≢ common_lisp
         → OrNoMemory (IsPartOf world.new.0.packages s
@@ -139,58 +224,84 @@ fn export_each(world: &mut World, row: &PackageParts<'_>) -> Result<(), BuildErr
     ensures grows { Grows world.old.0.packages world.new.0.packages }
     ensures rest { world.new ≡ (with_packages world.old.0 world.new.0.packages, world.old.1) }
 {
-    let owner = text_in(row.name)?.as_slice();
-    for name in row.shown {
-        export_one(world, owner, name)?;
-    }
+    let owner = text_of(alloc, row.name)?;
+    export_names(alloc, world, owner.as_slice(), row.shown.as_slice())?;
     world.soundness();
     Ok(())
 }
 
 // Makes a package use another.
-fn use_one(world: &mut World, owner: &[u8], used: &Datum) -> Result<(), BuildError>
-    ensures made { (s : Table) (p q : Name) → IsBegun world.old.0.packages s → owner.now ≡ p
-        → p ≢ common_lisp → is_proper used.now ≡ true → object_of used.now ≡ text q → Uses s p q
-        → OrNoMemory (IsPartOf world.new.0.packages s × Uses world.new.0.packages p q) result }
+fn use_one(alloc: Global, world: &mut World, owner: &[u8], used: &[u8]) -> Result<(), BuildError>
+    ensures made { (s : Table) (p : Name) → IsBegun world.old.0.packages s → owner.now ≡ p
+        → p ≢ common_lisp → Uses s p (unescaped used.now)
+        → OrNoMemory (IsPartOf world.new.0.packages s
+        × Uses world.new.0.packages p (unescaped used.now)) result }
     ensures grows { Grows world.old.0.packages world.new.0.packages }
     ensures rest { world.new ≡ (with_packages world.old.0 world.new.0.packages, world.old.1) }
 {
-    let used = text_in(used)?.as_slice();
+    let used = text_of(alloc, used)?;
     world.soundness();
-    world.use_package(owner, used)?;
+    world.use_package(owner, used.as_slice())?;
+    Ok(())
+}
+
+fn use_names(
+    alloc: Global,
+    world: &mut World,
+    owner: &[u8],
+    names: &[&[u8]],
+) -> Result<(), BuildError>
+    ensures made { (s : Table) (p : Name) → IsBegun world.old.0.packages s → owner.now ≡ p
+        → p ≢ common_lisp → All (λ b. Uses s p (unescaped b.now)) names.now
+        → OrNoMemory (IsPartOf world.new.0.packages s
+        × All (λ b. Uses world.new.0.packages p (unescaped b.now)) names.now) result }
+    ensures grows { Grows world.old.0.packages world.new.0.packages }
+    ensures rest { world.new ≡ (with_packages world.old.0 world.new.0.packages, world.old.1) }
+{
+    for name in names {
+        use_one(alloc, world, owner, name)?;
+    }
     Ok(())
 }
 
 // Makes a package use those that it is to use.
-fn use_each(world: &mut World, row: &PackageParts<'_>) -> Result<(), BuildError>
+fn use_each(alloc: Global, world: &mut World, row: &PackageParts<'_>) -> Result<(), BuildError>
     ensures made { (s : Table) (p : Name) → IsBegun world.old.0.packages s → IsRowOf s p row.now
         → p ≢ common_lisp
         → OrNoMemory (IsPartOf world.new.0.packages s × HasUses world.new.0.packages s p) result }
     ensures grows { Grows world.old.0.packages world.new.0.packages }
     ensures rest { world.new ≡ (with_packages world.old.0 world.new.0.packages, world.old.1) }
 {
-    let owner = text_in(row.name)?.as_slice();
-    for used in row.used {
-        use_one(world, owner, used)?;
-    }
-    Ok(())
+    let owner = text_of(alloc, row.name)?;
+    use_names(alloc, world, owner.as_slice(), row.used.as_slice())
+}
+
+// Makes a package with its own symbols.
+fn make_each(alloc: Global, world: &mut World, row: &PackageParts<'_>) -> Result<(), BuildError>
+    ensures made { (s : Table) (p : Name) → IsSound s → IsPackage s p → p ≢ common_lisp
+        → IsPartOf world.old.0.packages s → IsRowOf s p row.now
+        → OrNoMemory (IsPartOf world.new.0.packages s × HasOwn world.new.0.packages s p) result }
+    ensures grows { Grows world.old.0.packages world.new.0.packages }
+    ensures rest { world.new ≡ (with_packages world.old.0 world.new.0.packages, world.old.1) }
+{
+    make_own(alloc, world, row.name, row.own.as_slice())
 }
 
 // Makes the packages with their own symbols.
-fn make_all(world: &mut World, rows: &[PackageParts<'_>]) -> Result<(), BuildError>
+fn make_all(alloc: Global, world: &mut World, rows: &[PackageParts<'_>]) -> Result<(), BuildError>
     ensures made { (s : Table) → IsSound s → IsPartOf world.old.0.packages s → AreRowsOf s rows.now
         → OrNoMemory (IsBegun world.new.0.packages s) result }
     ensures grows { Grows world.old.0.packages world.new.0.packages }
     ensures rest { world.new ≡ (with_packages world.old.0 world.new.0.packages, world.old.1) }
 {
     for row in rows {
-        make_own(world, row.name, row.own)?;
+        make_each(alloc, world, row)?;
     }
     world.soundness();
     Ok(())
 }
 
-fn import_all(world: &mut World, rows: &[PackageParts<'_>]) -> Result<(), BuildError>
+fn import_all(alloc: Global, world: &mut World, rows: &[PackageParts<'_>]) -> Result<(), BuildError>
     ensures made { (s : Table) → IsBegun world.old.0.packages s → AreRowsOf s rows.now
         → OrNoMemory (IsBegun world.new.0.packages s
         × Everywhere s (HasSymbols world.new.0.packages s)) result }
@@ -198,13 +309,13 @@ fn import_all(world: &mut World, rows: &[PackageParts<'_>]) -> Result<(), BuildE
     ensures rest { world.new ≡ (with_packages world.old.0 world.new.0.packages, world.old.1) }
 {
     for row in rows {
-        import_each(world, row)?;
+        import_each(alloc, world, row)?;
     }
     world.soundness();
     Ok(())
 }
 
-fn export_all(world: &mut World, rows: &[PackageParts<'_>]) -> Result<(), BuildError>
+fn export_all(alloc: Global, world: &mut World, rows: &[PackageParts<'_>]) -> Result<(), BuildError>
     ensures made { (s : Table) → IsBegun world.old.0.packages s
         → Everywhere s (HasSymbols world.old.0.packages s) → AreRowsOf s rows.now
         → OrNoMemory (IsBegun world.new.0.packages s
@@ -213,13 +324,13 @@ fn export_all(world: &mut World, rows: &[PackageParts<'_>]) -> Result<(), BuildE
     ensures rest { world.new ≡ (with_packages world.old.0 world.new.0.packages, world.old.1) }
 {
     for row in rows {
-        export_each(world, row)?;
+        export_each(alloc, world, row)?;
     }
     world.soundness();
     Ok(())
 }
 
-fn use_all(world: &mut World, rows: &[PackageParts<'_>]) -> Result<(), BuildError>
+fn use_all(alloc: Global, world: &mut World, rows: &[PackageParts<'_>]) -> Result<(), BuildError>
     ensures made { (s : Table) → IsBegun world.old.0.packages s → AreRowsOf s rows.now
         → OrNoMemory (IsBegun world.new.0.packages s
         × Everywhere s (HasUses world.new.0.packages s)) result }
@@ -227,28 +338,29 @@ fn use_all(world: &mut World, rows: &[PackageParts<'_>]) -> Result<(), BuildErro
     ensures rest { world.new ≡ (with_packages world.old.0 world.new.0.packages, world.old.1) }
 {
     for row in rows {
-        use_each(world, row)?;
+        use_each(alloc, world, row)?;
     }
     world.soundness();
     Ok(())
 }
 
-/// Makes the packages of a new world those of the first object of a snapshot. All symbols are made before one is imported,
-/// and all external ones before a package is used.
-pub(crate) fn make_packages(
+/// Makes the packages of a new world those of the line that begins here, and gives what stands after the list. All symbols are
+/// made before one is imported, and all external ones before a package is used.
+pub(crate) fn make_packages<'a>(
     alloc: Global,
     world: &mut World,
-    packages: &Datum,
-) -> Result<(), BuildError>
-    ensures made { (s : Table) → IsSound s → IsPartOf world.old.0.packages s
-        → is_proper packages.now ≡ true → object_of packages.now ≡ packages_object s
-        → OrNoMemory (world.new.0.packages ≡ s) result }
+    bytes: &'a [u8],
+) -> Result<&'a [u8], BuildError>
+    ensures made { (s : Table) (after : List ℕ) → IsSound s → IsPartOf world.old.0.packages s
+        → bytes.now ≡ object_text s (packages_object s) ++ after
+        → Makes result (λ rest. (world.new.0.packages ≡ s) × (rest.now ≡ after)) }
     ensures rest { world.new ≡ (with_packages world.old.0 world.new.0.packages, world.old.1) }
 {
-    let rows = rows_in(alloc, packages)?;
+    let (rows, after) = rows_in(alloc, bytes)?;
     let rows = rows.as_slice();
-    make_all(world, rows)?;
-    import_all(world, rows)?;
-    export_all(world, rows)?;
-    use_all(world, rows)
+    make_all(alloc, world, rows)?;
+    import_all(alloc, world, rows)?;
+    export_all(alloc, world, rows)?;
+    use_all(alloc, world, rows)?;
+    Ok(after)
 }

@@ -4,7 +4,7 @@ ghost use Rattle.std.specs.List.{list_all};
 ghost use Rattle.lisp_object.specs.Object.{Object, text, list_of};
 ghost use Rattle.lisp_object.specs.Datum.{object_of, is_proper};
 ghost use Rattle.world_text.specs.Snapshot.{number};
-ghost use Rattle.snapshot_text.specs.Answers.{Succeeds};
+ghost use Rattle.snapshot_lines.specs.Answers.{Succeeds};
 
 use lisp_object::{Bytes, Datum};
 use snapshot_lines::BuildError;
@@ -19,20 +19,6 @@ pub(crate) fn text_in(datum: &Datum) -> Result<&Bytes, BuildError>
         Datum::Text(bytes) => Ok(bytes),
         _ => Err(BuildError::Damaged),
     }
-}
-
-// The bytes of a text, each below 128.
-pub(crate) fn name_in(datum: &Datum) -> Result<&[u8], BuildError>
-    ensures text { IfOk result (λ name. datum.now ≡ Datum.Text name.now) }
-    ensures below { IfOk result (λ name. All (λ b. b < 128) name.now) }
-    ensures read { is_proper datum.now ≡ true → (bytes : List ℕ) → object_of datum.now ≡ text bytes
-        → Succeeds result (λ name. name.now ≡ bytes) }
-{
-    let bytes = text_in(datum)?;
-    if !bytes.is_ascii() {
-        return Err(BuildError::Damaged);
-    }
-    Ok(bytes.as_slice())
 }
 
 // The items of a list that ends in NIL.

@@ -9,7 +9,7 @@ ghost use Rattle.plist_state.specs.Shown.{symbol_of};
 ghost use Rattle.plist_state.specs.Sound.{IsSymbol, IsValue, IsPlist};
 ghost use Rattle.world_text.specs.Snapshot.{symbol_object, plist_object};
 ghost use Rattle.snapshot_text.specs.Built.{with_properties, with_each};
-ghost use Rattle.snapshot_text.specs.Answers.{Makes, OrNoMemory};
+ghost use Rattle.snapshot_lines.specs.Answers.{Makes, OrNoMemory};
 
 use crate::known::{is_there, is_value};
 use crate::parts::items_in;

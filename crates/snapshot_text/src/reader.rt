@@ -7,7 +7,7 @@ ghost use Rattle.plist_state.specs.Sound.{IsSound as IsSoundState};
 ghost use Rattle.snapshot_text.specs.Covered.{are_covered, IsRefused};
 ghost use Rattle.world_text.specs.Snapshot.{packages_object, tables_object_in, line, snapshot_in};
 ghost use Rattle.lisp_object.specs.Object.{Object};
-ghost use Rattle.snapshot_text.specs.Answers.{Makes, OrNoMemory};
+ghost use Rattle.snapshot_lines.specs.Answers.{Makes, OrNoMemory};
 
 use crate::SnapshotError;
 use crate::package_parts::make_packages;
@@ -23,25 +23,17 @@ use world_text::{table_named, write_in};
 // The most bytes in the text of a snapshot.
 const MOST_BYTES: usize = 4_294_967_295;
 
-// Makes the packages of the line that begins at `at`, in a new world. Gives where the next line begins.
-fn read_packages<R: MacroFunctions>(
-    source: &Source<'_, R>,
-    world: &mut World,
-    at: usize,
-) -> Result<usize, BuildError>
-    requires answers { R.answers source.now.macros.now }
-    requires table { source.now.table.now ≡ standard }
-    ensures { (s : WorldState) (rest : List ℕ) → IsSoundState s
-        → length source.now.bytes.now ≤ 4294967295
-        → drop at source.now.bytes.now ≡ line s.packages (packages_object s.packages) ++ rest
+// Makes the packages of the first line, in a new world. Gives where the next line begins.
+fn read_packages(alloc: Global, world: &mut World, bytes: &[u8]) -> Result<usize, BuildError>
+    ensures { (s : WorldState) (rest : List ℕ) → IsSoundState s → length bytes.now ≤ 4294967295
+        → bytes.now ≡ line s.packages (packages_object s.packages) ++ rest
         → world.old.0 ≡ initial
         → Makes result (λ next. (world.new.0 ≡ with_packages_of s)
-        × (drop next source.now.bytes.now ≡ rest)) }
+        × (drop next bytes.now ≡ rest)) }
 {
-    world.soundness();
-    let (packages, next) = next_object(source, world, at)?;
-    make_packages(source.alloc, world, &packages)?;
-    Ok(next)
+    let rest = make_packages(alloc, world, bytes)?;
+    // the newline is left out
+    Ok(bytes.len().saturating_sub(rest.len()).saturating_add(1))
 }
 
 // Makes the readtables of the line that begins at `at`, in a world that has the packages and the properties.
@@ -75,7 +67,7 @@ fn fill<R: MacroFunctions>(
         → snapshot_in version s ≡ Some source.now.bytes.now → world.old.0 ≡ initial
         → OrNoMemory (world.new.0 ≡ s) result }
 {
-    let at = read_packages(source, world, 0)?;
+    let at = read_packages(source.alloc, world, source.bytes)?;
     let at = read_properties(source, world, at)?;
     read_tables(source, version, world, at)?;
     Ok(())

@@ -1,41 +1,27 @@
-use Rattle.std.proofs.Common.{◌≡◌, Bool, sym, ◌∙◌}
-use Rattle.std.specs.Prelude.{Ok}
-use Rattle.package_table.specs.declared.intern.Interned.{Interned}
-use Rattle.package_table.specs.Changes.{after_intern, after_export, with_external}
-use Rattle.package_table.proofs.Growing.{grows_both}
-use Rattle.snapshot_text.proofs.PartMakes.{refused_so}
-use Rattle.snapshot_text.proofs.Exports.{home, interns, interned, exports, exported}
+use Rattle.std.proofs.Common.{◌≡◌, true, sym, subst, ◌∙◌}
+use Rattle.std.specs.List.{list_all}
+use Rattle.std.proofs.lemmas.Result.{MatchResult-weaker}
+use Rattle.lisp_object.specs.Ascii.{is_ascii}
+use Rattle.package_table.specs.Table.{Name, Table, IsExternal, IsSound}
+use Rattle.world_text.proofs.Ascii.{ascii_all}
+use Rattle.snapshot_lines.specs.Texts.{unescaped}
+use Rattle.snapshot_text.proofs.Gave.{refused_same}
+use Rattle.snapshot_text.proofs.PartFinds.{external_entry}
+use Rattle.snapshot_text.proofs.PartSteps.{entry_present}
 use Rattle.snapshot_text.proofs.package_parts.export_one.Goals as goal
 
-pub returns-in_err-interned-clause-made : goal.returns-in_err-interned-clause-made
-returns-in_err-interned-clause-made c = λ s p n begun has own lisp key proper e shown.
-    let t = c.args.world.now.0.packages in
-    let name = c.in_ok-name.ensures.read proper n e in
-    let goes : after_intern t c.args.owner.now c.in_ok-name.name.now ≡ Ok (home t s p n begun has shown, t) = (λ i. after_intern t (own i) (name i)) ∙ interns t s p n begun has shown in
-    refused_so {A = Interned} _ (λ x. (x.home, c.intern.new.self.0.packages)) c.in_err-interned.field-0.0 _ _ goes c.in_err-interned.ensures.gives
-    c.from_residual-in_err-interned.result c.from_residual-in_err-interned.ensures.1
+external_ascii : (s : Table) (p n : Name) → IsSound s → IsExternal s p n → list_all is_ascii n ≡ true
+external_ascii s p n sound shown =
+    let e = external_entry s p n shown in
+    ascii_all n (sound.within.symbol_names p n e.0.home (entry_present s p n e.0 e.1)).ascii
 
-pub returns-in_err-export-clause-made : goal.returns-in_err-export-clause-made
-returns-in_err-export-clause-made c = λ s p n begun has own lisp key proper e shown.
-    let t = c.args.world.now.0.packages in
-    let u = c.intern.new.self.0.packages in
-    let name = c.in_ok-name.ensures.read proper n e in
-    let same = interned t s p n begun has shown c.in_ok-interned.interned.home u ((λ i. after_intern t (sym own i) (sym name i)) ∙ c.in_ok-interned.ensures.gives) in
-    let home_is : c.as_slice.result.now ≡ home t s p n begun has shown = c.as_slice.ensures ∙ same.0 in
-    let goes : after_export u c.args.owner.now c.as_slice.result.now c.in_ok-name.name.now ≡ Ok (with_external t p (home t s p n begun has shown) n) =
-    (λ i. after_export (same.1 i) (own i) (home_is i) (name i)) ∙ exports t s p n begun has shown lisp key c.soundness.ensures.present.packages in
-    refused_so {A = Bool} _ (λ _. c.export.new.self.0.packages) c.in_err-export.field-0.0 _ _ goes c.in_err-export.ensures.gives
-    c.from_residual-in_err-export.result c.from_residual-in_err-export.ensures.1
+pub returns-in_err-name-clause-made : goal.returns-in_err-name-clause-made
+returns-in_err-name-clause-made c = λ s p begun has own lisp key shown.
+    refused_same _ c.in_err-name.field-0.0 (c.in_err-name.ensures.read (external_ascii s p (unescaped c.args.name.now) begun.sound shown)) c.from_residual.result c.from_residual.ensures.1
 
 pub returns-clause-made : goal.returns-clause-made
-returns-clause-made c = λ s p n begun has own lisp key proper e shown.
-    let t = c.args.world.now.0.packages in
-    let u = c.intern.new.self.0.packages in
-    let name = c.in_ok-name.ensures.read proper n e in
-    let same = interned t s p n begun has shown c.in_ok-interned.interned.home u ((λ i. after_intern t (sym own i) (sym name i)) ∙ c.in_ok-interned.ensures.gives) in
-    let home_is : c.as_slice.result.now ≡ home t s p n begun has shown = c.as_slice.ensures ∙ same.0 in
-    exported t s p n begun has shown lisp key c.soundness.ensures.present.packages c.export.new.self.0.packages
-    ((λ i. after_export (sym same.1 i) (sym own i) (sym home_is i) (sym name i)) ∙ c.in_ok-export.ensures.gives)
-
-pub returns-clause-grows : goal.returns-clause-grows
-returns-clause-grows c = grows_both _ c.intern.new.self.0.packages _ c.in_ok-interned.ensures.grows c.in_ok-export.ensures.grows
+returns-clause-made c = λ s p begun has own lisp key shown.
+    let n : c.as_slice.result.now ≡ unescaped c.args.name.now = c.as_slice.ensures ∙ c.in_ok-name.ensures.same in
+    MatchResult-weaker c.export_symbol.result (c.export_symbol.ensures.made s p begun has own lisp key (subst (λ (x : Name). IsExternal s p x) (sym n) shown))
+    (λ _ is. (is.0, subst (λ (x : Name). IsExternal c.export_symbol.new.world.0.packages p x) n is.1))
+    (λ _ is. is)

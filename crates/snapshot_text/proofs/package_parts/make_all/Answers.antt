@@ -8,12 +8,12 @@ use Rattle.snapshot_text.proofs.Begins.{one_more, own_grown}
 use Rattle.snapshot_text.proofs.Gave.{refused_same}
 use Rattle.snapshot_text.proofs.package_parts.make_all.Goals as goal
 
-pub returns-in_err-make_own-clause-made : goal.returns-in_err-make_own-clause-made
-returns-in_err-make_own-clause-made c = λ s sound part rows.
+pub returns-in_err-make_each-clause-made : goal.returns-in_err-make_each-clause-made
+returns-in_err-make_each-clause-made c = λ s sound part rows.
     let at = row_at s c.args.rows.now c.loop-row.row-index c.row-item.result rows c.loop-row-test.true c.row-item.is in
     let before = c.loop-row.invariant.made s sound part rows in
-    refused_same _ c.in_err-make_own.field-0.0
-    (c.in_err-make_own.ensures.own s (get_or (other_packages s) c.loop-row.row-index []) sound at.there at.other before.0 at.is.name at.is.proper_name at.is.own at.is.proper_own)
+    refused_same _ c.in_err-make_each.field-0.0
+    (c.in_err-make_each.ensures.made s (get_or (other_packages s) c.loop-row.row-index []) sound at.there at.other before.0 at.is)
     c.from_residual.result c.from_residual.ensures.1
 
 pub loop-row-preserved : goal.loop-row-preserved
@@ -21,10 +21,10 @@ loop-row-preserved c = record {
   made = λ s sound part rows.
       let at = row_at s c.args.rows.now c.loop-row.row-index c.row-item.result rows c.loop-row-test.true c.row-item.is in
       let before = c.loop-row.invariant.made s sound part rows in
-      let done = c.in_ok-make_own.ensures.own s (get_or (other_packages s) c.loop-row.row-index []) sound at.there at.other before.0 at.is.name at.is.proper_name at.is.own at.is.proper_own in (
+      let done = c.in_ok-make_each.ensures.made s (get_or (other_packages s) c.loop-row.row-index []) sound at.there at.other before.0 at.is in (
         done.0,
-        one_more (HasOwn c.loop-row.world.0.packages s) (HasOwn c.make_own.new.world.0.packages s) (other_packages s) c.loop-row.row-index [] at.within
-            (λ p has. own_grown _ _ s p has c.in_ok-make_own.ensures.grows) before.1 done.1,
+        one_more (HasOwn c.loop-row.world.0.packages s) (HasOwn c.make_each.new.world.0.packages s) (other_packages s) c.loop-row.row-index [] at.within
+            (λ p has. own_grown _ _ s p has c.in_ok-make_each.ensures.grows) before.1 done.1,
       );
   grows = search rules;
   rest = search rules;

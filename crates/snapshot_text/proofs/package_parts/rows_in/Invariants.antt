@@ -1,10 +1,19 @@
-use Rattle.std.proofs.Common.{◌≡◌, true}
-use Rattle.lisp_object.specs.Datum.{object_of, is_proper}
-use Rattle.package_table.specs.Table.{Table}
-use Rattle.snapshot_text.specs.Phases.{AreFirstRows}
-use Rattle.world_text.specs.Snapshot.{packages_object}
+use Rattle.std.proofs.Common.{◌≡◌, ℕ, ◌≤◌, List, ◌++◌, map, length, drop}
+use Rattle.package_table.specs.Table.{Table, IsSound}
+use Rattle.world_text.specs.Snapshot.{package_object, packages_object}
+use Rattle.world_text.specs.Texts.{object_text}
+use Rattle.snapshot_lines.specs.Texts.{IsAtItems}
+use Rattle.snapshot_text.specs.Phases.{AreFirstRows, other_packages}
 use Rattle.snapshot_text.proofs.package_parts.rows_in.Given as goal
 
--- the rows so far
-abbrev pub invariant-loop-row : goal.invariant-loop-row
-invariant-loop-row l = (s : Table) → is_proper l.packages ≡ true → object_of l.packages ≡ packages_object s → AreFirstRows s l.row-index l.rows.items
+-- the rows so far, and those that come
+abbrev pub invariant-rows : goal.invariant-rows
+invariant-rows l = record {
+  rows : (s : Table) (after : List ℕ) → IsSound s → l.bytes ≡ object_text s (packages_object s) ++ after
+      → (n : ℕ) × (n ≤ length (other_packages s)) × AreFirstRows s n l.rows.items
+      × IsAtItems (map (λ p. object_text s (package_object s p)) (drop n (other_packages s))) after l.rest;
+  shorter : length l.rest ≤ length l.bytes;
+}
+
+abbrev pub decreases-rows : goal.decreases-rows
+decreases-rows l = length l.rest

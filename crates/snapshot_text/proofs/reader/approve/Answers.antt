@@ -1,8 +1,7 @@
-use Rattle.std.proofs.Common.{◌≡◌, not, rules, Some, sym, ap, ◌∙◌}
+use Rattle.std.proofs.Common.{◌≡◌, not, rules, sym, ap, ◌∙◌}
 use Rattle.std.specs.Str.{bytes_eq}
 use Rattle.std.proofs.lemmas.Bool.{false≢true}
 use Rattle.package_table.proofs.Frames.{equal_itself}
-use Rattle.world_text.specs.Snapshot.{snapshot_in}
 use Rattle.snapshot_text.proofs.reader.approve.Goals as goal
 
 pub returns-then-not-branch-clause-refused : goal.returns-then-not-branch-clause-refused

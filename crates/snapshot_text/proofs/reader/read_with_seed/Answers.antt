@@ -1,6 +1,5 @@
-use Rattle.std.proofs.Common.{◌≡◌, List, Some, rules, arith, ap, ◌∙◌}
+use Rattle.std.proofs.Common.{List, arith, ap, ◌∙◌}
 use Rattle.plist_state.specs.State.{WorldState}
-use Rattle.world_text.specs.Snapshot.{snapshot_in}
 use Rattle.world_text.proofs.SameText.{one_state}
 use Rattle.snapshot_text.proofs.reader.read_with_seed.Goals as goal
 

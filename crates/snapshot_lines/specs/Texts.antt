@@ -1,0 +1,65 @@
+-- Texts, as a snapshot has them: how a text is written between its quotes, and lists of texts.
+use Rattle.std.specs.Prelude.{◌≡◌, ◌<◌, ◌⊎◌, ℕ, Bool, ◌==◌, if◌then◌else◌, List, [], ◌∷◌, ◌++◌, map, length, codes}
+use Rattle.std.specs.Str.{byte}
+use Rattle.std.specs.Borrow.{Bor}
+use Rattle.package_table.specs.Table.{Name}
+use Rattle.canon_printer.specs.Written.{printed_text}
+use Rattle.snapshot_lines.specs.declared.texts.Coming.{Coming}
+use Rattle.snapshot_lines.specs.declared.texts.Coming.TheVariants.{Item, End}
+
+abbrev mutual
+  -- the text that is written so: a backslash stands before a character that is taken as it is
+  pub unescaped : List ℕ → List ℕ
+  unescaped [] = []
+  unescaped (c ∷ cs) = if c == byte "\\" then unescaped_first cs else c ∷ unescaped cs
+
+  -- the same after a backslash
+  pub unescaped_first : List ℕ → List ℕ
+  unescaped_first [] = []
+  unescaped_first (c ∷ cs) = c ∷ unescaped cs
+
+-- as what was written before ends with a backslash or not
+abbrev pub unescaped_after : Bool → List ℕ → List ℕ
+unescaped_after escaped cs = if escaped then unescaped_first cs else unescaped cs
+
+-- two texts that are written so
+abbrev pub unescaped_pair : Bor (List ℕ) × Bor (List ℕ) → Name × Name
+unescaped_pair pair = (unescaped pair.0.now, unescaped pair.1.now)
+
+-- what stands after the first item of a list: each after a space, and the parenthesis
+abbrev pub items_rest : List (List ℕ) → List ℕ
+items_rest [] = codes ")"
+items_rest (x ∷ xs) = codes " " ++ (x ++ items_rest xs)
+
+-- a list of items that are written so
+abbrev pub items_text : List (List ℕ) → List ℕ
+items_text [] = codes "NIL"
+items_text (x ∷ xs) = codes "(" ++ (x ++ items_rest xs)
+
+-- a list of texts
+abbrev pub texts_text : List Name → List ℕ
+texts_text names = items_text (map printed_text names)
+
+-- a pair of texts
+abbrev pub pair_text : Name × Name → List ℕ
+pair_text pair = codes "(" ++ (printed_text pair.0 ++ (codes " " ++ (printed_text pair.1 ++ codes ")")))
+
+-- a list of pairs
+abbrev pub pairs_text : List (Name × Name) → List ℕ
+pairs_text pairs = items_text (map pair_text pairs)
+
+-- where a list begins, or after one of its items: these are still to come, and then what stands after the list
+abbrev pub IsAtItems : List (List ℕ) → List ℕ → List ℕ → Type 0
+IsAtItems items after bytes = (bytes ≡ items_text items ++ after) ⊎ (bytes ≡ items_rest items ++ after)
+
+-- the first of these items comes next, or what stands after the list
+abbrev pub IsComing : List (List ℕ) → List ℕ → Coming → Type 0
+IsComing [] after (Item bytes) = ⊥
+IsComing [] after (End bytes) = bytes.now ≡ after
+IsComing (x ∷ xs) after (Item bytes) = bytes.now ≡ x ++ (items_rest xs ++ after)
+IsComing (x ∷ xs) after (End bytes) = ⊥
+
+-- less than these bytes comes
+abbrev pub LeavesLess : List ℕ → Coming → Type 0
+LeavesLess bytes (Item item) = length item.now < length bytes
+LeavesLess bytes (End after) = length after.now < length bytes

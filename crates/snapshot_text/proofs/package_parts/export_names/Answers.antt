@@ -1,0 +1,37 @@
+use Rattle.std.proofs.Common.{ℕ, List, [], subst, rules}
+use Rattle.std.specs.Prelude.{All}
+use Rattle.std.specs.Borrow.{Bor}
+use Rattle.std.proofs.lemmas.List.{take_all}
+use Rattle.package_table.specs.Table.{IsExternal}
+use Rattle.snapshot_lines.specs.Texts.{unescaped}
+use Rattle.snapshot_text.proofs.Begins.{begun_grown, one_more, symbols_grown}
+use Rattle.snapshot_text.proofs.Gave.{refused_same}
+use Rattle.snapshot_text.proofs.package_parts.export_names.Goals as goal
+
+abbrev none : Bor (List ℕ)
+none = record { ref_ptr = (0, 0); now = [] }
+
+pub returns-in_err-export_one-clause-made : goal.returns-in_err-export_one-clause-made
+returns-in_err-export_one-clause-made c = λ s p begun has own lisp all.
+    let before = c.loop-name.invariant.made s p begun has own lisp all in
+    refused_same _ c.in_err-export_one.field-0.0
+    (c.in_err-export_one.ensures.made s p (begun_grown _ _ s begun c.loop-name.invariant.grows before.0) (symbols_grown _ _ s p has c.loop-name.invariant.grows) own lisp (all c.loop-name.name-index none c.loop-name-test.true).0 (all c.loop-name.name-index none c.loop-name-test.true).1)
+    c.from_residual.result c.from_residual.ensures.1
+
+pub loop-name-preserved : goal.loop-name-preserved
+loop-name-preserved c = record {
+  made = λ s p begun has own lisp all.
+      let before = c.loop-name.invariant.made s p begun has own lisp all in
+      let done = c.in_ok-export_one.ensures.made s p (begun_grown _ _ s begun c.loop-name.invariant.grows before.0) (symbols_grown _ _ s p has c.loop-name.invariant.grows) own lisp (all c.loop-name.name-index none c.loop-name-test.true).0 (all c.loop-name.name-index none c.loop-name-test.true).1 in (
+        done.0,
+        one_more (λ (b : Bor (List ℕ)). IsExternal c.loop-name.world.0.packages p (unescaped b.now)) (λ (b : Bor (List ℕ)). IsExternal c.export_one.new.world.0.packages p (unescaped b.now)) c.args.names.now c.loop-name.name-index none c.loop-name-test.true
+            (λ b. c.in_ok-export_one.ensures.grows.externals p (unescaped b.now)) before.1 done.1,
+      );
+  grows = search rules;
+  rest = search rules;
+}
+
+pub returns-clause-made : goal.returns-clause-made
+returns-clause-made c = λ s p begun has own lisp all.
+    let after = c.loop-name.invariant.made s p begun has own lisp all in
+    (after.0, subst (λ (xs : List (Bor (List ℕ))). All (λ (b : Bor (List ℕ)). IsExternal c.loop-name.world.0.packages p (unescaped b.now)) xs) (take_all c.loop-name.name-index c.args.names.now c.loop-name-test.false) after.1)
