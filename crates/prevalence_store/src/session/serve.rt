@@ -11,7 +11,7 @@ ghost use Rattle.prevalence_store.specs.calls.Serve.{ServesInput, ServesWanted};
 ghost use Rattle.prevalence_store.specs.steps.Input.{AreAllThere, AwaitsMore, IsPending, IsSoundFed, IsWithin, Feeds, FeedsPart, Finishes};
 ghost use Rattle.prevalence_store.specs.steps.Course.{course_of};
 ghost use Rattle.prevalence_store.specs.steps.Serve.{Answers, ComesTo, EndsAt, MovesOn};
-ghost use Rattle.prevalence_store.specs.steps.Standing.{AcknowledgesNone, HandsOn, StandsInPiece};
+ghost use Rattle.prevalence_store.specs.steps.Standing.{AcknowledgesNone, HandsOn, StandsAtEnd, StandsInPiece};
 ghost use Rattle.user_macros.specs.Functions.{are_registered};
 
 use crate::mode::Mode;
@@ -280,8 +280,8 @@ impl<D: Disk, R: MacroFunctions> Store<D, R> {
         requires answers { R.answers self.old.macros }
         requires whole { are_registered R.Meaning.functions (R.functions self.old.macros) ≡ true }
         requires pending { AwaitsMore R.Meaning.functions self.old.world wanted.mode pending }
-        requires stands { StandsInPiece R.Meaning.functions D.state (W.account writer.old) self.old
-            wanted.mode pending [] }
+        requires stands { StandsAtEnd R.Meaning.functions D.state (W.account writer.old) self.old
+            wanted.mode pending }
         requires forms { (course_of course.old).forms ≤ (course_of course.old).bytes }
         requires count { (course_of course.old).bytes + fed pending.reader < 2 ^ 63 }
         ensures ends { (w : WorldState) → self.old.world ≡ Some w → (bytes : List ℕ)

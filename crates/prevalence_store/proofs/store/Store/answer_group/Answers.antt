@@ -6,7 +6,7 @@ use Rattle.prevalence_store.specs.steps.Schedule.{CountsAll, pace_of}
 use Rattle.prevalence_store.proofs.calls.Executing.{known_world}
 use Rattle.prevalence_store.proofs.steps.Counting.{fewer_before_due}
 use Rattle.prevalence_store.proofs.steps.Gathered.{group_answered, group_stopped, group_unwritten}
-use Rattle.prevalence_store.proofs.steps.Handing.{hands_lines, lines_stored, none_handed, none_of_group}
+use Rattle.prevalence_store.proofs.steps.Handing.{hands_lines, lines_stored, none_handed, none_of_group, rest_of_input}
 use Rattle.prevalence_store.proofs.store.Store.answer_group.Goals as goal
 
 grouped : (group : Bool) → not group ≡ false → group ≡ true
@@ -39,8 +39,9 @@ write_lines-requires g c = record {
   stored = λ kept is.
       let here = known_world c.args.self.now.world c.requires.form.is_open in
       let s = c.requires.stands here.0 here.1 in
-      lines_stored g.R.Meaning.Meaning.functions g.D.Disk.state g.met.D.Disk.sound kept c.args.self.now c.take_group.new.self here.0 c.args.wanted.mode s.0 _ (s.3 kept is) here.1
-      c.args.wanted c.in-Ok.gathered refl (c.in-Ok.ensures.takes here.0 here.1 s.0 s.1 s.2).together c.as_slice.ensures.value;
+      let rest = rest_of_input g.R.Meaning.Meaning.functions g.D.Disk.state g.met.D.Disk.sound (g.W.Recipient.account c.args.writer.now) c.args.self.now here.0 c.args.wanted.mode s.0 s.3 in
+      lines_stored g.R.Meaning.Meaning.functions g.D.Disk.state g.met.D.Disk.sound kept c.args.self.now c.take_group.new.self here.0 c.args.wanted.mode (s.0 ++ rest.0) _ (rest.1 kept is) here.1
+      s.0 rest.0 refl c.args.wanted c.in-Ok.gathered refl (c.in-Ok.ensures.takes here.0 here.1 s.0 s.1 s.2).together c.as_slice.ensures.value;
 }
 
 -- they were answered

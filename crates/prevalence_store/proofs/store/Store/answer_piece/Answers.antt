@@ -38,7 +38,7 @@ answer_next-requires-clause-stands g c = λ v there.
       subst (λ u. StandsBefore functions g.D.Disk.state (g.W.Recipient.account c.forms.writer) c.forms.self u c.args.wanted.mode (goes.bytes ++ c.forms.rest.now)) same
           (stands_on functions g.D.Disk.state g.met.D.Disk.sound c.args.wanted.strict (course_of c.args.course.now) (course_of c.forms.course) c.args.self.now c.forms.self old.0 c.args.wanted.mode (s.0 ++ c.args.piece.now)
           (g.W.Recipient.contents c.args.writer.now) (g.W.Recipient.contents c.forms.writer) c.forms.pending c.forms.rest.now (g.W.Recipient.account c.args.writer.now) (g.W.Recipient.account c.forms.writer)
-          s.2 goes c.forms.invariant.hands),
+          goes c.forms.invariant.hands s.2),
     )
 
 pub answer_next-requires-clause-pending : goal.answer_next-requires-clause-pending
