@@ -70,6 +70,7 @@ impl<D: Disk, R: MacroFunctions> Store<D, R> {
             (I.remaining reader.old) (I.remaining reader.new) (W.contents writer.old) (W.contents writer.new) result }
         ensures under_way { IsSome self.old.world → (kept : Account D) → W.account writer.new ≡ Some kept
             → AreUnderWay R.Meaning.functions D.state kept self.new }
+        ensures first { W.first writer.new ≡ W.first writer.old }
         ensures honest { (D.state self.new.disk).honest ≡ (D.state self.old.disk).honest }
         ensures macros { self.new.macros ≡ self.old.macros }
     {
@@ -120,6 +121,7 @@ impl<D: Disk, R: MacroFunctions> Store<D, R> {
             (I.remaining reader.old) (I.remaining reader.new) (W.contents writer.old) (W.contents writer.new) result }
         ensures under_way { IsSome self.old.world → (kept : Account D) → W.account writer.new ≡ Some kept
             → AreUnderWay R.Meaning.functions D.state kept self.new }
+        ensures first { W.first writer.new ≡ W.first writer.old }
         ensures honest { (D.state self.new.disk).honest ≡ (D.state self.old.disk).honest }
         ensures macros { self.new.macros ≡ self.old.macros }
     {
@@ -177,6 +179,7 @@ impl<D: Disk, R: MacroFunctions> Store<D, R> {
         ensures forms { (course_of course.new).forms ≤ (course_of course.new).bytes }
         ensures count { (course_of course.new).bytes + fed pending.new.reader
             ≤ (course_of course.old).bytes + fed pending.old.reader + length piece.now }
+        ensures first { W.first writer.new ≡ W.first writer.old }
         ensures honest { (D.state self.new.disk).honest ≡ (D.state self.old.disk).honest }
         ensures macros { self.new.macros ≡ self.old.macros }
     {
@@ -222,6 +225,7 @@ impl<D: Disk, R: MacroFunctions> Store<D, R> {
             ≤ (course_of course.old).bytes + fed pending.old.reader + count) }
         ensures most { (course_of course.new).bytes + fed pending.new.reader
             ≤ (course_of course.old).bytes + fed pending.old.reader + length piece.now }
+        ensures first { W.first writer.new ≡ W.first writer.old }
         ensures honest { (D.state self.new.disk).honest ≡ (D.state self.old.disk).honest }
         ensures macros { self.new.macros ≡ self.old.macros }
     {
@@ -289,6 +293,7 @@ impl<D: Disk, R: MacroFunctions> Store<D, R> {
             → EndsAt R.Meaning.functions D.state wanted (course_of course.old) self.old self.new w wanted.mode
             bytes (W.contents writer.old) (W.contents writer.new) result }
         ensures under_way { AcknowledgesNone R.Meaning.functions D.state (W.account writer.new) self.new }
+        ensures first { W.first writer.new ≡ W.first writer.old }
         ensures honest { (D.state self.new.disk).honest ≡ (D.state self.old.disk).honest }
         ensures macros { self.new.macros ≡ self.old.macros }
     {

@@ -72,6 +72,7 @@ impl<D: Disk, R: MacroFunctions> Store<D, R> {
             → (course_of course.new).bytes ≤ (course_of course.old).bytes + first.now.next + count }
         ensures most { (course_of course.new).bytes
             ≤ (course_of course.old).bytes + first.now.next + length rest.now }
+        ensures first { W.first writer.new ≡ W.first writer.old }
         ensures honest { (D.state self.new.disk).honest ≡ (D.state self.old.disk).honest }
         ensures macros { self.new.macros ≡ self.old.macros }
     {

@@ -33,6 +33,7 @@ reads-init g c =
               λ all is. (all, (is, refl)),
             ),
           );
+      first = refl;
       hands = subst (λ (k : Course). HandsOn g.R.Meaning.Meaning.functions g.D.Disk.state 0 k.forms (g.W.Recipient.account c.args.writer.now) (g.W.Recipient.account c.args.writer.now) c.args.self.now) (sym begun)
           (hands_nothing g.R.Meaning.Meaning.functions g.D.Disk.state g.met.D.Disk.sound 0 (g.W.Recipient.account c.args.writer.now) c.args.self.now c.args.wanted.mode (λ w known. [])
           (λ w known. stands_first g.R.Meaning.Meaning.functions g.D.Disk.state g.met.D.Disk.sound (g.W.Recipient.account c.args.writer.now) c.args.self.now w c.args.wanted.mode (g.I.Read.remaining c.args.reader.now) []
@@ -172,6 +173,7 @@ reads-preserved g c =
               left_both _ _ _ far.0 piece far.1.1 c.in-Ok.ensures.bytes.0,
             ),
           );
+      first = c.answer_piece.ensures.first ∙ c.reads.invariant.first;
       hands =
           let old = known_world c.args.self.now.world (search rules) in
           let goes = (c.reads.invariant.far old.0 old.1).1.0 in
