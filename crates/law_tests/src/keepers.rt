@@ -1,9 +1,11 @@
 //! A recipient that keeps account of its session, and what follows at each moment of it.
+ghost use Rattle.std.specs.Option.{option_map};
 ghost use Rattle.std.specs.Prelude.{◌≡◌, ◌<◌, ◌-◌, ◌^◌, [], List, Some, IfOk, IfSome, true};
 ghost use Rattle.disk_trait.specs.Disk.{Image, IsHonest};
 ghost use Rattle.law_tests.specs.Keepers.{account_of, began_with, first_of};
 ghost use Rattle.plist_state.specs.State.{WorldState};
 ghost use Rattle.prevalence_store.specs.Theorem.{Call, disk_after};
+ghost use Rattle.prevalence_store.specs.calls.Account.{Account, AreStored, with_forms};
 ghost use Rattle.store_laws.specs.Batches.{MeansCalls};
 ghost use Rattle.store_laws.specs.Sessions.{AreCalls, AreHanded};
 ghost use Rattle.user_macros.specs.Functions.{are_registered};
@@ -49,11 +51,11 @@ impl<D: Disk, M: MacroFunctions, I: Read> Model for Keeper<D, M, I> {
     ghost coded = { keeper_code D.code M.code };
 
     ghost view = { λ k. record {
-        bytes = k.bytes.items;
-        start = k.start.value;
-        input = I.remaining k.input.value;
-        handings = map (λ h. record { store = h.store.value; lines = h.lines.items; forms = h.forms }) k.handings.items;
-        whole = k.whole;
+      bytes = k.bytes.items;
+      start = k.start.value;
+      input = I.remaining k.input.value;
+      handings = map (λ h. record { store = h.store.value; lines = h.lines.items; forms = h.forms }) k.handings.items;
+      whole = k.whole;
     } };
 
     ghost invariant = { λ k. AreHanded M.Meaning.functions D.state (began_with k.start.value (I.remaining k.input.value))
@@ -95,6 +97,28 @@ impl<D: Disk, M: MacroFunctions, I: Read> Keeper<D, M, I> {
         bytes
     }
 
+    /// Keeps lines that it is handed, and the store as it is then.
+    fn keep(&mut self, store: &Store<D, M>, lines: &[u8], forms: usize)
+        requires stored { (kept : Account D) → account_of self.old ≡ Some kept
+            → AreStored M.Meaning.functions D.state kept store.now lines.now forms }
+        ensures bytes { self.new.bytes ≡ self.old.bytes }
+        ensures first { first_of self.new ≡ first_of self.old }
+        ensures kept { (later : Account D) → account_of self.new ≡ Some later
+            → option_map (with_forms forms store.now) (account_of self.old) ≡ Some later }
+    {
+        sessions::<D, M>();
+        if !self.whole {
+            return;
+        }
+        match handed(self.alloc, store, lines, forms) {
+            Ok(one) => match self.handings.push(one) {
+                Ok(()) => {}
+                Err(_) => self.whole = false,
+            },
+            Err(_) => self.whole = false,
+        }
+    }
+
     /// All lines that it was handed are stored, each as it came.
     fn are_handed(&self)
         ensures { AreHanded M.Meaning.functions D.state (first_of self.now) self.now.handings }
@@ -116,16 +140,7 @@ impl<D: Disk, M: MacroFunctions, I: Read> Recipient<D, M> for Keeper<D, M, I> {
         lines: &[u8],
         forms: usize,
     ) -> Result<(), OutputFault> {
-        sessions::<D, M>();
-        if self.whole {
-            match handed(self.alloc, store, lines, forms) {
-                Ok(one) => match self.handings.push(one) {
-                    Ok(()) => {}
-                    Err(_) => self.whole = false,
-                },
-                Err(_) => self.whole = false,
-            }
-        }
+        self.keep(store, lines, forms);
         self.bytes.write_lines(store, lines, forms)
     }
 }
@@ -214,7 +229,12 @@ fn a_session_is_kept_account_of(rt: HostRuntime) -> Result<(), Fail> {
     let disk = MemoryDisk::new(rt.alloc());
     assert!(rt; disk.failures() == 0);
     let macros = Macros::new(rt.alloc(), NoFunctions);
-    let answers = kept_answers(rt.alloc(), disk, macros, b"(SETF (GET 'A 'B) 7) (GET 'A 'B)");
+    let answers = kept_answers(
+        rt.alloc(),
+        disk,
+        macros,
+        b"(SETF (GET 'A 'B) 7) (GET 'A 'B)",
+    );
     assert!(rt; answers.is_some_and(|answers| answers.as_slice() == b"7\n7\n"));
     Ok(())
 }

@@ -1,5 +1,5 @@
 -- What is handed on one time after the other, as calls in a row.
-use Rattle.std.proofs.Common.{◌≡◌, ℕ, List, [], ◌∷◌, ◌++◌, map, Option, None, Some, subst, append-nil}
+use Rattle.std.proofs.Common.{◌≡◌, ℕ, List, [], ◌∷◌, ◌++◌, map, Option, None, Some, refl, subst, append-nil}
 use Rattle.disk_trait.specs.Disk.{State, IsHonest}
 use Rattle.plist_state.specs.State.{WorldState}
 use Rattle.prevalence_store.specs.Theorem.{Call, Headline, Keeps, Run}
@@ -16,6 +16,11 @@ module _ (functions : Functions) {D R : Type 0} (state : D → State) where
       → AreStored functions state (account_after account handings) last.store last.lines last.forms → AreHanded functions state account (handings ++ last ∷ [])
   handed_further [] account last handed stored = (stored, tt)
   handed_further (one ∷ more) account last handed stored = (handed.0, handed_further more (with_forms one.forms one.store account) last handed.1 stored)
+
+  -- and the account after them all
+  pub account_further : (handings : List (Handing D R)) (account : Account D) (last : Handing D R) → account_after account (handings ++ last ∷ []) ≡ with_forms last.forms last.store (account_after account handings)
+  account_further [] account last = refl
+  account_further (one ∷ more) account last = account_further more (with_forms one.forms one.store account) last
 
   -- calls in a row, as events
   pub as_events : (calls : List (Call D)) (disk : D) (left : Option WorldState) → Run functions state disk left calls → Happened functions state disk left (map called calls)

@@ -341,7 +341,7 @@ module _ (functions : Functions) {D R : Type 0} (state : D → State) (sound : (
 
   module _ (kept : Account D) (old new : StoreView D R) (w : WorldState) (mode : Mode) (bytes lines : List ℕ)
       (at : (stands : Stands functions state kept old w mode bytes) × ((all : List ℕ) → kept.input ≡ Some all → stands.text ≡ all)) (known : old.world ≡ Some w) where
-    s : Stands functions state kept old w mode bytes
+    abbrev s : Stands functions state kept old w mode bytes
     s = at.0
 
     -- the lines of forms that were taken

@@ -1,8 +1,9 @@
-use Rattle.store_laws.proofs.Handings.{are_calls, ended_calls, handed_calls, handed_further}
+use Rattle.store_laws.proofs.Handings.{account_further, are_calls, ended_calls, handed_calls, handed_further}
 use Rattle.store_laws.proofs.session.sessions.Goals as goal
 
 pub returns-clause-further : goal.returns-clause-further
-returns-clause-further g c = λ functions account handings last handed stored. handed_further functions g.D.Disk.state handings account last handed stored
+returns-clause-further g c = λ functions account handings last handed stored.
+    (handed_further functions g.D.Disk.state handings account last handed stored, account_further functions g.D.Disk.state handings account last)
 
 pub returns-clause-handed : goal.returns-clause-handed
 returns-clause-handed g c = λ functions account handings handed honest keeps.
