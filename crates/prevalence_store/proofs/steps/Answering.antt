@@ -299,27 +299,30 @@ module _ (functions : Functions) {D R : Type 0} (state : D → State) where
       → GoesOn functions state wanted.strict course later old new w mode text a b pending []
       → (served : ServesStrict functions state wanted course old new w mode text a b (Store INPUT)) × StaysAnswered functions w mode text served.0.forms served.0.far
   unread_after wanted course later old new w mode text a b pending goes =
-      let far : Progress = goes.far in ((
-        record {
-          forms = goes.forms;
-          far = far;
-          far_is = goes.advances.far_is;
-          lines = goes.forms;
-          answered = far;
-          answered_is = goes.advances.far_is;
-          at_most = omega arith;
-          in_turn = λ none. omega arith;
-          part = [];
-          output = subst (Writes a b) (sym (append-nil far.lines)) goes.advances.lines;
-          survives = goes.advances.survives;
-          ends = inr (inr (inr (inr (inl (record {
-            input = refl;
-            all = refl;
-            no_part = refl;
-            more = subst (λ t. MayGoOn t (read_in functions far.world mode t)) (sym (goes.rest ∙ append-nil goes.bytes)) goes.is_pending.more;
-            after = goes.advances.after;
-          })))));
-        },
-        inl (record { paced = (later.pace, goes.paced); other = λ full. absurd (omega arith); fault = λ device. absurd (omega arith) }),
-        λ strict. (goes.accepted strict, λ _. goes.accepted strict),
-      ), goes.stays)
+      let far : Progress = goes.far in (
+        (
+          record {
+            forms = goes.forms;
+            far = far;
+            far_is = goes.advances.far_is;
+            lines = goes.forms;
+            answered = far;
+            answered_is = goes.advances.far_is;
+            at_most = omega arith;
+            in_turn = λ none. omega arith;
+            part = [];
+            output = subst (Writes a b) (sym (append-nil far.lines)) goes.advances.lines;
+            survives = goes.advances.survives;
+            ends = inr (inr (inr (inr (inl (record {
+              input = refl;
+              all = refl;
+              no_part = refl;
+              more = subst (λ t. MayGoOn t (read_in functions far.world mode t)) (sym (goes.rest ∙ append-nil goes.bytes)) goes.is_pending.more;
+              after = goes.advances.after;
+            })))));
+          },
+          inl (record { paced = (later.pace, goes.paced); other = λ full. absurd (omega arith); fault = λ device. absurd (omega arith) }),
+          λ strict. (goes.accepted strict, λ _. goes.accepted strict),
+        ),
+        goes.stays,
+      )

@@ -36,26 +36,28 @@ pub tells_accepted : (functions : Functions) (w : WorldState) (mode : Mode) (tex
 tells_accepted functions w mode text far (Accepted logged) other tells = tells
 tells_accepted functions w mode text far (Refused number) other tells = absurd (other number refl)
 
-module _ (functions : Functions) {D R : Type 0} (state : D → State) where
-  -- of one form at most
-  few_stay : (w : WorldState) (mode : Mode) (text : List ℕ) (forms : ℕ) (far : Progress) → forms ≤ 1 → after_forms functions forms w mode text ≡ Some far
-      → ((other : Progress) → after_forms functions 1 w mode text ≡ Some other → StaysAnswered functions w mode text 1 other) → StaysAnswered functions w mode text forms far
-  few_stay w mode text zero far few is stays more = let same : begun w text ≡ far = cc in ap (λ (p : Progress). Some (record p { rest = p.rest ++ more })) same
-  few_stay w mode text (suc zero) far few is stays = stays far is
-  few_stay w mode text (suc (suc forms)) far few is stays = absurd (omega (arith, few))
+-- of one form at most
+few_stay : (functions : Functions) (w : WorldState) (mode : Mode) (text : List ℕ) (forms : ℕ) (far : Progress) → forms ≤ 1 → after_forms functions forms w mode text ≡ Some far
+    → ((other : Progress) → after_forms functions 1 w mode text ≡ Some other → StaysAnswered functions w mode text 1 other) → StaysAnswered functions w mode text forms far
+few_stay functions w mode text zero far few is stays = λ more. let same : begun w text ≡ far = cc in ap (λ (p : Progress). Some (record p { rest = p.rest ++ more })) same
+few_stay functions w mode text (suc zero) far few is stays = stays far is
+few_stay functions w mode text (suc (suc forms)) far few is stays = absurd (omega (arith, few))
 
+module _ (functions : Functions) {D R : Type 0} (state : D → State) where
   -- the session ended before any answer, whatever follows the text
   pub ends_at_once : (wanted : Wanted) (course : Course) (old new : StoreView D R) (w : WorldState) (mode : Mode) (text : List ℕ) (a b : Option (List ℕ)) (number : ℕ)
       → (stops : StopsInForm functions state old new w mode text a b number) × ServesInPace functions state course.pace old new w mode text a b (Store number) stops.serves
       → ((far : Progress) → after_forms functions 1 w mode text ≡ Some far → StaysAnswered functions w mode text 1 far)
       → HasEndedAt functions state wanted course old new w mode text a b (ways.Store number)
   unfolding any_group
-  ends_at_once wanted course old new w mode text a b number is stays =
-      (record {
-        serves = any_group functions state old new w mode text a b wanted.group (Store number) is.0.serves;
-        paced = is.1;
-        stays = (λ output all. (let one = is.0.in_form output in absurd (omega arith)), few_stay w mode text is.0.serves.forms is.0.serves.far is.0.one is.0.serves.far_is stays);
-      }, λ is_strict. (is.0.accepted, λ more. let one = is.0.serves.in_turn refl in absurd (omega (arith, more, one))))
+  ends_at_once wanted course old new w mode text a b number is stays = (
+    record {
+      serves = any_group functions state old new w mode text a b wanted.group (Store number) is.0.serves;
+      paced = is.1;
+      stays = (λ output all. (let one = is.0.in_form output in absurd (omega arith)), few_stay functions w mode text is.0.serves.forms is.0.serves.far is.0.one is.0.serves.far_is stays);
+    },
+    λ is_strict. (is.0.accepted, λ more. let one = is.0.serves.in_turn refl in absurd (omega (arith, more, one))),
+  )
 
   -- the reader refused the text, whatever follows it
   pub fault_ended : (sound : (d : D) → IsHonest (state d) → IsSound (state d)) (wanted : Wanted) (course later : Course) (old new : StoreView D R) (w : WorldState) (mode : Mode) (text : List ℕ) (a b : Option (List ℕ)) (pending : Pending)

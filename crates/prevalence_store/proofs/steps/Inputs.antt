@@ -118,12 +118,3 @@ module _ (functions : Functions) {D R : Type 0} (state : D → State) (wanted : 
     },
     accepted,
   )
-
--- a session that is not strict, as it is served
-pub as_served : (functions : Functions) {D R : Type 0} (state : D → State) (wanted : Wanted) (old new : StoreView D R) (w : WorldState) (held written : Option (List ℕ)) (had has : Option (List ℕ)) (ended : Ended) (ending : Ending)
-    → ServesWanted functions state wanted old new w had has held written ended → wanted.strict ≡ false → ending_of ended ≡ ending → ServesInput functions state wanted.group (pace_wanted wanted) old new w wanted.mode had has held written ending
-as_served functions state wanted old new w held written had has ways.End ending served strict is = subst (λ e. ServesInput functions state wanted.group (pace_wanted wanted) old new w wanted.mode had has held written e) is served.0
-as_served functions state wanted old new w held written had has (ways.Unreadable number place) ending served strict is =
-    subst (λ e. ServesInput functions state wanted.group (pace_wanted wanted) old new w wanted.mode had has held written e) is served.0
-as_served functions state wanted old new w held written had has (ways.Unaccepted number place) ending served strict is = let is_strict = served.0 in absurd (cc)
-as_served functions state wanted old new w held written had has (ways.Store number) ending served strict is = subst (λ e. ServesInput functions state wanted.group (pace_wanted wanted) old new w wanted.mode had has held written e) is served.0

@@ -46,9 +46,6 @@ impl<D: Disk, R: MacroFunctions> Store<D, R> {
         requires answers { R.answers self.old.macros }
         requires whole { are_registered R.Meaning.functions (R.functions self.old.macros) ≡ true }
         requires form { IsFormOf R.Meaning.functions self.old.world wanted.mode first.now.read first.now.own.items }
-        requires begins { (world : WorldState) → self.old.world ≡ Some world
-            → (text : List ℕ) × (BeginsWhole R.Meaning.functions world wanted.mode text
-            (object_of first.now.read.datum) first.now.own.items first.now.next × (drop first.now.next text ≡ rest.now)) }
         requires stands { StandsAtWhole R.Meaning.functions D.state (W.account writer.old) self.old
             wanted.mode (object_of first.now.read.datum) first.now.own.items first.now.next rest.now }
         requires some { 0 < first.now.next }

@@ -1,4 +1,4 @@
-use Rattle.std.proofs.Common.{◌≡◌, ◌-◌, Bool, true, false, not, length, refl, sym, ap, subst, ◌∙◌, arith}
+use Rattle.std.proofs.Common.{◌≡◌, ◌++◌, ◌-◌, Bool, true, false, not, length, refl, sym, ap, subst, ◌∙◌, arith}
 use Rattle.prevalence_store.specs.calls.Pace.{Pace}
 use Rattle.prevalence_store.specs.calls.Streams.{Writes, WritesPart}
 use Rattle.prevalence_store.specs.steps.Course.{Course, course_of}
@@ -13,6 +13,9 @@ grouped : (group : Bool) → not group ≡ false → group ≡ true
 grouped true is = refl
 grouped false is = absurd (cc)
 
+pub take_group-requires-clause-begins : goal.take_group-requires-clause-begins
+take_group-requires-clause-begins g c = λ w known. let s = c.requires.stands w known in (s.0, (s.1, s.2))
+
 -- the device failed as they were logged
 pub returns-then-is_device-clause-answers : goal.returns-then-is_device-clause-answers
 returns-then-is_device-clause-answers g c = λ w known text begins pending.
@@ -26,8 +29,8 @@ returns-then-is_device-clause-answers g c = λ w known text begins pending.
 pub returns-in-Err-clause-left : goal.returns-in-Err-clause-left
 returns-in-Err-clause-left g c = λ left.
     let here = known_world c.args.self.now.world c.requires.form.is_open in
-    let b = c.requires.begins here.0 here.1 in
-    ((c.in-Err.ensures.takes here.0 here.1 b.0 b.1.0 b.1.1).unchanged (sym c.is_device.ensures ∙ c.if-is_device.false), refl, refl)
+    let s = c.requires.stands here.0 here.1 in
+    ((c.in-Err.ensures.takes here.0 here.1 s.0 s.1 s.2).unchanged (sym c.is_device.ensures ∙ c.if-is_device.false), refl, refl)
 
 pub returns-in-Err-clause-answers : goal.returns-in-Err-clause-answers
 returns-in-Err-clause-answers g c = λ w known text begins pending.

@@ -79,19 +79,6 @@ answer_group-requires-clause-form g c =
       all_there = λ w here. subst (AreAllThere w) f.is (c.in-Ok.ensures.all_there w here);
     }
 
-pub answer_group-requires-clause-begins : goal.answer_group-requires-clause-begins
-answer_group-requires-clause-begins g c = λ w known.
-    let functions = g.R.Meaning.Meaning.functions in
-    let p = c.requires.pending.some w known in
-    let piece = c.args.piece.now in
-    let n = c.in-Ok.part.count in
-    let count = c.before_left-count.result in
-    let text = p.0 ++ take n piece in
-    let f = c.in-Form in
-    let has = subst (λ (fed : Fed). Feeds functions w c.args.wanted.mode c.feed.new.pending text fed) f.is (c.in-Ok.ensures.feeds w known p.0 p.1) in
-    let begins = whole_begins functions w c.args.wanted.mode c.feed.new.pending text (object_of f.form.read.datum) f.form.own.items f.left has.0 p.0 piece n count refl c.in-Ok.ensures.part.within c.before_left-count.ensures f.form.next has.2 in
-    (p.0 ++ piece, (begins.0, begins.1 ∙ sym (behind_piece piece count)))
-
 pub returns-in-Answered-clause-answers : goal.returns-in-Answered-clause-answers
 returns-in-Answered-clause-answers g c = λ w known bytes p.
     let functions = g.R.Meaning.Meaning.functions in
