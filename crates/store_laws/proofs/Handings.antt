@@ -2,7 +2,7 @@
 use Rattle.std.proofs.Common.{◌≡◌, ℕ, List, [], ◌∷◌, ◌++◌, map, Option, None, Some, refl, subst, append-nil}
 use Rattle.disk_trait.specs.Disk.{State, IsHonest}
 use Rattle.plist_state.specs.State.{WorldState}
-use Rattle.prevalence_store.specs.Theorem.{Call, Headline, Keeps, Run}
+use Rattle.prevalence_store.specs.Theorem.{Call, Headline, Run}
 use Rattle.prevalence_store.specs.calls.Account.{Account, AreStored, AreUnderWay, call_of, with_forms}
 use Rattle.prevalence_store.specs.calls.Store.{StoreView}
 use Rattle.store_laws.specs.Batches.{AreTogether, InWholeCalls}
@@ -10,18 +10,7 @@ use Rattle.store_laws.specs.Histories.{Happened, called}
 use Rattle.store_laws.specs.Sessions.{AreCalls, AreHanded, Handing, account_after, call_since, calls_of}
 use Rattle.user_macros.specs.Functions.{Functions}
 
-module _ (functions : Functions) {D R : Type 0} (state : D → State) where
-  -- the last comes after the others
-  pub handed_further : (handings : List (Handing D R)) (account : Account D) (last : Handing D R) → AreHanded functions state account handings
-      → AreStored functions state (account_after account handings) last.store last.lines last.forms → AreHanded functions state account (handings ++ last ∷ [])
-  handed_further [] account last handed stored = (stored, tt)
-  handed_further (one ∷ more) account last handed stored = (handed.0, handed_further more (with_forms one.forms one.store account) last handed.1 stored)
-
-  -- and the account after them all
-  pub account_further : (handings : List (Handing D R)) (account : Account D) (last : Handing D R) → account_after account (handings ++ last ∷ []) ≡ with_forms last.forms last.store (account_after account handings)
-  account_further [] account last = refl
-  account_further (one ∷ more) account last = account_further more (with_forms one.forms one.store account) last
-
+module _ (functions : Functions) {D : Type 0} (state : D → State) where
   -- calls in a row, as events
   pub as_events : (calls : List (Call D)) (disk : D) (left : Option WorldState) → Run functions state disk left calls → Happened functions state disk left (map called calls)
   as_events [] disk left run = tt
@@ -43,6 +32,18 @@ module _ (functions : Functions) {D R : Type 0} (state : D → State) where
         (subst (λ (cs : List (Call D)). AreTogether functions state account.disk (Some account.now) cs) parts together);
     happened = as_events calls account.disk (Some account.now) run;
   }
+
+module _ (functions : Functions) {D R : Type 0} (state : D → State) where
+  -- the last comes after the others
+  pub handed_further : (handings : List (Handing D R)) (account : Account D) (last : Handing D R) → AreHanded functions state account handings
+      → AreStored functions state (account_after account handings) last.store last.lines last.forms → AreHanded functions state account (handings ++ last ∷ [])
+  handed_further [] account last handed stored = (stored, tt)
+  handed_further (one ∷ more) account last handed stored = (handed.0, handed_further more (with_forms one.forms one.store account) last handed.1 stored)
+
+  -- and the account after them all
+  pub account_further : (handings : List (Handing D R)) (account : Account D) (last : Handing D R) → account_after account (handings ++ last ∷ []) ≡ with_forms last.forms last.store (account_after account handings)
+  account_further [] account last = refl
+  account_further (one ∷ more) account last = account_further more (with_forms one.forms one.store account) last
 
   -- ---- the calls
 

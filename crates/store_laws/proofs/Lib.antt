@@ -1,4 +1,4 @@
-pub mod Batches
+pub mod WholeCalls
 pub mod Events
 pub mod Outcomes
 pub mod Handings

@@ -1,4 +1,4 @@
-use Rattle.store_laws.proofs.Batches.{in_whole_calls}
+use Rattle.store_laws.proofs.WholeCalls.{in_whole_calls}
 use Rattle.store_laws.proofs.batch.batches.Goals as goal
 
 pub returns : goal.returns
