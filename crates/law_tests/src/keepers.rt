@@ -1,5 +1,5 @@
 //! A recipient that keeps account of its session.
-ghost use Rattle.std.specs.Prelude.{◌≡◌, ℕ, ◌+◌, Some, true};
+ghost use Rattle.std.specs.Prelude.{◌≡◌, ℕ, ◌+◌, None, Some, true};
 ghost use Rattle.std.specs.Option.{option_map};
 ghost use Rattle.law_tests.specs.Keepers.{kept_by};
 ghost use Rattle.user_macros.specs.Functions.{are_registered};
@@ -36,6 +36,8 @@ impl<D: Disk, M: MacroFunctions, I: Read> Recipient<D, M> for Keeper<D, M, I> {
     ghost contents = { λ k. Some k.bytes.items };
 
     ghost account = { λ k. option_map (kept_by k.mode k.first.value (I.remaining k.input.value) k.last.value) k.forms };
+
+    ghost first = { λ _. None };
 
     fn write_lines(
         &mut self,

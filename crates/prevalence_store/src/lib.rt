@@ -11,8 +11,8 @@
 //!   `snapshot` and `close` take none.
 //! - *Between calls* (`Store::keeps_its_world`): whatever a crash leaves while a store is in no call means the world that it has.
 //! - *Before an answer* (`Recipient`): all that a session writes goes out by `write_lines` of its recipient, which does not touch the
-//!   disk. It asks that these are the lines of the next forms of this session, and that what was done since lines were last handed on
-//!   survives as a call that has acknowledged them all (`AreStored`). So what is said of calls in a row is said of a session at each
+//!   disk. It asks for one that keeps account that these are the lines of the next forms of this session, and that what was done since lines were
+//!   last handed on survives as a call that has acknowledged them all (`AreStored`). So what is said of calls in a row is said of a session at each
 //!   moment (`what_is_answered_is_stored`); after its last line `under_way` of `serve_wanted` says it.
 //! - *What opening gives* (`Reopens`): if the files mean a world, `Store::open` gives that world, or a refusal that is no
 //!   word on the files. While it opens, a crash leaves what the files might have meant before. A refusal gives the disk back.

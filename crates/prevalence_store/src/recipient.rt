@@ -25,6 +25,9 @@ pub trait Recipient<D: Disk, R: MacroFunctions> {
     /// The account that it keeps of its session, if it keeps one.
     ghost account: { Self → Option (Account D) };
 
+    /// That account as the session began.
+    ghost first: { Self → Option (Account D) };
+
     /// Takes the lines of so many forms whole, or a part of them from their front.
     fn write_lines(
         &mut self,
@@ -37,13 +40,16 @@ pub trait Recipient<D: Disk, R: MacroFunctions> {
         ensures whole { OnOk result (Writes (contents self.old) (contents self.new) lines.now) }
         ensures part { OnErr result (WritesPart (contents self.old) (contents self.new) lines.now) }
         ensures kept { (later : Account D) → account self.new ≡ Some later
-            → option_map (with_forms forms store.now) (account self.old) ≡ Some later };
+            → option_map (with_forms forms store.now) (account self.old) ≡ Some later }
+        ensures first { first self.new ≡ first self.old };
 }
 
 impl<D: Disk, R: MacroFunctions, W: Write> Recipient<D, R> for W {
     ghost contents = { W.contents };
 
     ghost account = { λ _. None };
+
+    ghost first = { λ _. None };
 
     /// Flushes what was written whole.
     fn write_lines(

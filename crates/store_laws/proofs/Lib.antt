@@ -1,3 +1,4 @@
+pub mod WholeCalls
 pub mod Events
 pub mod Outcomes
 pub mod Handings

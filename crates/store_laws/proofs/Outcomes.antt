@@ -15,7 +15,7 @@ use Rattle.prevalence_store.specs.declared.outcome.Place.{Place}
 use Rattle.prevalence_store.specs.declared.outcome.Wanted.{Wanted}
 use Rattle.prevalence_store.specs.meaning.Acceptance.{between, read_in}
 use Rattle.prevalence_store.specs.meaning.Answers.{Progress, after_forms, evaluated, last_line, one_form, one_form_more, onward}
-use Rattle.prevalence_store.specs.calls.Serve.{Ends, HasRead, IsAfter, IsUnwritten, Serves, ServesInput, ServesWanted, IsUnaccepted, StaysRefused, StaysStopped, pace_wanted}
+use Rattle.prevalence_store.specs.calls.Serve.{Ends, HasRead, IsAfter, IsUnwritten, Serves, ServesInput, ServesWanted, IsUnaccepted, StaysOrEnds, StaysRefused, StaysStopped, pace_wanted}
 use Rattle.prevalence_store.specs.calls.Store.{StoreView}
 use Rattle.prevalence_store.specs.calls.Streams.{Writes}
 use Rattle.store_laws.specs.Outcomes.{BreaksOff, Completes, EndsAtRefusal, HasForms, IsByInput, IsEndBy, StopsAtRefusal, answers}
@@ -404,19 +404,22 @@ module _ (functions : Functions) {D R : Type 0} (state : D → State) (old new :
           let same = ap (λ l. served.far.lines ++ l) (sym (same_last (last is.output is.all))) ∙ is.front in
           (is.rest ++ others.0, others.1 ∙ ap (λ l. l ++ others.0) same ∙ append_assoc bytes is.rest others.0)
 
-  none_left : (left : List ℕ) → ◌≡◌ {A = Option (List ℕ)} (Some []) (Some left) → left ≡ []
-  none_left left is = cc
+  -- the forms of what was read are those of the input
+  still_forms : (mode : Mode) (text left : List ℕ) (forms number : ℕ) (far : Progress) → after_forms functions forms w mode text ≡ Some far → StaysOrEnds functions w mode text forms far number left
+      → after_forms functions forms w mode (text ++ left) ≡ Some (record far { rest = far.rest ++ left })
+  still_forms mode text left forms number far far_is (inl stays) = stays left
+  still_forms mode text left forms number far far_is (inr (none, other)) =
+      subst (λ l. after_forms functions forms w mode (text ++ l) ≡ Some (record far { rest = far.rest ++ l })) (sym none)
+      (ap (after_forms functions forms w mode) (append-nil text) ∙ far_is ∙ ap (λ l. Some (record far { rest = l })) (sym (append-nil far.rest)))
 
-  pub front_of_all : (wanted : Wanted) (input : List ℕ) (held written : Option (List ℕ)) (number forms : ℕ) (far : Progress) → HasForms functions w wanted.mode input forms far
-      → ServesWanted functions state wanted old new w (Some input) (Some []) held written (Store number) → BreaksOff functions state old new w wanted.mode input held written far forms
-  front_of_all wanted input held written number forms far all wants =
+  pub front_of_all : (wanted : Wanted) (input : List ℕ) (has held written : Option (List ℕ)) (number forms : ℕ) (far : Progress) → HasForms functions w wanted.mode input forms far
+      → ServesWanted functions state wanted old new w (Some input) has held written (Store number) → BreaksOff functions state old new w wanted.mode input held written far forms
+  front_of_all wanted input has held written number forms far all wants =
       let over = wants.0 in
       let read = over.reads input refl in
-      let none : read.0 ≡ [] = none_left read.0 read.2.1 in
       let served = over.serves in
       let far_is : after_forms functions served.forms w wanted.mode (over.text ++ read.0) ≡ Some (record served.far { rest = served.far.rest ++ read.0 }) =
-      subst (λ l. after_forms functions served.forms w wanted.mode (over.text ++ l) ≡ Some (record served.far { rest = served.far.rest ++ l })) (sym none)
-      (ap (after_forms functions served.forms w wanted.mode) (append-nil over.text) ∙ served.far_is ∙ ap (λ l. Some (record served.far { rest = l })) (sym (append-nil served.far.rest))) in
+      still_forms wanted.mode over.text read.0 served.forms number served.far served.far_is read.2.2 in
       subst (λ text. BreaksOff functions state old new w wanted.mode text held written far forms) (sym read.1)
       (cut_short wanted.mode over.text held written wanted.group number served read.0 far_is read.2.0 forms far
       (subst (λ text. HasForms functions w wanted.mode text forms far) read.1 all))

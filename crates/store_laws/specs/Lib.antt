@@ -1,5 +1,7 @@
 -- whatever happened to a store, in any order
 pub mod Histories
+-- calls whose forms are logged together
+pub mod Batches
 -- what a session over an input comes to
 pub mod Outcomes
 -- what is handed to the recipient of a session

@@ -8,21 +8,25 @@
 //!   the same world, whatever the disk, the pace of snapshots, groups or not; what a session wrote that was cut short is the front
 //!   of that (`specs/Outcomes.antt`)
 //! - `groups_change_nothing`: so a session with groups gives what one without them gives, also a strict one that ends at a refused form
+//! - `batches`: of calls that log their forms together a crash leaves all forms of some of them, from the first on, and of none a part
+//!   (`specs/Batches.antt`)
 //! - `sessions`: what a session does between two times that it hands lines on is a call which has acknowledged their forms; so at each
-//!   moment of it all forms are there whose lines were handed on (`specs/Sessions.antt`)
+//!   moment of it, up to its end, all forms are there whose lines were handed on, and of no group a part (`specs/Sessions.antt`)
 //! - `each_once`: what a crash leaves of a store in which messages were answered has all of them or none, and the position that tells
 //!   so (`specs/Messages.antt`)
 //! - `version_1_opens`: a store that is opened on files of version 1 has the world that they meant to version 1
 //!
-//! The lemmas in `proofs` are of this crate alone: `Events`, `Handings`, `MessagesDone`, `Outcomes`.
+//! The lemmas in `proofs` are of this crate alone: `Events`, `Handings`, `MessagesDone`, `Outcomes`, `WholeCalls`.
 #![tactic(auto)]
 
+mod batch;
 mod history;
 mod messages;
 mod outcome;
 mod session;
 mod version_1;
 
+pub use batch::batches;
 pub use history::histories;
 pub use messages::each_once;
 pub use outcome::{groups_change_nothing, one_outcome};

@@ -23,8 +23,8 @@ use disk_trait::Disk;
 /// - `stopped`: a strict session that ended at a refused form wrote the lines of the forms up to the first that is refused, and left the
 ///   world after them.
 /// - `both_stopped`: so two such sessions wrote the same bytes, and left the same world.
-/// - `front`: a session that a fault ended, or the want of room or memory, and that had read all the input, wrote a front of these
-///   bytes; the forms that it took are the first of these forms.
+/// - `front`: a session that a fault ended, or the want of room or memory, wrote a front of these bytes; the forms that it took are the
+///   first of these forms.
 pub fn one_outcome<D: Disk, E: Disk, R, S>()
     ensures one_count { (functions : Functions) (world : WorldState) (mode : Mode) (input : List ℕ)
         → (forms others : ℕ) (far other : Progress)
@@ -66,10 +66,10 @@ pub fn one_outcome<D: Disk, E: Disk, R, S>()
         × StopsAtRefusal functions D.state old new world wanted.mode input held written forms far
         × StopsAtRefusal functions E.state before after world wanted.mode input others_held others_written forms far }
     ensures front { (functions : Functions) (wanted : Wanted) (old new : StoreView D R) (world : WorldState)
-        → (input : List ℕ) (held written : Option (List ℕ)) (number : ℕ)
+        → (input : List ℕ) (has held written : Option (List ℕ)) (number : ℕ)
         → (forms : ℕ) (far : Progress)
         → HasForms functions world wanted.mode input forms far
-        → ServesWanted functions D.state wanted old new world (Some input) (Some []) held written (Ended.Store number)
+        → ServesWanted functions D.state wanted old new world (Some input) has held written (Ended.Store number)
         → BreaksOff functions D.state old new world wanted.mode input held written far forms }
 {}
 

@@ -45,11 +45,6 @@ module _ (functions : Functions) {D R : Type 0} (state : D → State) where
   takes_form old new mode text outcome None none some = none refl
   takes_form old new mode text outcome (Some w) none some = some w refl
 
-  pub takes_snapshot : (old new : StoreView D R) (outcome : Outcome) (o : Option WorldState) → (o ≡ None → (outcome ≡ Refused REOPEN) × (new ≡ old))
-      → ((w : WorldState) → o ≡ Some w → Snapshots functions state old new w outcome) → TakesStep functions state old new o Snapshot outcome
-  takes_snapshot old new outcome None none some = none refl
-  takes_snapshot old new outcome (Some w) none some = some w refl
-
   -- ---- steps
 
   pub steps_more : (old mid new : StoreView D R) (steps : List Step) (outcomes : List Outcome) (step : Step) (outcome : Outcome) → TakesSteps functions state old mid steps outcomes

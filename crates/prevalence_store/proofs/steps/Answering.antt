@@ -19,7 +19,7 @@ use Rattle.user_macros.specs.Functions.{Functions}
 use Rattle.prevalence_store.specs.meaning.Answers.{Progress, after_forms, begun, onward}
 use Rattle.prevalence_store.specs.steps.Input.{HasForm, IsPending}
 use Rattle.prevalence_store.specs.calls.Pace.{EndsInPace, Paces, fill_of}
-use Rattle.prevalence_store.specs.calls.Serve.{Advances, AreAccepted, IsAfter, IsPlace, Serves, ServesInPace, StaysRefused, StopsStrict}
+use Rattle.prevalence_store.specs.calls.Serve.{Advances, AreAccepted, IsAfter, IsPlace, Serves, ServesInPace, StaysAnswered, StaysRefused, StopsStrict}
 use Rattle.prevalence_store.specs.calls.Store.{StoreView}
 use Rattle.prevalence_store.specs.steps.Serve.{Answers, ComesTo, EndsAt, GoesOn, HasEndedAt, ServesStrict}
 use Rattle.prevalence_store.specs.steps.Course.{Course}
@@ -29,7 +29,7 @@ use Rattle.prevalence_store.specs.calls.Streams.{Writes}
 use Rattle.prevalence_store.proofs.calls.Progressing.{advance_both, forms_onward, serve_both}
 use Rattle.prevalence_store.proofs.Surviving.{unchanged_survives}
 use Rattle.prevalence_store.proofs.steps.Endings.{after_none, writes_nothing}
-use Rattle.prevalence_store.proofs.steps.Pieces.{longer, piece_whole, piece_left, next_is, after_form}
+use Rattle.prevalence_store.proofs.steps.Pieces.{longer, piece_whole, piece_left, next_is, after_form, stays_longer}
 
 module _ (functions : Functions) {D R : Type 0} (state : D → State) where
   after_longer : (old new : StoreView D R) (w : WorldState) (far : Progress) (more : List ℕ) → IsAfter functions state old new w far → IsAfter functions state old new w (longer far more)
@@ -57,8 +57,7 @@ module _ (functions : Functions) {D R : Type 0} (state : D → State) where
           omega arith;
     };
     accepted = goes.accepted;
-    stays = λ others. ap (after_forms functions goes.forms w mode) (append_assoc text more others) ∙ goes.stays (more ++ others)
-        ∙ ap (λ rest. Some (record goes.far { rest = rest })) (sym (append_assoc goes.far.rest more others));
+    stays = stays_longer functions goes.forms w mode text more goes.far goes.stays;
     bytes = goes.bytes;
     rest = ap (λ t. t ++ more) goes.rest ∙ append_assoc goes.bytes left more;
     is_pending = goes.is_pending;
@@ -210,14 +209,17 @@ module _ (functions : Functions) {D R : Type 0} (state : D → State) where
         (at.0, at.1, place_both served.0.forms served.0.far.rest at.0 place at.2, start_both served.0.far.rest _ place.start at.3, at.4),
       )
       ends_both_at (ways.Unaccepted number place) (is, second) = (is, stops_both number place second is)
-      ends_both_at (ways.Store number) second = strict_both (Store number) second
+      ends_both_at (ways.Store number) (second, no_input) = (strict_both (Store number) second, no_input)
+
+      answered_both : (forms : ℕ) (far : Progress) → StaysAnswered functions p.world mode p.rest forms far → StaysAnswered functions w mode text (forms + first.forms) (onward p far)
+      answered_both forms far is more = forms_onward functions forms first.forms (forms + first.forms) w mode (text ++ more) (longer p more) (longer far more) refl (first.stays more) (is more)
 
       refused_both : (forms : ℕ) (far : Progress) (code : ℕ) → StaysRefused functions p.world mode p.rest forms far code
           → StaysRefused functions w mode text (forms + first.forms) (onward p far) code
       refused_both forms far code is = (
         is.0,
         λ more. (
-          forms_onward functions forms first.forms (forms + first.forms) w mode (text ++ more) (longer p more) (longer far more) refl (first.stays more) (is.1 more).0,
+          answered_both forms far (λ others. (is.1 others).0) more,
           (is.1 more).1,
         ),
       )
@@ -237,19 +239,19 @@ module _ (functions : Functions) {D R : Type 0} (state : D → State) where
       serves_both (ways.Unaccepted number place) (is, second, stays) = (
         is,
         stops_both number place second is,
-        (
-          λ more. forms_onward functions second.forms first.forms (second.forms + first.forms) w mode (text ++ more) (longer p more) (longer second.far more) refl (first.stays more) (stays.0 more),
-          λ more. forms_onward functions second.accepted first.forms (second.accepted + first.forms) w mode (text ++ more) (longer p more) (longer second.before more) refl (first.stays more) (stays.1 more),
-        ),
+        (answered_both second.forms second.far stays.0, answered_both second.accepted second.before stays.1),
       )
       serves_both (ways.Store number) (is, accepted) = (
         record {
           serves = serve_both functions state sound old mid new w mode text a b c first.forms p first.advances honest wanted.group (Store number) is.serves;
           paced = paced_both (Store number) is.serves is.paced;
-          stays = λ output all.
-              let same : is.serves.lines + first.forms ≡ is.serves.forms + first.forms = all in
-              let decided = is.stays output (omega arith) in
-              (decided.0, refused_both is.serves.forms is.serves.far decided.0 decided.1);
+          stays = (
+            λ output all.
+                let same : is.serves.lines + first.forms ≡ is.serves.forms + first.forms = all in
+                let decided = is.stays.0 output (omega arith) in
+                (decided.0, refused_both is.serves.forms is.serves.far decided.0 decided.1),
+            answered_both is.serves.forms is.serves.far is.stays.1,
+          );
         },
         all_of is.serves.forms is.serves.lines is.serves.far is.serves.answered accepted,
       )
@@ -294,29 +296,33 @@ module _ (functions : Functions) {D R : Type 0} (state : D → State) where
 
   -- a read failed after it
   pub unread_after : (wanted : Wanted) (course later : Course) (old new : StoreView D R) (w : WorldState) (mode : Mode) (text : List ℕ) (a b : Option (List ℕ)) (pending : Pending)
-      → GoesOn functions state wanted.strict course later old new w mode text a b pending [] → ServesStrict functions state wanted course old new w mode text a b (Store INPUT)
+      → GoesOn functions state wanted.strict course later old new w mode text a b pending []
+      → (served : ServesStrict functions state wanted course old new w mode text a b (Store INPUT)) × StaysAnswered functions w mode text served.0.forms served.0.far
   unread_after wanted course later old new w mode text a b pending goes =
       let far : Progress = goes.far in (
-        record {
-          forms = goes.forms;
-          far = far;
-          far_is = goes.advances.far_is;
-          lines = goes.forms;
-          answered = far;
-          answered_is = goes.advances.far_is;
-          at_most = omega arith;
-          in_turn = λ none. omega arith;
-          part = [];
-          output = subst (Writes a b) (sym (append-nil far.lines)) goes.advances.lines;
-          survives = goes.advances.survives;
-          ends = inr (inr (inr (inr (inl (record {
-            input = refl;
-            all = refl;
-            no_part = refl;
-            more = subst (λ t. MayGoOn t (read_in functions far.world mode t)) (sym (goes.rest ∙ append-nil goes.bytes)) goes.is_pending.more;
-            after = goes.advances.after;
-          })))));
-        },
-        inl (record { paced = (later.pace, goes.paced); other = λ full. absurd (omega arith); fault = λ device. absurd (omega arith) }),
-        λ strict. (goes.accepted strict, λ _. goes.accepted strict),
+        (
+          record {
+            forms = goes.forms;
+            far = far;
+            far_is = goes.advances.far_is;
+            lines = goes.forms;
+            answered = far;
+            answered_is = goes.advances.far_is;
+            at_most = omega arith;
+            in_turn = λ none. omega arith;
+            part = [];
+            output = subst (Writes a b) (sym (append-nil far.lines)) goes.advances.lines;
+            survives = goes.advances.survives;
+            ends = inr (inr (inr (inr (inl (record {
+              input = refl;
+              all = refl;
+              no_part = refl;
+              more = subst (λ t. MayGoOn t (read_in functions far.world mode t)) (sym (goes.rest ∙ append-nil goes.bytes)) goes.is_pending.more;
+              after = goes.advances.after;
+            })))));
+          },
+          inl (record { paced = (later.pace, goes.paced); other = λ full. absurd (omega arith); fault = λ device. absurd (omega arith) }),
+          λ strict. (goes.accepted strict, λ _. goes.accepted strict),
+        ),
+        goes.stays,
       )

@@ -1,5 +1,5 @@
 -- How a session ends at what was read: at no memory, at a refusal of the reader, and in a form.
-use Rattle.std.proofs.Common.{◌≡◌, ℕ, ◌+◌, ◌≤◌, true, List, [], ◌++◌, length, Option, Some, Result, Ok, Err, inl, inr, refl, sym, ap, subst, ◌∙◌, append_assoc, append-nil, length-append, arith}
+use Rattle.std.proofs.Common.{◌≡◌, ℕ, zero, suc, ◌+◌, ◌≤◌, true, List, [], ◌++◌, length, Option, Some, Result, Ok, Err, inl, inr, refl, sym, ap, subst, ◌∙◌, append_assoc, append-nil, length-append, arith}
 use Rattle.disk_trait.specs.Disk.{State, IsHonest, IsSound}
 use Rattle.lisp_object.specs.Object.{Object}
 use Rattle.lisp_object.specs.declared.refusal.TheConstants.{NO_MEMORY}
@@ -36,14 +36,28 @@ pub tells_accepted : (functions : Functions) (w : WorldState) (mode : Mode) (tex
 tells_accepted functions w mode text far (Accepted logged) other tells = tells
 tells_accepted functions w mode text far (Refused number) other tells = absurd (other number refl)
 
+-- of one form at most
+few_stay : (functions : Functions) (w : WorldState) (mode : Mode) (text : List ℕ) (forms : ℕ) (far : Progress) → forms ≤ 1 → after_forms functions forms w mode text ≡ Some far
+    → ((other : Progress) → after_forms functions 1 w mode text ≡ Some other → StaysAnswered functions w mode text 1 other) → StaysAnswered functions w mode text forms far
+few_stay functions w mode text zero far few is stays = λ more. let same : begun w text ≡ far = cc in ap (λ (p : Progress). Some (record p { rest = p.rest ++ more })) same
+few_stay functions w mode text (suc zero) far few is stays = stays far is
+few_stay functions w mode text (suc (suc forms)) far few is stays = absurd (omega (arith, few))
+
 module _ (functions : Functions) {D R : Type 0} (state : D → State) where
   -- the session ended before any answer, whatever follows the text
   pub ends_at_once : (wanted : Wanted) (course : Course) (old new : StoreView D R) (w : WorldState) (mode : Mode) (text : List ℕ) (a b : Option (List ℕ)) (number : ℕ)
       → (stops : StopsInForm functions state old new w mode text a b number) × ServesInPace functions state course.pace old new w mode text a b (Store number) stops.serves
+      → ((far : Progress) → after_forms functions 1 w mode text ≡ Some far → StaysAnswered functions w mode text 1 far)
       → HasEndedAt functions state wanted course old new w mode text a b (ways.Store number)
   unfolding any_group
-  ends_at_once wanted course old new w mode text a b number is =
-      (record { serves = any_group functions state old new w mode text a b wanted.group (Store number) is.0.serves; paced = is.1; stays = λ output all. let one = is.0.in_form output in absurd (omega arith) }, λ is_strict. (is.0.accepted, λ more. let one = is.0.serves.in_turn refl in absurd (omega (arith, more, one))))
+  ends_at_once wanted course old new w mode text a b number is stays = (
+    record {
+      serves = any_group functions state old new w mode text a b wanted.group (Store number) is.0.serves;
+      paced = is.1;
+      stays = (λ output all. (let one = is.0.in_form output in absurd (omega arith)), few_stay functions w mode text is.0.serves.forms is.0.serves.far is.0.one is.0.serves.far_is stays);
+    },
+    λ is_strict. (is.0.accepted, λ more. let one = is.0.serves.in_turn refl in absurd (omega (arith, more, one))),
+  )
 
   -- the reader refused the text, whatever follows it
   pub fault_ended : (sound : (d : D) → IsHonest (state d) → IsSound (state d)) (wanted : Wanted) (course later : Course) (old new : StoreView D R) (w : WorldState) (mode : Mode) (text : List ℕ) (a b : Option (List ℕ)) (pending : Pending)
@@ -85,7 +99,7 @@ module _ (functions : Functions) {D R : Type 0} (state : D → State) where
       record {
         serves = fault_answered functions state sound old new w mode (text ++ more) a b known wanted.group number refuses.at (refuses.reads more) same (Store code) (inl full);
         paced = fault_paced functions state sound old new w mode (text ++ more) a b known wanted.group number refuses.at (refuses.reads more) same (Store code) (inl full) course.pace;
-        stays = λ output all. (number, (refuses.at, λ others. (refl, still others)));
+        stays = (λ output all. (number, (refuses.at, λ others. (refl, still others))), λ others. refl);
       },
       λ is_strict. (refl, λ more. absurd (omega (arith, more))),
     )
@@ -93,7 +107,7 @@ module _ (functions : Functions) {D R : Type 0} (state : D → State) where
       record {
         serves = fault_answered functions state sound old new w mode (text ++ more) a b known wanted.group number refuses.at (refuses.reads more) same (Store code) (inr memory);
         paced = fault_paced functions state sound old new w mode (text ++ more) a b known wanted.group number refuses.at (refuses.reads more) same (Store code) (inr memory) course.pace;
-        stays = λ output all. (number, (refuses.at, λ others. (refl, still others)));
+        stays = (λ output all. (number, (refuses.at, λ others. (refl, still others))), λ others. refl);
       },
       λ is_strict. (refl, λ more. absurd (omega (arith, more))),
     )
@@ -106,7 +120,7 @@ module _ (functions : Functions) {D R : Type 0} (state : D → State) where
     record {
       serves = no_memory functions state sound old old w mode text held held known wanted.group refl refl;
       paced = no_memory_paced functions state sound old old w mode text held held known wanted.group refl refl course.pace;
-      stays = λ output. absurd (omega arith);
+      stays = (λ output. absurd (omega arith), λ others. refl);
     },
     λ is_strict. (refl, λ more. absurd (omega (arith, more))),
   )
@@ -115,9 +129,12 @@ module _ (functions : Functions) {D R : Type 0} (state : D → State) where
       → EndsAt functions state wanted course old old w mode text held held (ways.Store NO_MEMORY)
   unfolding no_memory nothing
   memory_at_end sound wanted course old w mode text held known = (
-    no_memory functions state sound old old w mode text held held known wanted.group refl refl,
-    no_memory_paced functions state sound old old w mode text held held known wanted.group refl refl course.pace,
-    λ is_strict. (refl, λ more. absurd (omega (arith, more))),
+    (
+      no_memory functions state sound old old w mode text held held known wanted.group refl refl,
+      no_memory_paced functions state sound old old w mode text held held known wanted.group refl refl course.pace,
+      λ is_strict. (refl, λ more. absurd (omega (arith, more))),
+    ),
+    λ input. absurd (omega (arith, input)),
   )
 
   -- nothing is left at the end of the input
@@ -152,14 +169,20 @@ module _ (functions : Functions) {D R : Type 0} (state : D → State) where
     ),
   )
   fault_at_end sound wanted course old new w mode text a b number at known reads same start place forms_is start_is at_is begins (Store code) (inl full) = (
-    fault_answered functions state sound old new w mode text a b known wanted.group number at reads same (Store code) (inl full),
-    fault_paced functions state sound old new w mode text a b known wanted.group number at reads same (Store code) (inl full) course.pace,
-    λ is_strict. (refl, λ more. absurd (omega (arith, more))),
+    (
+      fault_answered functions state sound old new w mode text a b known wanted.group number at reads same (Store code) (inl full),
+      fault_paced functions state sound old new w mode text a b known wanted.group number at reads same (Store code) (inl full) course.pace,
+      λ is_strict. (refl, λ more. absurd (omega (arith, more))),
+    ),
+    λ input. absurd (omega (arith, full.0, input)),
   )
   fault_at_end sound wanted course old new w mode text a b number at known reads same start place forms_is start_is at_is begins (Store code) (inr memory) = (
-    fault_answered functions state sound old new w mode text a b known wanted.group number at reads same (Store code) (inr memory),
-    fault_paced functions state sound old new w mode text a b known wanted.group number at reads same (Store code) (inr memory) course.pace,
-    λ is_strict. (refl, λ more. absurd (omega (arith, more))),
+    (
+      fault_answered functions state sound old new w mode text a b known wanted.group number at reads same (Store code) (inr memory),
+      fault_paced functions state sound old new w mode text a b known wanted.group number at reads same (Store code) (inr memory) course.pace,
+      λ is_strict. (refl, λ more. absurd (omega (arith, more))),
+    ),
+    λ input. absurd (omega (arith, memory.0, input)),
   )
 
   -- the form that the text begins with was refused, and the session is strict
@@ -192,7 +215,7 @@ module _ (functions : Functions) {D R : Type 0} (state : D → State) where
   read_ended wanted course later old new w text a b start next (ways.Unreadable number place) is within stays = absurd is
   read_ended wanted course later old new w text a b start next (ways.Unaccepted number place) is within stays =
       (is.0, strict_stops wanted course later old new w text a b start next number place is within, (stays is.1.far is.1.advances.far_is, λ more. refl))
-  read_ended wanted course later old new w text a b start next (ways.Store number) is within stays = ends_at_once wanted course old new w wanted.mode text a b number is
+  read_ended wanted course later old new w text a b start next (ways.Store number) is within stays = ends_at_once wanted course old new w wanted.mode text a b number is stays
 
   pub read_at_end : (wanted : Wanted) (course later : Course) (old new : StoreView D R) (w : WorldState) (text : List ℕ) (a b : Option (List ℕ)) (start next : ℕ) (ended : Ended)
       → AnswersRead functions state course later old new w wanted text a b start next (Err ended) → start ≤ length text → EndsAt functions state wanted course old new w wanted.mode text a b ended
@@ -201,7 +224,7 @@ module _ (functions : Functions) {D R : Type 0} (state : D → State) where
   read_at_end wanted course later old new w text a b start next (ways.Unreadable number place) is within = absurd is
   read_at_end wanted course later old new w text a b start next (ways.Unaccepted number place) is within = (is.0, strict_stops wanted course later old new w text a b start next number place is within)
   read_at_end wanted course later old new w text a b start next (ways.Store number) is within =
-      (any_group functions state old new w wanted.mode text a b wanted.group (Store number) is.0.serves, is.1, λ is_strict. (is.0.accepted, λ more. let one = is.0.serves.in_turn refl in absurd (omega (arith, more, one))))
+      ((any_group functions state old new w wanted.mode text a b wanted.group (Store number) is.0.serves, is.1, λ is_strict. (is.0.accepted, λ more. let one = is.0.serves.in_turn refl in absurd (omega (arith, more, one)))), is.0.no_input)
 
   -- the same where nothing was done before
   pub read_from : (course mid later : Course) (old between new : StoreView D R) (w : WorldState) (wanted : Wanted) (text : List ℕ) (a b c : Option (List ℕ)) (start next : ℕ) (result : Result Unit Ended) → between ≡ old → b ≡ a → mid ≡ course

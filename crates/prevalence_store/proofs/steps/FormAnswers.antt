@@ -4,7 +4,7 @@ use Rattle.disk_trait.specs.Disk.{State, IsHonest, IsSound}
 use Rattle.gate_log.specs.Layout.{LogRecord}
 use Rattle.lisp_object.specs.Object.{Object}
 use Rattle.lisp_object.specs.Datum.{object_of}
-use Rattle.lisp_object.specs.declared.refusal.TheConstants.{LOG_FULL, OUTPUT, NO_MEMORY}
+use Rattle.lisp_object.specs.declared.refusal.TheConstants.{INPUT, LOG_FULL, OUTPUT, NO_MEMORY}
 use Rattle.form_eval.specs.Acceptance.{accept}
 use Rattle.lisp_operators.specs.Evaluation.{Done, Evaluation}
 use Rattle.lisp_operators.specs.Evaluated.{done as done_of}
@@ -151,10 +151,10 @@ module _ (functions : Functions) where
         subst (λ t. TriesForm functions state old new w mode text held written (Ok t)) (sym same) (form_is_answered answer line of is_line writes)
 
     -- one form was taken, and not answered whole
-    unfoldable taken_only : (far : Progress) (part : List ℕ) (number : ℕ) (n : ℕ) → after_forms functions 1 w mode text ≡ Some far → Writes held written part
+    unfoldable taken_only : (far : Progress) (part : List ℕ) (number : ℕ) → number ≢ INPUT → (n : ℕ) → after_forms functions 1 w mode text ≡ Some far → Writes held written part
         → SurvivesAs functions state old new w far.taken n → Ends functions state old new w mode text held written 1 far 0 (begun w text) part false (Store number)
         → StopsInForm functions state old new w mode text held written number
-    taken_only far part number n one writes survives ends = record {
+    taken_only far part number no_input n one writes survives ends = record {
       serves = record {
         forms = 1;
         far = far;
@@ -169,6 +169,8 @@ module _ (functions : Functions) where
         survives = λ here claims keeps. fewer_survive functions (state old.disk) (state new.disk) w far.taken n 0 new.world (survives here claims keeps) (omega arith);
         ends = ends;
       };
+      one = omega arith;
+      no_input = no_input;
       in_form = λ output. refl;
       accepted = refl;
     }
@@ -189,7 +191,7 @@ module _ (functions : Functions) where
         let same_line = value_lines new e line given.0 (stores_left state old new e.wrote mode own given.0 given.2) is_line in
         let part = part_of held written line (some_line (value_line given.0 (object_of e.value)) line same_line (some_last (printed given.0.packages given.0.current_package (object_of e.value)) 10)) writes in
         let far : Progress = evaluated w mode own (drop next text) (Ok (done_of e given.0)) in (
-          taken_only far part.0 OUTPUT (length (records_of e.wrote mode own)) (one_is (Ok (done_of e given.0)) given.1) part.4 (of.survives w)
+          taken_only far part.0 OUTPUT (λ input. absurd (omega (arith, input))) (length (records_of e.wrote mode own)) (one_is (Ok (done_of e given.0)) given.1) part.4 (of.survives w)
               (inr (inr (inr (inr (inr (inl (record {
                 output = refl;
                 unwritten = part.1 ++ last_line (read_in functions far.world mode far.rest);
@@ -204,7 +206,7 @@ module _ (functions : Functions) where
         let same = of.unchanged refl in
         let part = part_of held written line (some_line (refusal_line number) line is_line.line_of (λ none. absurd (cc))) writes in
         let far : Progress = evaluated w mode own (drop next text) (Err number) in (
-          taken_only far part.0 OUTPUT 0 (one_is (Err number) (of.cause w known)) part.4 (unchanged_survives functions state sound old new w same)
+          taken_only far part.0 OUTPUT (λ input. absurd (omega (arith, input))) 0 (one_is (Err number) (of.cause w known)) part.4 (unchanged_survives functions state sound old new w same)
               (inr (inr (inr (inr (inr (inl (record {
                 output = refl;
                 unwritten = part.1 ++ last_line (read_in functions far.world mode far.rest);
@@ -226,6 +228,8 @@ module _ (functions : Functions) where
       record {
         serves = nothing functions state sound old new w mode text held written known false (Store number) [] same (writes_nothing held written quiet)
             (inr (inr (inr (inr (inr (inr (record { memory = memory; all = omega arith; no_part = refl; after = after_none functions state sound old new w mode text held written known text [] [] same })))))));
+        one = omega arith;
+        no_input = λ input. absurd (omega (arith, memory, input));
         in_form = λ output. absurd (omega arith);
         accepted = refl;
       },
@@ -245,7 +249,7 @@ module _ (functions : Functions) where
         let why = of.cause w known in
         let failed = of.fault refl in
         let taken = records_written why.0.0.wrote why.0.2 in (
-          taken_only (evaluated w mode own (drop next text) (Ok why.0.0)) [] number 0 (one_is (Ok why.0.0) why.0.1) (writes_nothing held written quiet)
+          taken_only (evaluated w mode own (drop next text) (Ok why.0.0)) [] number (λ input. absurd (omega (arith, stop, input))) 0 (one_is (Ok why.0.0) why.0.1) (writes_nothing held written quiet)
               (subst (λ (es : List LogRecord). SurvivesAs functions state old new w es 0) (sym taken) (of.survives w))
               (inl (record {
                 device = stop;

@@ -33,7 +33,7 @@ use Rattle.prevalence_store.proofs.steps.Counting.{all_paced, before_grown, coun
 use Rattle.prevalence_store.proofs.steps.Endings.{after_none, part_of, writes_nothing}
 use Rattle.prevalence_store.proofs.steps.FormAnswers.{some_first, some_last}
 use Rattle.prevalence_store.proofs.steps.Gathering.{count_entries}
-use Rattle.prevalence_store.proofs.steps.Pieces.{longer}
+use Rattle.prevalence_store.proofs.steps.Pieces.{longer, stays_longer}
 use Rattle.prevalence_store.proofs.Surviving.{fewer_survive}
 use Rattle.user_macros.specs.Functions.{Functions}
 
@@ -253,7 +253,7 @@ module _ (functions : Functions) where
               some_open = fault.some_forms;
               before = inl (course.pace, (refl, λ i. record { generation = fault.failed.generation i; record_count = fault.failed.record_count i; size = fault.failed.size i; first_size = fault.failed.first_size i }));
             })));
-            stays = λ output. absurd (omega arith);
+            stays = (λ output. absurd (omega arith), stays_longer functions fault.gathered.forms w wanted.mode text more far is.stays);
           },
           λ strict. (refl, λ _. is.accepted strict),
         )
@@ -319,7 +319,7 @@ module _ (functions : Functions) where
                 other = λ full. absurd (omega arith);
                 fault = λ device. absurd (omega arith);
               });
-              stays = λ output all. absurd (omega (arith, all, at.fewer));
+              stays = (λ output all. absurd (omega (arith, all, at.fewer)), stays_longer functions gathered.forms w wanted.mode text more is.far is.stays);
             },
             λ strict. (at.accepted (is.accepted strict), λ _. is.accepted strict),
           )

@@ -30,10 +30,10 @@ use Rattle.prevalence_store.specs.steps.Course.{Course}
 use Rattle.prevalence_store.specs.steps.Gather.{FailsForms, TakesForms}
 use Rattle.prevalence_store.specs.steps.Schedule.{Renewing, RenewsAfterForm, RenewsIfDue}
 use Rattle.prevalence_store.specs.steps.Serve.{GoesOn}
-use Rattle.prevalence_store.specs.steps.Standing.{AcknowledgesNone, Follows, HandsOn, IsAtRest, Stands, StandsBefore}
+use Rattle.prevalence_store.specs.steps.Standing.{AcknowledgesNone, Follows, HandsOn, IsAtRest, Stands, StandsBefore, StandsBeforeAll}
 use Rattle.prevalence_store.proofs.Surviving.{all_or_none_of_one, both_survive, none_taken, unchanged_survives}
 use Rattle.prevalence_store.proofs.calls.Progressing.{forms_onward}
-use Rattle.prevalence_store.proofs.steps.Pieces.{longer}
+use Rattle.prevalence_store.proofs.steps.Pieces.{longer, stays_longer}
 use Rattle.user_macros.specs.Functions.{Functions}
 
 -- a writer that held nothing and got this line
@@ -107,57 +107,120 @@ module _ (functions : Functions) {D R : Type 0} (state : D → State) (sound : (
   -- ---- where it stands
 
   -- as it begins
-  pub stands_first : (told : Option (Account D)) (store : StoreView D R) (w : WorldState) (mode : Mode) (input : Option (List ℕ)) (text : List ℕ)
-      → ((kept : Account D) → told ≡ Some kept → kept ≡ first_account w mode input store.disk) → (IsHonest (state store.disk) → Keeps functions (state store.disk) w)
-      → ((all : List ℕ) → input ≡ Some all → (left : List ℕ) × (all ≡ text ++ left)) → StandsBefore functions state told store w mode text
-  stands_first told store w mode input text begins keeps fits kept is =
-      subst (λ (a : Account D). Stands functions state a store w mode text) (sym (begins kept is)) (record {
-        text = text;
-        of_input = fits;
-        far = begun w text;
-        stays = λ more. refl;
-        mode_is = refl;
-        world_is = refl;
-        rest_is = refl;
-        at_rest = rests_here (first_account w mode input store.disk) store w refl refl keeps;
-      })
+  module _ (told : Option (Account D)) (store : StoreView D R) (w : WorldState) (mode : Mode) (input : Option (List ℕ)) (text : List ℕ)
+      (begins : (kept : Account D) → told ≡ Some kept → kept ≡ first_account w mode input store.disk) (keeps : IsHonest (state store.disk) → Keeps functions (state store.disk) w)
+      (fits : (all : List ℕ) → input ≡ Some all → (left : List ℕ) × (all ≡ text ++ left)) where
+    first_stands : (kept : Account D) → told ≡ Some kept → (s : Stands functions state kept store w mode text) × (s.text ≡ text) × (kept.input ≡ input)
+    first_stands kept is =
+        subst (λ (a : Account D). (s : Stands functions state a store w mode text) × (s.text ≡ text) × (a.input ≡ input)) (sym (begins kept is)) (
+          record {
+            text = text;
+            of_input = fits;
+            far = begun w text;
+            stays = λ more. refl;
+            mode_is = refl;
+            world_is = refl;
+            rest_is = refl;
+            at_rest = rests_here (first_account w mode input store.disk) store w refl refl keeps;
+          },
+          refl,
+          refl,
+        )
+
+    pub stands_first : StandsBefore functions state told store w mode text
+    stands_first kept is = (first_stands kept is).0
+
+    pub stands_first_all : ((all : List ℕ) → input ≡ Some all → all ≡ text) → StandsBeforeAll functions state told store w mode text
+    stands_first_all whole kept is = let s = first_stands kept is in (s.0, λ all has. s.1 ∙ sym (whole all (sym s.2 ∙ has)))
 
   -- after forms that were answered, before what is left
-  pub stands_on : (strict : Bool) (course later : Course) (old new : StoreView D R) (w : WorldState) (mode : Mode) (text : List ℕ) (a b : Option (List ℕ)) (pending : Pending) (left : List ℕ) (told now : Option (Account D))
-      → StandsBefore functions state told old w mode text → (goes : GoesOn functions state strict course later old new w mode text a b pending left) → HandsOn functions state course.forms later.forms told now new
-      → StandsBefore functions state now new goes.far.world mode (goes.bytes ++ left)
-  stands_on strict course later old new w mode text a b pending left told now stands goes hands kept is =
-      let h = hands kept is goes.far.world goes.advances.after.left in
-      let s = stands h.0 h.1 in
-      let count : kept.forms ≡ goes.forms + h.0.forms = omega (arith, h.2.forms, goes.comes.forms_are) in
-      record {
-        text = s.text;
-        of_input = λ all has. s.of_input all (sym h.2.input ∙ has);
-        far = onward s.far goes.far;
-        stays = λ more. (λ i. after_forms functions kept.forms (h.2.first i) (h.2.mode i) (s.text ++ more))
-            ∙ forms_onward functions goes.forms h.0.forms kept.forms h.0.first h.0.mode (s.text ++ more) (longer s.far more) (longer goes.far more) count (s.stays more)
-            ((λ i. after_forms functions goes.forms (s.world_is i) (s.mode_is i) (s.rest_is i ++ more)) ∙ goes.stays more);
-        mode_is = h.2.mode ∙ s.mode_is;
-        world_is = refl;
-        rest_is = goes.rest;
-        at_rest = h.3;
-      }
+  module _ (strict : Bool) (course later : Course) (old new : StoreView D R) (w : WorldState) (mode : Mode) (text : List ℕ) (a b : Option (List ℕ)) (pending : Pending) (left : List ℕ) (told now : Option (Account D))
+      (goes : GoesOn functions state strict course later old new w mode text a b pending left) (hands : HandsOn functions state course.forms later.forms told now new) where
+    on_from : (before kept : Account D) → Follows course.forms later.forms before kept → IsAtRest functions state kept new goes.far.world → (s : Stands functions state before old w mode text)
+        → (t : Stands functions state kept new goes.far.world mode (goes.bytes ++ left)) × (t.text ≡ s.text)
+    on_from before kept follows rest s =
+        let count : kept.forms ≡ goes.forms + before.forms = omega (arith, follows.forms, goes.comes.forms_are) in (
+          record {
+            text = s.text;
+            of_input = λ all has. s.of_input all (sym follows.input ∙ has);
+            far = onward s.far goes.far;
+            stays = λ more. (λ i. after_forms functions kept.forms (follows.first i) (follows.mode i) (s.text ++ more))
+                ∙ forms_onward functions goes.forms before.forms kept.forms before.first before.mode (s.text ++ more) (longer s.far more) (longer goes.far more) count (s.stays more)
+                ((λ i. after_forms functions goes.forms (s.world_is i) (s.mode_is i) (s.rest_is i ++ more)) ∙ goes.stays more);
+            mode_is = follows.mode ∙ s.mode_is;
+            world_is = refl;
+            rest_is = goes.rest;
+            at_rest = rest;
+          },
+          refl,
+        )
+
+    pub stands_on : StandsBefore functions state told old w mode text → StandsBefore functions state now new goes.far.world mode (goes.bytes ++ left)
+    stands_on stands kept is =
+        let h = hands kept is goes.far.world goes.advances.after.left in
+        (on_from h.0 kept h.2 h.3 (stands h.0 h.1)).0
+
+    pub stands_on_all : StandsBeforeAll functions state told old w mode text → StandsBeforeAll functions state now new goes.far.world mode (goes.bytes ++ left)
+    stands_on_all stands kept is =
+        let h = hands kept is goes.far.world goes.advances.after.left in
+        let s = stands h.0 h.1 in
+        let t = on_from h.0 kept h.2 h.3 s.0 in
+        (t.0, λ all has. t.1 ∙ s.1 all (sym h.2.input ∙ has))
 
   -- after a call that took no form
-  pub stands_further : (told : Option (Account D)) (mid new : StoreView D R) (w : WorldState) (mode : Mode) (bytes : List ℕ) → StandsBefore functions state told mid w mode bytes → (state new.disk).honest ≡ (state mid.disk).honest
-      → mid.world ≡ Some w → new.world ≡ Some w → SurvivesAs functions state mid new w [] 0 → StandsBefore functions state told new w mode bytes
+  pub stands_further : (told : Option (Account D)) (mid new : StoreView D R) (w : WorldState) (mode : Mode) (bytes : List ℕ) → StandsBeforeAll functions state told mid w mode bytes → (state new.disk).honest ≡ (state mid.disk).honest
+      → mid.world ≡ Some w → new.world ≡ Some w → SurvivesAs functions state mid new w [] 0 → StandsBeforeAll functions state told new w mode bytes
   stands_further told mid new w mode bytes stands same known left survives kept is =
-      let s = stands kept is in
-      record {
-        text = s.text;
-        of_input = s.of_input;
-        far = s.far;
-        stays = s.stays;
-        mode_is = s.mode_is;
-        world_is = s.world_is;
-        rest_is = s.rest_is;
-        at_rest = rests_further kept mid new w s.at_rest same known left survives;
-      }
+      let s = (stands kept is).0 in (
+        record {
+          text = s.text;
+          of_input = s.of_input;
+          far = s.far;
+          stays = s.stays;
+          mode_is = s.mode_is;
+          world_is = s.world_is;
+          rest_is = s.rest_is;
+          at_rest = rests_further kept mid new w s.at_rest same known left survives;
+        },
+        (stands kept is).1,
+      )
+
+  -- ---- before all that is left of the input
+
+  -- what was not read yet, if the input is told, and nothing if it is not
+  to_the_end : (kept : Account D) (store : StoreView D R) (w : WorldState) (mode : Mode) (bytes more : List ℕ) → (s : Stands functions state kept store w mode bytes) → ((all : List ℕ) → kept.input ≡ Some all → s.text ++ more ≡ all)
+      → (t : Stands functions state kept store w mode (bytes ++ more)) × ((all : List ℕ) → kept.input ≡ Some all → t.text ≡ all)
+  to_the_end kept store w mode bytes more s whole = (
+    record {
+      text = s.text ++ more;
+      of_input = λ all is. ([], sym (whole all is) ∙ sym (append-nil (s.text ++ more)));
+      far = longer s.far more;
+      stays = stays_longer functions kept.forms kept.first kept.mode s.text more s.far s.stays;
+      mode_is = s.mode_is;
+      world_is = s.world_is;
+      rest_is = ap (λ t. t ++ more) s.rest_is;
+      at_rest = s.at_rest;
+    },
+    whole,
+  )
+
+  pub rest_of_input : (told : Option (Account D)) (store : StoreView D R) (w : WorldState) (mode : Mode) (bytes : List ℕ) → StandsBefore functions state told store w mode bytes
+      → (more : List ℕ) × StandsBeforeAll functions state told store w mode (bytes ++ more)
+  rest_of_input None store w mode bytes stands = ([], λ kept is. absurd (cc))
+  rest_of_input (Some kept) store w mode bytes stands = by kept.input refl where
+    s : Stands functions state kept store w mode bytes
+    s = stands kept refl
+
+    to_rest : (more : List ℕ) → ((all : List ℕ) → kept.input ≡ Some all → s.text ++ more ≡ all) → StandsBeforeAll functions state (Some kept) store w mode (bytes ++ more)
+    to_rest more whole other is =
+        let same : kept ≡ other = cc in
+        subst (λ (a : Account D). (t : Stands functions state a store w mode (bytes ++ more)) × ((all : List ℕ) → a.input ≡ Some all → t.text ≡ all)) same (to_the_end kept store w mode bytes more s whole)
+
+    by : (o : Option (List ℕ)) → kept.input ≡ o → (more : List ℕ) × StandsBeforeAll functions state (Some kept) store w mode (bytes ++ more)
+    by None none = ([], to_rest [] (λ all is. absurd (cc)))
+    by (Some all) told_is =
+        let left = s.of_input all told_is in
+        (left.0, to_rest left.0 (λ other is. let same : all ≡ other = cc in sym left.1 ∙ same))
 
   -- ---- what was handed on
 
@@ -245,14 +308,17 @@ module _ (functions : Functions) {D R : Type 0} (state : D → State) (sound : (
   pub none_handed : (from to : ℕ) (told now : Option (Account D)) (store : StoreView D R) (w : WorldState) → store.world ≡ Some w → HandsOn functions state from to told now store → AcknowledgesNone functions state now store
   none_handed from to told now store w known hands = none_here now store w known (λ kept is. (hands kept is w known).3)
 
+  pub none_standing_all : (told : Option (Account D)) (store : StoreView D R) (w : WorldState) (mode : Mode) (bytes : List ℕ) → store.world ≡ Some w → StandsBeforeAll functions state told store w mode bytes → AcknowledgesNone functions state told store
+  none_standing_all told store w mode bytes known stands = none_here told store w known (λ kept is. (stands kept is).0.at_rest)
+
   -- a form that was not taken: its record may be in the file if the device failed
-  pub none_of_form : (told : Option (Account D)) (old new : StoreView D R) (w : WorldState) (mode : Mode) (bytes own : List ℕ) (x : Object) (failure : Failure) → old.world ≡ Some w → StandsBefore functions state told old w mode bytes
+  pub none_of_form : (told : Option (Account D)) (old new : StoreView D R) (w : WorldState) (mode : Mode) (bytes own : List ℕ) (x : Object) (failure : Failure) → old.world ≡ Some w → StandsBeforeAll functions state told old w mode bytes
       → TakesForm functions state old new mode own x (Err failure) → AcknowledgesNone functions state told new
-  none_of_form told old new w mode bytes own x (failures.Refused number) known stands of = none_further told old new w known (λ kept is. (stands kept is).at_rest) (of.survives w)
-  none_of_form told old new w mode bytes own x failures.Full known stands of = none_further told old new w known (λ kept is. (stands kept is).at_rest) (of.survives w)
-  none_of_form told old new w mode bytes own x failures.OutOfMemory known stands of = none_further told old new w known (λ kept is. (stands kept is).at_rest) (of.survives w)
+  none_of_form told old new w mode bytes own x (failures.Refused number) known stands of = none_further told old new w known (λ kept is. (stands kept is).0.at_rest) (of.survives w)
+  none_of_form told old new w mode bytes own x failures.Full known stands of = none_further told old new w known (λ kept is. (stands kept is).0.at_rest) (of.survives w)
+  none_of_form told old new w mode bytes own x failures.OutOfMemory known stands of = none_further told old new w known (λ kept is. (stands kept is).0.at_rest) (of.survives w)
   none_of_form told old new w mode bytes own x failures.DeviceFault known stands of =
-      acknowledges_none told old new w (logged mode own ∷ []) known (λ kept is. (stands kept is).at_rest) (of.survives w)
+      acknowledges_none told old new w (logged mode own ∷ []) known (λ kept is. (stands kept is).0.at_rest) (of.survives w)
       (λ here honest keeps. all_or_none_of_one functions (state old.disk) (state new.disk) w (logged mode own) (of.survives w here honest keeps).any_moment)
 
   -- the forms of a group
@@ -273,7 +339,11 @@ module _ (functions : Functions) {D R : Type 0} (state : D → State) (sound : (
 
   -- ---- what may be handed on
 
-  module _ (kept : Account D) (old new : StoreView D R) (w : WorldState) (mode : Mode) (bytes lines : List ℕ) (s : Stands functions state kept old w mode bytes) (known : old.world ≡ Some w) where
+  module _ (kept : Account D) (old new : StoreView D R) (w : WorldState) (mode : Mode) (bytes lines : List ℕ)
+      (at : (stands : Stands functions state kept old w mode bytes) × ((all : List ℕ) → kept.input ≡ Some all → stands.text ≡ all)) (known : old.world ≡ Some w) where
+    abbrev s : Stands functions state kept old w mode bytes
+    s = at.0
+
     -- the lines of forms that were taken
     stored_after : (forms : ℕ) (far : Progress) → after_forms functions forms w mode bytes ≡ Some far
         → (lines ≡ far.lines) ⊎ (lines ≡ far.lines ++ last_line (read_in functions far.world mode far.rest))
@@ -281,7 +351,7 @@ module _ (functions : Functions) {D R : Type 0} (state : D → State) (sound : (
         → AreStored functions state kept new lines forms
     stored_after forms far far_is are left survives all_or_none = record {
       text = s.text;
-      of_input = s.of_input;
+      of_input = at.1;
       before = s.far;
       before_is = ap (after_forms functions kept.forms kept.first kept.mode) (sym (append-nil s.text)) ∙ s.stays [] ∙ ap (λ t. Some (record s.far { rest = t })) (append-nil s.far.rest);
       before_now = s.world_is ∙ sym s.at_rest.now;
@@ -315,13 +385,11 @@ module _ (functions : Functions) {D R : Type 0} (state : D → State) (sound : (
         (λ here honest keeps. one_batch functions (state old.disk) (state new.disk) w tries.0.taken (fill_of old) (fill_of new) (was_logged told) tries.2 (advances.survives here honest keeps).any_moment)
 
     -- the lines of a group
-    pub lines_stored : (wanted : Wanted) (gathered : Gathered) → wanted.mode ≡ mode → TakesForms functions wanted state old new w bytes gathered → lines ≡ gathered.lines.items
+    pub lines_stored : (text more : List ℕ) → bytes ≡ text ++ more → (wanted : Wanted) (gathered : Gathered) → wanted.mode ≡ mode → TakesForms functions wanted state old new w text gathered → lines ≡ gathered.lines.items
         → AreStored functions state kept new lines gathered.forms
-    lines_stored wanted gathered in_mode took are =
+    lines_stored text more parts wanted gathered in_mode took are =
         let is = took.gathers in
-        stored_after gathered.forms is.far
-        (ap (λ (m : Mode). after_forms functions gathered.forms w m bytes) (sym in_mode) ∙ ap (after_forms functions gathered.forms w wanted.mode) (sym (append-nil bytes)) ∙ is.stays []
-        ∙ ap (λ t. Some (record is.far { rest = t })) (append-nil is.far.rest))
+        stored_after gathered.forms (longer is.far more) ((λ i. after_forms functions gathered.forms w (sym in_mode i) (parts i)) ∙ is.stays more)
         (inl (are ∙ is.lines)) took.logs.left took.survives took.all_or_none
 
     -- the line of a refusal

@@ -10,7 +10,7 @@ use Rattle.prevalence_store.specs.declared.outcome.Wanted.{Wanted}
 use Rattle.prevalence_store.specs.declared.outcome.Ending.{Ending}
 use Rattle.prevalence_store.specs.declared.outcome.Ending.TheVariants.{Store}
 use Rattle.user_macros.specs.Functions.{Functions}
-use Rattle.prevalence_store.specs.calls.Serve.{ServesInput, ServesWanted, pace_wanted}
+use Rattle.prevalence_store.specs.calls.Serve.{ServesInput, ServesWanted, StaysAnswered, pace_wanted}
 use Rattle.prevalence_store.specs.calls.Store.{StoreView}
 use Rattle.prevalence_store.specs.steps.Course.{Course, first_course}
 use Rattle.prevalence_store.specs.steps.Serve.{EndsAt, HasEndedAt, ServesStrict, ending_of}
@@ -53,44 +53,44 @@ module _ (functions : Functions) {D R : Type 0} (state : D → State) (wanted : 
   first = first_course (pace_wanted wanted)
 
   -- a read failed
-  pub unread_input : ServesStrict functions state wanted first old new w wanted.mode text held written (Store INPUT) → HasLeft had before text → Keeps before has
-      → ServesWanted functions state wanted old new w had has held written (ways.Store INPUT)
-  unread_input (served, paced, accepted) left keeps = (
+  pub unread_input : (served : ServesStrict functions state wanted first old new w wanted.mode text held written (Store INPUT)) × StaysAnswered functions w wanted.mode text served.0.forms served.0.far
+      → HasLeft had before text → Keeps before has → ServesWanted functions state wanted old new w had has held written (ways.Store INPUT)
+  unread_input ((served, paced, accepted), stays) left keeps = (
     record {
       text = text;
       serves = served;
       paced = paced;
-      reads = λ all is. let one = left all is in (one.0, one.1.1, (λ output. absurd (omega arith), kept before has one.0 one.1.0 keeps));
+      reads = λ all is. let one = left all is in (one.0, one.1.1, (λ output. absurd (omega arith), kept before has one.0 one.1.0 keeps, inl stays));
     },
     accepted,
   )
+
+  -- nothing is left of what the reader had
+  pub none_left : HasLeft had before text → Consumes before has [] → IsAtEnd has → (all : List ℕ) → had ≡ Some all → (all ≡ text ++ []) × (has ≡ Some [])
+  none_left left took ends all is =
+      let one = left all is in
+      let then = consumed before has one.0 [] one.1.0 took in
+      let none = at_end has then.0 then.1.0 ends in
+      (one.1.1 ∙ ap (λ t. text ++ t) (then.1.1 ∙ none), then.1.0 ∙ ap (λ t. Some t) none)
 
   -- the input is at its end
   pub ended_input : (ended : Ended) → EndsAt functions state wanted first old new w wanted.mode text held written ended → HasLeft had before text → Consumes before has [] → IsAtEnd has
       → ServesWanted functions state wanted old new w had has held written ended
   ended_input ended at left took ends = by_ending ended at where
-    -- nothing is left of what the reader had
-    none_left : (all : List ℕ) → had ≡ Some all → (all ≡ text ++ []) × (has ≡ Some [])
-    none_left all is =
-        let one = left all is in
-        let then = consumed before has one.0 [] one.1.0 took in
-        let none = at_end has then.0 then.1.0 ends in
-        (one.1.1 ∙ ap (λ t. text ++ t) (then.1.1 ∙ none), then.1.0 ∙ ap (λ t. Some t) none)
-
     by_ending : (e : Ended) → EndsAt functions state wanted first old new w wanted.mode text held written e → ServesWanted functions state wanted old new w had has held written e
     by_ending ways.End (served, paced, accepted) = (
-      record { text = text; serves = served; paced = paced; reads = λ all is. let none = none_left all is in ([], none.0, (refl, none.1)) },
+      record { text = text; serves = served; paced = paced; reads = λ all is. let none = none_left left took ends all is in ([], none.0, (refl, none.1)) },
       accepted,
     )
     by_ending (ways.Unreadable number place) ((served, paced, accepted), at) = (
-      record { text = text; serves = served; paced = paced; reads = λ all is. let none = none_left all is in ([], none.0, (inl refl, none.1)) },
+      record { text = text; serves = served; paced = paced; reads = λ all is. let none = none_left left took ends all is in ([], none.0, (inl refl, none.1)) },
       accepted,
       at,
     )
     by_ending (ways.Unaccepted number place) (strict, stops) =
-        (strict, text, stops, λ all is. let none = none_left all is in ([], none.0, none.1), λ all is. inl ((none_left all is).0 ∙ append-nil text))
-    by_ending (ways.Store number) (served, paced, accepted) = (
-      record { text = text; serves = served; paced = paced; reads = λ all is. let none = none_left all is in ([], none.0, (λ output all_lines. inl refl, none.1)) },
+        (strict, text, stops, λ all is. let none = none_left left took ends all is in ([], none.0, none.1), λ all is. inl ((none_left left took ends all is).0 ∙ append-nil text))
+    by_ending (ways.Store number) ((served, paced, accepted), no_input) = (
+      record { text = text; serves = served; paced = paced; reads = λ all is. let none = none_left left took ends all is in ([], none.0, (λ output all_lines. inl refl, none.1, inr (refl, no_input))) },
       accepted,
     )
 
@@ -114,16 +114,7 @@ module _ (functions : Functions) {D R : Type 0} (state : D → State) (wanted : 
       text = text;
       serves = is.serves;
       paced = is.paced;
-      reads = λ all had_is. let one = left all had_is in (one.0, one.1.1, (λ output all_lines. inr (is.stays output all_lines), one.1.0));
+      reads = λ all had_is. let one = left all had_is in (one.0, one.1.1, (λ output all_lines. inr (is.stays.0 output all_lines), one.1.0, inl is.stays.1));
     },
     accepted,
   )
-
--- a session that is not strict, as it is served
-pub as_served : (functions : Functions) {D R : Type 0} (state : D → State) (wanted : Wanted) (old new : StoreView D R) (w : WorldState) (held written : Option (List ℕ)) (had has : Option (List ℕ)) (ended : Ended) (ending : Ending)
-    → ServesWanted functions state wanted old new w had has held written ended → wanted.strict ≡ false → ending_of ended ≡ ending → ServesInput functions state wanted.group (pace_wanted wanted) old new w wanted.mode had has held written ending
-as_served functions state wanted old new w held written had has ways.End ending served strict is = subst (λ e. ServesInput functions state wanted.group (pace_wanted wanted) old new w wanted.mode had has held written e) is served.0
-as_served functions state wanted old new w held written had has (ways.Unreadable number place) ending served strict is =
-    subst (λ e. ServesInput functions state wanted.group (pace_wanted wanted) old new w wanted.mode had has held written e) is served.0
-as_served functions state wanted old new w held written had has (ways.Unaccepted number place) ending served strict is = let is_strict = served.0 in absurd (cc)
-as_served functions state wanted old new w held written had has (ways.Store number) ending served strict is = subst (λ e. ServesInput functions state wanted.group (pace_wanted wanted) old new w wanted.mode had has held written e) is served.0

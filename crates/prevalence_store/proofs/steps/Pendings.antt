@@ -125,14 +125,6 @@ module _ (functions : Functions) (w : WorldState) (mode : Mode) (old : Pending) 
       let ends : next ≡ length bytes = subst (MayGoOn bytes) is pending.more in
       (record { start = start; stop = stop; reads = is ∙ ap (form x start stop) ends; is_own = is_own }, refl, sym ends)
 
-  -- a refusal at the end of the input is within what is pending
-  pub last_refused_within : (number at : ℕ) → read_in functions w mode bytes ≡ refused number at → (old.dropped ≤ fed old.reader) × (at ≤ fed old.reader)
-  last_refused_within number at is =
-      let inside = (refusal_stays (setting_in functions w mode) bytes number at is).0 in
-      let count = pending.count in
-      let dropped = dropped_within in
-      (omega arith, omega arith)
-
   -- the places of a form that a byte more decides
   pub record FedPlaces (byte start stop next : ℕ) : Type 0 where
     pub from : old.dropped ≤ start
@@ -145,9 +137,6 @@ module _ (functions : Functions) (w : WorldState) (mode : Mode) (old : Pending) 
       (steps : Steps (setting_in functions w mode) new (bytes ++ byte ∷ []) step) where
     form_told : Steps (setting_in functions w mode) new (bytes ++ byte ∷ []) (AdvanceForm datum start stop next)
     form_told = subst (λ (s : Advance). Steps (setting_in functions w mode) new (bytes ++ byte ∷ []) s) is steps
-
-    pub form_proper : is_proper datum ≡ true
-    form_proper = form_told.1
 
     pub fed_places : BeginsLater old.reader new step → FedPlaces byte start stop next
     fed_places later =

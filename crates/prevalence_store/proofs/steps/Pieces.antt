@@ -48,9 +48,19 @@ rest_evaluated w mode own rest (Err number) = refl
 
 -- ---- a piece, and what of it was fed
 
+-- forms that are the same whatever follows a text are so of each text that goes on
+pub stays_longer : (functions : Functions) (n : ℕ) (w : WorldState) (mode : Mode) (text more : List ℕ) (far : Progress) → ((others : List ℕ) → after_forms functions n w mode (text ++ others) ≡ Some (longer far others))
+    → (others : List ℕ) → after_forms functions n w mode ((text ++ more) ++ others) ≡ Some (longer (longer far more) others)
+stays_longer functions n w mode text more far stays others =
+    ap (after_forms functions n w mode) (append_assoc text more others) ∙ stays (more ++ others) ∙ ap (λ rest. Some (record far { rest = rest })) (sym (append_assoc far.rest more others))
+
 -- what was fed of a piece, and what is left of it
 pub piece_whole : (bytes piece : List ℕ) (n : ℕ) → (bytes ++ take n piece) ++ drop n piece ≡ bytes ++ piece
 piece_whole bytes piece n = append_assoc bytes (take n piece) (drop n piece) ∙ ap (λ t. bytes ++ t) (take-append-drop n piece)
+
+-- with more after it
+pub piece_whole_more : (bytes piece more : List ℕ) (n : ℕ) → (bytes ++ take n piece) ++ (drop n piece ++ more) ≡ (bytes ++ piece) ++ more
+piece_whole_more bytes piece more n = sym (append_assoc (bytes ++ take n piece) (drop n piece) more) ∙ ap (λ t. t ++ more) (piece_whole bytes piece n)
 
 -- what is left of it after a form
 pub piece_left : (bytes piece : List ℕ) (n next count : ℕ) → next ≡ length bytes + count → count ≤ n → n ≤ length piece → drop next (bytes ++ take n piece) ++ drop n piece ≡ drop count piece

@@ -41,9 +41,9 @@ module _ (functions : Functions) {D R : Type 0} (state : D → State) (account :
   -- refusal of the reader behind them, which acknowledges nothing. All that these forms wrote is stored: what was done since lines were
   -- last handed on survives as a call that has acknowledged them all.
   pub record AreStored : Type 0 where
-    -- a front of the input
+    -- the whole input, also what was not read yet; some text, if the input is not told
     pub text : List ℕ
-    pub of_input : (all : List ℕ) → account.input ≡ Some all → (left : List ℕ) × (all ≡ text ++ left)
+    pub of_input : (all : List ℕ) → account.input ≡ Some all → text ≡ all
     pub before : Progress
     pub before_is : after_forms functions account.forms account.first account.mode text ≡ Some before
     pub before_now : before.world ≡ account.now

@@ -238,9 +238,15 @@ StaysRefused functions world mode text forms far number = (at : ℕ) × ((more :
     → (after_forms functions forms world mode (text ++ more) ≡ Some (record far { rest = far.rest ++ more }))
     × (read_in functions far.world mode (far.rest ++ more) ≡ refused number at))
 
+-- The forms of a session that is cut short are the same whatever follows what was read; or the input was at its end, which no read that
+-- failed tells. So no part of a token is taken for a form.
+abbrev pub StaysOrEnds : Functions → WorldState → Mode → (text : List ℕ) (forms : ℕ) (far : Progress) (number : ℕ) (left : List ℕ) → Type 0
+StaysOrEnds functions world mode text forms far number left =
+    StaysAnswered functions world mode text forms far ⊎ ((left ≡ []) × (number ≢ INPUT))
+
 -- How much a session has read when it ends: at the end of the input all of it; at a refusal of the reader, also if the output
 -- failed in the line of it, all of it, or so much that what follows makes no difference; else what the reader has left is what
--- was not read.
+-- was not read, and the forms are decided.
 abbrev pub HasRead : (functions : Functions) {D R : Type 0} {group : Bool} (state : D → State) (old new : StoreView D R) (world : WorldState) (mode : Mode) (text : List ℕ)
     (held written : Option (List ℕ)) (ending : Ending) → Serves functions state old new world mode text held written group ending → List ℕ → Option (List ℕ) → Type 0
 HasRead functions state old new world mode text held written End served left reader = (left ≡ []) × (reader ≡ Some left)
@@ -249,6 +255,7 @@ HasRead functions state old new world mode text held written (Reader number) ser
 HasRead functions state old new world mode text held written (Store number) served left reader =
     (number ≡ OUTPUT → served.lines ≡ served.forms → (left ≡ []) ⊎ ((refusal : ℕ) × StaysRefused functions world mode text served.forms served.far refusal))
     × (reader ≡ Some left)
+    × StaysOrEnds functions world mode text served.forms served.far number left
 
 -- how far the snapshots had come as a session ended that began at this pace
 abbrev pub ServesInPace : (functions : Functions) {D R : Type 0} {group : Bool} (state : D → State) (pace : Pace) (old new : StoreView D R) (world : WorldState) (mode : Mode) (text : List ℕ)

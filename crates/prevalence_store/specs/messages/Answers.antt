@@ -1,5 +1,5 @@
 -- What is answered to messages and questions one after the other, and what comes of them.
-use Rattle.std.specs.Prelude.{ℕ, ◌==◌, nat_le, Bool, true, false, ◌||◌, if◌then◌else◌, List, [], ◌∷◌, ◌++◌, fold, Option, None, Some, is_some, Result, Ok, Err, codes}
+use Rattle.std.specs.Prelude.{ℕ, ◌==◌, nat_le, max, Bool, true, false, ◌||◌, if◌then◌else◌, List, [], ◌∷◌, ◌++◌, fold, Option, None, Some, is_some, unwrap_or, Result, Ok, Err, codes}
 use Rattle.std.specs.Prelude.{decimal}
 use Rattle.std.specs.Prelude.{length}
 use Rattle.canon_printer.specs.Printed.{printed}
@@ -18,7 +18,7 @@ use Rattle.prevalence_store.specs.declared.messages.own.Own.TheVariants.{Clearin
 use Rattle.prevalence_store.specs.declared.mode.Mode.TheVariants.{Current, Rescue}
 use Rattle.prevalence_store.specs.meaning.Acceptance.{Acceptance, accepts, logged, read_in}
 use Rattle.prevalence_store.specs.calls.ExecuteAll.{entries_of, left_by, told_of}
-use Rattle.prevalence_store.specs.messages.Position.{own_left, own_text, position_property}
+use Rattle.prevalence_store.specs.messages.Position.{own_left, own_text, position, position_property}
 use Rattle.user_macros.specs.Functions.{Functions}
 
 -- ---- one answer: the line that a session writes, without its newline
@@ -65,9 +65,9 @@ pub record Round : Type 0 where
   pub entries : List LogRecord
   pub wrote : Bool
 
--- before the first
+-- Before the first, after a message of this number. The position is the number of a message too, so no number up to it is carried out.
 abbrev pub begun : ℕ → WorldState → Round
-begun last world = record { told = []; last = last; left = world; entries = []; wrote = false }
+begun last world = record { told = []; last = max last (unwrap_or (position world) 0); left = world; entries = []; wrote = false }
 
 -- one answer more
 abbrev pub with_answer : List ℕ → Bool → Round → Round

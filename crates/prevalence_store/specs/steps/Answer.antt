@@ -9,7 +9,7 @@ use Rattle.package_table.specs.Symbols.{are_there}
 use Rattle.lisp_operators.specs.Evaluated.{IsArgument, done}
 use Rattle.lisp_operators.specs.declared.evaluated.Evaluated.{Evaluated}
 use Rattle.form_eval.specs.Acceptance.{accept}
-use Rattle.lisp_object.specs.declared.refusal.TheConstants.{DEVICE, LOG_FULL, OUTPUT, NO_MEMORY}
+use Rattle.lisp_object.specs.declared.refusal.TheConstants.{DEVICE, LOG_FULL, INPUT, OUTPUT, NO_MEMORY}
 use Rattle.lisp_reading.specs.Reading.{form}
 use Rattle.prevalence_store.specs.declared.batch.Batch.{Batch}
 use Rattle.prevalence_store.specs.declared.failure.Failure.{Failure}
@@ -114,6 +114,8 @@ module _ (functions : Functions) {D R : Type 0} (state : D → State) (old new :
   -- The session has ended in a form, with this number: if the output failed, in the line of that form.
   pub record StopsInForm (text : List ℕ) (held written : Option (List ℕ)) (number : ℕ) : Type 0 where
     pub serves : Serves functions state old new world mode text held written false (Store number)
+    pub one : serves.forms ≤ 1
+    pub no_input : number ≢ INPUT
     pub in_form : number ≡ OUTPUT → serves.forms ≡ serves.lines + 1
     -- what was answered whole was accepted
     pub accepted : serves.answered.refused ≡ []

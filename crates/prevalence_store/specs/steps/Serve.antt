@@ -1,7 +1,7 @@
 -- What a piece of the input comes to in a session, up to the first byte that decides something.
-use Rattle.std.specs.Prelude.{◌≡◌, ◌⊎◌, ℕ, ◌+◌, ◌<◌, ◌≤◌, Bool, true, List, [], ◌++◌, drop, Option, None, Some, Ok, Err, Result}
+use Rattle.std.specs.Prelude.{◌≡◌, ◌≢◌, ◌⊎◌, ℕ, ◌+◌, ◌<◌, ◌≤◌, Bool, true, List, [], ◌++◌, drop, Option, None, Some, Ok, Err, Result}
 use Rattle.disk_trait.specs.Disk.{State}
-use Rattle.lisp_object.specs.declared.refusal.TheConstants.{OUTPUT}
+use Rattle.lisp_object.specs.declared.refusal.TheConstants.{INPUT, OUTPUT}
 use Rattle.prevalence_store.specs.declared.session.input.Pending.{Pending}
 use Rattle.prevalence_store.specs.declared.mode.Mode.{Mode}
 use Rattle.prevalence_store.specs.declared.outcome.Ended.{Ended}
@@ -14,7 +14,7 @@ use Rattle.prevalence_store.specs.meaning.Answers.{Progress, after_forms}
 use Rattle.prevalence_store.specs.calls.Pace.{Pace, Paces, fill_of}
 use Rattle.prevalence_store.specs.steps.Input.{IsPending}
 use Rattle.prevalence_store.specs.steps.Course.{Comes, Course}
-use Rattle.prevalence_store.specs.calls.Serve.{Advances, AreAccepted, RefusesAt, Serves, ServesInPace, StaysRefused, StaysStopped, StopsStrict}
+use Rattle.prevalence_store.specs.calls.Serve.{Advances, AreAccepted, RefusesAt, Serves, ServesInPace, StaysAnswered, StaysRefused, StaysStopped, StopsStrict}
 use Rattle.prevalence_store.specs.calls.Store.{StoreView}
 use Rattle.plist_state.specs.State.{WorldState}
 use Rattle.user_macros.specs.Functions.{Functions}
@@ -48,13 +48,14 @@ pub record GoesOn (functions : Functions) {D R : Type 0} (state : D → State) (
   pub is_pending : IsPending functions far.world mode pending bytes
 
 module _ (functions : Functions) {D R : Type 0} (state : D → State) (pace : Pace) (old new : StoreView D R) (world : WorldState) (mode : Mode) (text : List ℕ) (held written : Option (List ℕ)) where
-  -- a refusal of the reader stays one, whatever follows the text, also if the output failed in the line of it; the end of the
-  -- input is not told by a text that may go on
+  -- The forms are the same whatever follows the text. A refusal of the reader stays one, also if the output failed in the line of it; the
+  -- end of the input is not told by a text that may go on.
   abbrev pub StaysEnded : {group : Bool} (ending : Ending) → Serves functions state old new world mode text held written group ending → Type 0
   StaysEnded End served = ⊥
   StaysEnded (Reader number) served = StaysRefused functions world mode text served.forms served.far number
   StaysEnded (Store number) served =
-      number ≡ OUTPUT → served.lines ≡ served.forms → (refusal : ℕ) × StaysRefused functions world mode text served.forms served.far refusal
+      (number ≡ OUTPUT → served.lines ≡ served.forms → (refusal : ℕ) × StaysRefused functions world mode text served.forms served.far refusal)
+      × StaysAnswered functions world mode text served.forms served.far
 
   -- the session has ended
   pub record HasEnded (group : Bool) (ending : Ending) : Type 0 where
@@ -77,7 +78,7 @@ module _ (functions : Functions) {D R : Type 0} (state : D → State) (wanted : 
       (is : ServesStrict (Reader number)) × RefusesAt functions state old new world mode text held written course.pace course.forms course.bytes number is.0 place
   EndsAt (ways.Unaccepted number place) =
       (wanted.strict ≡ true) × StopsStrict functions state old new world mode text held written course.pace course.forms course.bytes number place
-  EndsAt (ways.Store number) = ServesStrict (Store number)
+  EndsAt (ways.Store number) = ServesStrict (Store number) × (number ≢ INPUT)
 
   -- the session has ended, before the end of the text
   abbrev pub HasEndedAt : Ended → Type 0

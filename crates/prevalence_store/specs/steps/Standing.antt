@@ -46,15 +46,25 @@ module _ (functions : Functions) {D R : Type 0} (state : D → State) where
   abbrev pub StandsBefore : Option (Account D) → StoreView D R → WorldState → Mode → List ℕ → Type 0
   StandsBefore told store world mode bytes = (account : Account D) → told ≡ Some account → Stands account store world mode bytes
 
+  -- and the bytes are all that is left of the input, also of what was not read yet
+  abbrev pub StandsBeforeAll : Option (Account D) → StoreView D R → WorldState → Mode → List ℕ → Type 0
+  StandsBeforeAll told store world mode bytes = (account : Account D) → told ≡ Some account
+      → (stands : Stands account store world mode bytes) × ((all : List ℕ) → account.input ≡ Some all → stands.text ≡ all)
+
   -- before these bytes that are pending, and a piece
   abbrev pub StandsInPiece : Option (Account D) → StoreView D R → Mode → Pending → List ℕ → Type 0
   StandsInPiece told store mode pending piece = (world : WorldState) → store.world ≡ Some world
       → (bytes : List ℕ) × IsPending functions world mode pending bytes × StandsBefore told store world mode (bytes ++ piece)
 
+  -- before these bytes that are pending, at the end of the input
+  abbrev pub StandsAtEnd : Option (Account D) → StoreView D R → Mode → Pending → Type 0
+  StandsAtEnd told store mode pending = (world : WorldState) → store.world ≡ Some world
+      → (bytes : List ℕ) × IsPending functions world mode pending bytes × StandsBeforeAll told store world mode bytes
+
   -- before a form with this text of its own
   abbrev pub StandsAtForm : Option (Account D) → StoreView D R → Mode → Object → List ℕ → Type 0
   StandsAtForm told store mode object own = (world : WorldState) → store.world ≡ Some world
-      → (text : List ℕ) × (next : ℕ) × BeginsWith functions world mode text object own next × StandsBefore told store world mode text
+      → (text : List ℕ) × (next : ℕ) × BeginsWith functions world mode text object own next × StandsBeforeAll told store world mode text
 
   -- before a form that is whole in what was read, and what follows it
   abbrev pub StandsAtWhole : Option (Account D) → StoreView D R → Mode → Object → List ℕ → (next : ℕ) → (rest : List ℕ) → Type 0
@@ -64,7 +74,7 @@ module _ (functions : Functions) {D R : Type 0} (state : D → State) where
   -- before what the reader refuses with this number
   abbrev pub StandsAtRefusal : Option (Account D) → StoreView D R → Mode → ℕ → Type 0
   StandsAtRefusal told store mode number = (world : WorldState) → store.world ≡ Some world
-      → (text : List ℕ) × (at : ℕ) × (read_in functions world mode text ≡ refused number at) × StandsBefore told store world mode text
+      → (text : List ℕ) × (at : ℕ) × (read_in functions world mode text ≡ refused number at) × StandsBeforeAll told store world mode text
 
   -- The lines of so many forms more were handed on, and since the last of them were no form was taken.
   abbrev pub HandsOn : (from to : ℕ) (told now : Option (Account D)) → StoreView D R → Type 0

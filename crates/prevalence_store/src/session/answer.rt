@@ -79,6 +79,7 @@ impl<D: Disk, R: MacroFunctions> Store<D, R> {
         requires stands { StandsAtRefusal R.Meaning.functions D.state (W.account writer.old) self.old mode number }
         ensures answers { AnswersFault number (W.contents writer.old) (W.contents writer.new) result }
         ensures under_way { AcknowledgesNone R.Meaning.functions D.state (W.account writer.new) self.new }
+        ensures first { W.first writer.new ≡ W.first writer.old }
         ensures same { self.new ≡ self.old }
     {
         let Ok(line) = line_of_refusal(self.alloc, number) else {
@@ -116,6 +117,7 @@ impl<D: Disk, R: MacroFunctions> Store<D, R> {
         ensures under_way { OnErr result (AcknowledgesNone R.Meaning.functions D.state (W.account writer.new) self.new) }
         ensures forms { (course_of course.new).forms ≤ (course_of course.new).bytes }
         ensures bytes { (course_of course.new).bytes ≤ (course_of course.old).bytes + form.now.next }
+        ensures first { W.first writer.new ≡ W.first writer.old }
         ensures honest { (D.state self.new.disk).honest ≡ (D.state self.old.disk).honest }
         ensures macros { self.new.macros ≡ self.old.macros }
     {
@@ -155,6 +157,7 @@ impl<D: Disk, R: MacroFunctions> Store<D, R> {
             text (W.contents writer.old) (W.contents writer.new) result }
         ensures hands { OnOk result (HandsOn R.Meaning.functions D.state 0 1 (W.account writer.old) (W.account writer.new) self.new) }
         ensures under_way { OnErr result (AcknowledgesNone R.Meaning.functions D.state (W.account writer.new) self.new) }
+        ensures first { W.first writer.new ≡ W.first writer.old }
         ensures honest { (D.state self.new.disk).honest ≡ (D.state self.old.disk).honest }
         ensures macros { self.new.macros ≡ self.old.macros }
     {
@@ -186,6 +189,7 @@ impl<D: Disk, R: MacroFunctions> Store<D, R> {
         ensures is_open { OnOk result (IsSome self.new.world) }
         ensures hands { OnOk result (HandsOn R.Meaning.functions D.state 0 1 (W.account writer.old) (W.account writer.new) self.new) }
         ensures under_way { OnErr result (AcknowledgesNone R.Meaning.functions D.state (W.account writer.new) self.new) }
+        ensures first { W.first writer.new ≡ W.first writer.old }
         ensures honest { (D.state self.new.disk).honest ≡ (D.state self.old.disk).honest }
         ensures macros { self.new.macros ≡ self.old.macros }
     {
@@ -225,6 +229,7 @@ impl<D: Disk, R: MacroFunctions> Store<D, R> {
         ensures is_open { OnOk result (IsSome self.new.world) }
         ensures hands { OnOk result (HandsOn R.Meaning.functions D.state 0 1 (W.account writer.old) (W.account writer.new) self.new) }
         ensures under_way { OnErr result (AcknowledgesNone R.Meaning.functions D.state (W.account writer.new) self.new) }
+        ensures first { W.first writer.new ≡ W.first writer.old }
         ensures honest { (D.state self.new.disk).honest ≡ (D.state self.old.disk).honest }
         ensures macros { self.new.macros ≡ self.old.macros }
     {

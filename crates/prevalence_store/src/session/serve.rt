@@ -11,7 +11,7 @@ ghost use Rattle.prevalence_store.specs.calls.Serve.{ServesInput, ServesWanted};
 ghost use Rattle.prevalence_store.specs.steps.Input.{AreAllThere, AwaitsMore, IsPending, IsSoundFed, IsWithin, Feeds, FeedsPart, Finishes};
 ghost use Rattle.prevalence_store.specs.steps.Course.{course_of};
 ghost use Rattle.prevalence_store.specs.steps.Serve.{Answers, ComesTo, EndsAt, MovesOn};
-ghost use Rattle.prevalence_store.specs.steps.Standing.{AcknowledgesNone, HandsOn, StandsInPiece};
+ghost use Rattle.prevalence_store.specs.steps.Standing.{AcknowledgesNone, HandsOn, StandsAtEnd, StandsInPiece};
 ghost use Rattle.user_macros.specs.Functions.{are_registered};
 
 use crate::mode::Mode;
@@ -70,6 +70,7 @@ impl<D: Disk, R: MacroFunctions> Store<D, R> {
             (I.remaining reader.old) (I.remaining reader.new) (W.contents writer.old) (W.contents writer.new) result }
         ensures under_way { IsSome self.old.world → (kept : Account D) → W.account writer.new ≡ Some kept
             → AreUnderWay R.Meaning.functions D.state kept self.new }
+        ensures first { W.first writer.new ≡ W.first writer.old }
         ensures honest { (D.state self.new.disk).honest ≡ (D.state self.old.disk).honest }
         ensures macros { self.new.macros ≡ self.old.macros }
     {
@@ -120,6 +121,7 @@ impl<D: Disk, R: MacroFunctions> Store<D, R> {
             (I.remaining reader.old) (I.remaining reader.new) (W.contents writer.old) (W.contents writer.new) result }
         ensures under_way { IsSome self.old.world → (kept : Account D) → W.account writer.new ≡ Some kept
             → AreUnderWay R.Meaning.functions D.state kept self.new }
+        ensures first { W.first writer.new ≡ W.first writer.old }
         ensures honest { (D.state self.new.disk).honest ≡ (D.state self.old.disk).honest }
         ensures macros { self.new.macros ≡ self.old.macros }
     {
@@ -177,6 +179,7 @@ impl<D: Disk, R: MacroFunctions> Store<D, R> {
         ensures forms { (course_of course.new).forms ≤ (course_of course.new).bytes }
         ensures count { (course_of course.new).bytes + fed pending.new.reader
             ≤ (course_of course.old).bytes + fed pending.old.reader + length piece.now }
+        ensures first { W.first writer.new ≡ W.first writer.old }
         ensures honest { (D.state self.new.disk).honest ≡ (D.state self.old.disk).honest }
         ensures macros { self.new.macros ≡ self.old.macros }
     {
@@ -222,6 +225,7 @@ impl<D: Disk, R: MacroFunctions> Store<D, R> {
             ≤ (course_of course.old).bytes + fed pending.old.reader + count) }
         ensures most { (course_of course.new).bytes + fed pending.new.reader
             ≤ (course_of course.old).bytes + fed pending.old.reader + length piece.now }
+        ensures first { W.first writer.new ≡ W.first writer.old }
         ensures honest { (D.state self.new.disk).honest ≡ (D.state self.old.disk).honest }
         ensures macros { self.new.macros ≡ self.old.macros }
     {
@@ -280,8 +284,8 @@ impl<D: Disk, R: MacroFunctions> Store<D, R> {
         requires answers { R.answers self.old.macros }
         requires whole { are_registered R.Meaning.functions (R.functions self.old.macros) ≡ true }
         requires pending { AwaitsMore R.Meaning.functions self.old.world wanted.mode pending }
-        requires stands { StandsInPiece R.Meaning.functions D.state (W.account writer.old) self.old
-            wanted.mode pending [] }
+        requires stands { StandsAtEnd R.Meaning.functions D.state (W.account writer.old) self.old
+            wanted.mode pending }
         requires forms { (course_of course.old).forms ≤ (course_of course.old).bytes }
         requires count { (course_of course.old).bytes + fed pending.reader < 2 ^ 63 }
         ensures ends { (w : WorldState) → self.old.world ≡ Some w → (bytes : List ℕ)
@@ -289,6 +293,7 @@ impl<D: Disk, R: MacroFunctions> Store<D, R> {
             → EndsAt R.Meaning.functions D.state wanted (course_of course.old) self.old self.new w wanted.mode
             bytes (W.contents writer.old) (W.contents writer.new) result }
         ensures under_way { AcknowledgesNone R.Meaning.functions D.state (W.account writer.new) self.new }
+        ensures first { W.first writer.new ≡ W.first writer.old }
         ensures honest { (D.state self.new.disk).honest ≡ (D.state self.old.disk).honest }
         ensures macros { self.new.macros ≡ self.old.macros }
     {

@@ -46,9 +46,6 @@ impl<D: Disk, R: MacroFunctions> Store<D, R> {
         requires answers { R.answers self.old.macros }
         requires whole { are_registered R.Meaning.functions (R.functions self.old.macros) ≡ true }
         requires form { IsFormOf R.Meaning.functions self.old.world wanted.mode first.now.read first.now.own.items }
-        requires begins { (world : WorldState) → self.old.world ≡ Some world
-            → (text : List ℕ) × (BeginsWhole R.Meaning.functions world wanted.mode text
-            (object_of first.now.read.datum) first.now.own.items first.now.next × (drop first.now.next text ≡ rest.now)) }
         requires stands { StandsAtWhole R.Meaning.functions D.state (W.account writer.old) self.old
             wanted.mode (object_of first.now.read.datum) first.now.own.items first.now.next rest.now }
         requires some { 0 < first.now.next }
@@ -72,6 +69,7 @@ impl<D: Disk, R: MacroFunctions> Store<D, R> {
             → (course_of course.new).bytes ≤ (course_of course.old).bytes + first.now.next + count }
         ensures most { (course_of course.new).bytes
             ≤ (course_of course.old).bytes + first.now.next + length rest.now }
+        ensures first { W.first writer.new ≡ W.first writer.old }
         ensures honest { (D.state self.new.disk).honest ≡ (D.state self.old.disk).honest }
         ensures macros { self.new.macros ≡ self.old.macros }
     {

@@ -82,8 +82,8 @@ impl<D: Disk, R: MacroFunctions> Store<D, R> {
         }
     }
 
-    /// Answers these requests one after the other, where `last` is the number of the last message before them. Each message is
-    /// carried out in a world without the position. What the messages that write need is appended to the log together, and the new
+    /// Answers these requests one after the other, where `last` is the number of the last message before them. A message whose number
+    /// is not over it and over the position is refused with 50. Each message is carried out in a world without the position. What the messages that write need is appended to the log together, and the new
     /// position after it: a crash leaves none or all.
     ///
     /// # Errors
@@ -130,7 +130,7 @@ impl<D: Disk, R: MacroFunctions> Store<D, R> {
         let Ok(batch) = Batch::begin(self.alloc, &mut self.world) else {
             return Err(Failure::OutOfMemory);
         };
-        let mut round = Round::new(batch, place, last);
+        let mut round = Round::new(batch, place, last, &self.world);
         match round.answer_all(&mut self.world, &self.macros, requests) {
             Ok(()) => {}
             Err(failure) => {

@@ -16,8 +16,8 @@ returns-clause-same g c = λ functions wanted other old new before later world i
     (completed functions g.E.Disk.state before later world other input others_has others_held others_written ending others_served others_by_input)
 
 pub returns-clause-front : goal.returns-clause-front
-returns-clause-front g c = λ functions wanted old new world input held written number forms far all served.
-    front_of_all functions g.D.Disk.state old new world wanted input held written number forms far all served
+returns-clause-front g c = λ functions wanted old new world input has held written number forms far all served.
+    front_of_all functions g.D.Disk.state old new world wanted input has held written number forms far all served
 
 pub returns-clause-stopped : goal.returns-clause-stopped
 returns-clause-stopped g c = λ functions wanted old new world input has held written number place served.

@@ -5,10 +5,9 @@ use Rattle.prevalence_store.specs.declared.session.input.Fed.{Fed}
 use Rattle.prevalence_store.specs.steps.Course.{course_of}
 use Rattle.prevalence_store.specs.steps.Input.{AreAllThere, Finishes, IsSoundFed, IsWithin}
 use Rattle.prevalence_store.specs.steps.Serve.{EndsAt}
-use Rattle.prevalence_store.specs.steps.Standing.{StandsBefore}
 use Rattle.prevalence_store.proofs.steps.EndedAt.{done_at_end, fault_at_end, memory_at_end, read_at_end}
 use Rattle.prevalence_store.proofs.steps.Pieces.{ended_form, last_begins, last_start}
-use Rattle.prevalence_store.proofs.steps.Handing.{none_handed, none_standing}
+use Rattle.prevalence_store.proofs.steps.Handing.{none_handed, none_standing_all}
 use Rattle.prevalence_store.proofs.calls.Executing.{known_world}
 use Rattle.prevalence_store.proofs.store.Store.answer_end.Goals as goal
 
@@ -46,7 +45,7 @@ answer_fault-requires-clause-stands g c = λ w known.
     let functions = g.R.Meaning.Meaning.functions in
     let s = c.requires.stands w known in
     let told = subst (λ (fed : Fed). Finishes functions w c.args.wanted.mode s.0 fed) c.in-Refused.is (c.in-Ok.ensures.finishes w known s.0 s.1) in
-    (s.0, c.in-Refused.at, told.0, subst (λ t. StandsBefore functions g.D.Disk.state (g.W.Recipient.account c.args.writer.now) c.args.self.now w c.args.wanted.mode t) (append-nil s.0) s.2)
+    (s.0, c.in-Refused.at, told.0, s.2)
 
 pub answer_read-requires : goal.answer_read-requires
 answer_read-requires g c =
@@ -70,7 +69,7 @@ answer_read-requires g c =
             s.0,
             _,
             last_begins functions w c.args.wanted.mode s.0 (object_of f.form.read.datum) f.form.own.items last f.form.own.items refl,
-            subst (λ t. StandsBefore functions g.D.Disk.state (g.W.Recipient.account c.args.writer.now) c.args.self.now w c.args.wanted.mode t) (append-nil s.0) s.2,
+            s.2,
           );
       order = within.0;
       forms = c.requires.forms;
@@ -105,13 +104,13 @@ pub returns-in-Err-clause-under_way : goal.returns-in-Err-clause-under_way
 returns-in-Err-clause-under_way g c =
     let here = known_world c.args.self.now.world c.requires.pending.is_open in
     let s = c.requires.stands here.0 here.1 in
-    none_standing g.R.Meaning.Meaning.functions g.D.Disk.state g.met.D.Disk.sound (g.W.Recipient.account c.args.writer.now) c.args.self.now here.0 c.args.wanted.mode (s.0 ++ []) here.1 s.2
+    none_standing_all g.R.Meaning.Meaning.functions g.D.Disk.state g.met.D.Disk.sound (g.W.Recipient.account c.args.writer.now) c.args.self.now here.0 c.args.wanted.mode s.0 here.1 s.2
 
 pub returns-in-Nothing-clause-under_way : goal.returns-in-Nothing-clause-under_way
 returns-in-Nothing-clause-under_way g c =
     let here = known_world c.args.self.now.world c.requires.pending.is_open in
     let s = c.requires.stands here.0 here.1 in
-    none_standing g.R.Meaning.Meaning.functions g.D.Disk.state g.met.D.Disk.sound (g.W.Recipient.account c.args.writer.now) c.args.self.now here.0 c.args.wanted.mode (s.0 ++ []) here.1 s.2
+    none_standing_all g.R.Meaning.Meaning.functions g.D.Disk.state g.met.D.Disk.sound (g.W.Recipient.account c.args.writer.now) c.args.self.now here.0 c.args.wanted.mode s.0 here.1 s.2
 
 pub returns-in-Ok-answer_read-clause-under_way : goal.returns-in-Ok-answer_read-clause-under_way
 returns-in-Ok-answer_read-clause-under_way g c =

@@ -1,6 +1,6 @@
 use Rattle.std.proofs.Common.{refl, ◌∙◌}
 use Rattle.prevalence_store.proofs.calls.Executing.{known_world}
-use Rattle.prevalence_store.proofs.steps.Handing.{hands_lines, none_handed, none_standing, refusal_stored}
+use Rattle.prevalence_store.proofs.steps.Handing.{hands_lines, none_handed, none_standing_all, refusal_stored}
 use Rattle.prevalence_store.proofs.store.Store.answer_fault.Goals as goal
 
 pub write_lines-requires : goal.write_lines-requires
@@ -16,7 +16,7 @@ pub returns-in_default-clause-under_way : goal.returns-in_default-clause-under_w
 returns-in_default-clause-under_way g c =
     let here = known_world c.args.self.now.world c.requires.is_open in
     let s = c.requires.stands here.0 here.1 in
-    none_standing g.R.Meaning.Meaning.functions g.D.Disk.state g.met.D.Disk.sound (g.W.Recipient.account c.args.writer.now) c.args.self.now here.0 c.args.mode s.0 here.1 s.3
+    none_standing_all g.R.Meaning.Meaning.functions g.D.Disk.state g.met.D.Disk.sound (g.W.Recipient.account c.args.writer.now) c.args.self.now here.0 c.args.mode s.0 here.1 s.3
 
 pub returns-in-Ok-write_lines-clause-under_way : goal.returns-in-Ok-write_lines-clause-under_way
 returns-in-Ok-write_lines-clause-under_way g c =

@@ -1,4 +1,4 @@
-use Rattle.std.proofs.Common.{◌≡◌, ◌-◌, Bool, true, false, not, length, refl, sym, ap, subst, ◌∙◌, arith}
+use Rattle.std.proofs.Common.{◌≡◌, ◌++◌, ◌-◌, Bool, true, false, not, length, refl, sym, ap, subst, ◌∙◌, arith}
 use Rattle.prevalence_store.specs.calls.Pace.{Pace}
 use Rattle.prevalence_store.specs.calls.Streams.{Writes, WritesPart}
 use Rattle.prevalence_store.specs.steps.Course.{Course, course_of}
@@ -6,12 +6,15 @@ use Rattle.prevalence_store.specs.steps.Schedule.{CountsAll, pace_of}
 use Rattle.prevalence_store.proofs.calls.Executing.{known_world}
 use Rattle.prevalence_store.proofs.steps.Counting.{fewer_before_due}
 use Rattle.prevalence_store.proofs.steps.Gathered.{group_answered, group_stopped, group_unwritten}
-use Rattle.prevalence_store.proofs.steps.Handing.{hands_lines, lines_stored, none_handed, none_of_group}
+use Rattle.prevalence_store.proofs.steps.Handing.{hands_lines, lines_stored, none_handed, none_of_group, rest_of_input}
 use Rattle.prevalence_store.proofs.store.Store.answer_group.Goals as goal
 
 grouped : (group : Bool) → not group ≡ false → group ≡ true
 grouped true is = refl
 grouped false is = absurd (cc)
+
+pub take_group-requires-clause-begins : goal.take_group-requires-clause-begins
+take_group-requires-clause-begins g c = λ w known. let s = c.requires.stands w known in (s.0, (s.1, s.2))
 
 -- the device failed as they were logged
 pub returns-then-is_device-clause-answers : goal.returns-then-is_device-clause-answers
@@ -26,8 +29,8 @@ returns-then-is_device-clause-answers g c = λ w known text begins pending.
 pub returns-in-Err-clause-left : goal.returns-in-Err-clause-left
 returns-in-Err-clause-left g c = λ left.
     let here = known_world c.args.self.now.world c.requires.form.is_open in
-    let b = c.requires.begins here.0 here.1 in
-    ((c.in-Err.ensures.takes here.0 here.1 b.0 b.1.0 b.1.1).unchanged (sym c.is_device.ensures ∙ c.if-is_device.false), refl, refl)
+    let s = c.requires.stands here.0 here.1 in
+    ((c.in-Err.ensures.takes here.0 here.1 s.0 s.1 s.2).unchanged (sym c.is_device.ensures ∙ c.if-is_device.false), refl, refl)
 
 pub returns-in-Err-clause-answers : goal.returns-in-Err-clause-answers
 returns-in-Err-clause-answers g c = λ w known text begins pending.
@@ -39,8 +42,9 @@ write_lines-requires g c = record {
   stored = λ kept is.
       let here = known_world c.args.self.now.world c.requires.form.is_open in
       let s = c.requires.stands here.0 here.1 in
-      lines_stored g.R.Meaning.Meaning.functions g.D.Disk.state g.met.D.Disk.sound kept c.args.self.now c.take_group.new.self here.0 c.args.wanted.mode s.0 _ (s.3 kept is) here.1
-      c.args.wanted c.in-Ok.gathered refl (c.in-Ok.ensures.takes here.0 here.1 s.0 s.1 s.2).together c.as_slice.ensures.value;
+      let rest = rest_of_input g.R.Meaning.Meaning.functions g.D.Disk.state g.met.D.Disk.sound (g.W.Recipient.account c.args.writer.now) c.args.self.now here.0 c.args.wanted.mode s.0 s.3 in
+      lines_stored g.R.Meaning.Meaning.functions g.D.Disk.state g.met.D.Disk.sound kept c.args.self.now c.take_group.new.self here.0 c.args.wanted.mode (s.0 ++ rest.0) _ (rest.1 kept is) here.1
+      s.0 rest.0 refl c.args.wanted c.in-Ok.gathered refl (c.in-Ok.ensures.takes here.0 here.1 s.0 s.1 s.2).together c.as_slice.ensures.value;
 }
 
 -- they were answered

@@ -10,13 +10,13 @@ use Rattle.prevalence_store.specs.declared.session.together.Grouped.{Grouped}
 use Rattle.prevalence_store.specs.calls.Store.{StoreView}
 use Rattle.prevalence_store.specs.meaning.Acceptance.{read_in}
 use Rattle.prevalence_store.specs.steps.Answer.{BeginsWith, IsFormOf}
-use Rattle.prevalence_store.specs.steps.Standing.{HandsOn, StandsBefore}
-use Rattle.prevalence_store.proofs.steps.Handing.{hands_nothing, none_standing}
+use Rattle.prevalence_store.specs.steps.Standing.{HandsOn, StandsBeforeAll}
+use Rattle.prevalence_store.proofs.steps.Handing.{hands_nothing, none_standing, rest_of_input}
 use Rattle.prevalence_store.specs.steps.Gather.{AnswersGroup}
 use Rattle.prevalence_store.specs.steps.Serve.{Answers, GoesOn, ended_at}
 use Rattle.prevalence_store.proofs.steps.Answering.{answered_within, ended_within, form_answered, nothing_answered}
 use Rattle.prevalence_store.proofs.steps.EndedAt.{at_starts, fault_ended, memory_ended, read_ended, read_from}
-use Rattle.prevalence_store.proofs.steps.Pieces.{begins_here_start, begins_start, form_begins, form_begins_here, form_takes, moves_further, piece_whole, text_stays, whole_begins}
+use Rattle.prevalence_store.proofs.steps.Pieces.{begins_here_start, begins_start, form_begins, form_begins_here, form_takes, moves_further, piece_whole_more, text_stays, whole_begins}
 use Rattle.prevalence_store.proofs.calls.Executing.{known_world}
 use Rattle.prevalence_store.proofs.calls.StreamLemmas.{behind_piece}
 use Rattle.prevalence_store.proofs.store.Store.answer_next.Goals as goal
@@ -79,19 +79,6 @@ answer_group-requires-clause-form g c =
       all_there = λ w here. subst (AreAllThere w) f.is (c.in-Ok.ensures.all_there w here);
     }
 
-pub answer_group-requires-clause-begins : goal.answer_group-requires-clause-begins
-answer_group-requires-clause-begins g c = λ w known.
-    let functions = g.R.Meaning.Meaning.functions in
-    let p = c.requires.pending.some w known in
-    let piece = c.args.piece.now in
-    let n = c.in-Ok.part.count in
-    let count = c.before_left-count.result in
-    let text = p.0 ++ take n piece in
-    let f = c.in-Form in
-    let has = subst (λ (fed : Fed). Feeds functions w c.args.wanted.mode c.feed.new.pending text fed) f.is (c.in-Ok.ensures.feeds w known p.0 p.1) in
-    let begins = whole_begins functions w c.args.wanted.mode c.feed.new.pending text (object_of f.form.read.datum) f.form.own.items f.left has.0 p.0 piece n count refl c.in-Ok.ensures.part.within c.before_left-count.ensures f.form.next has.2 in
-    (p.0 ++ piece, (begins.0, begins.1 ∙ sym (behind_piece piece count)))
-
 pub returns-in-Answered-clause-answers : goal.returns-in-Answered-clause-answers
 returns-in-Answered-clause-answers g c = λ w known bytes p.
     let functions = g.R.Meaning.Meaning.functions in
@@ -153,7 +140,8 @@ answer_fault-requires-clause-stands g c = λ w known.
     let n = c.in-Ok.part.count in
     let text = s.0 ++ take n piece in
     let refuses = (subst (λ (fed : Fed). Feeds functions w c.args.wanted.mode c.feed.new.pending text fed) c.in-Refused.is (c.in-Ok.ensures.feeds w known s.0 s.1)).0 in
-    (s.0 ++ piece, refuses.at, ap (read_in functions w c.args.wanted.mode) (sym (piece_whole s.0 piece n)) ∙ refuses.reads (drop n piece), s.2)
+    let rest = rest_of_input functions g.D.Disk.state g.met.D.Disk.sound (g.W.Recipient.account c.args.writer.now) c.args.self.now w c.args.wanted.mode (s.0 ++ piece) s.2 in
+    ((s.0 ++ piece) ++ rest.0, refuses.at, ap (read_in functions w c.args.wanted.mode) (sym (piece_whole_more s.0 piece rest.0 n)) ∙ refuses.reads (drop n piece ++ rest.0), rest.1)
 
 -- ---- the form alone
 
@@ -181,13 +169,15 @@ answer_read-requires g c =
           let piece = c.args.piece.now in
           let n = c.in-Ok.part.count in
           let text = s.0 ++ take n piece in
-          let has = (subst (λ (fed : Fed). Feeds functions w c.args.wanted.mode c.feed.new.pending text fed) f.is (c.in-Ok.ensures.feeds w known s.0 s.1)).0 in (
-            s.0 ++ piece,
+          let has = (subst (λ (fed : Fed). Feeds functions w c.args.wanted.mode c.feed.new.pending text fed) f.is (c.in-Ok.ensures.feeds w known s.0 s.1)).0 in
+          let rest = rest_of_input functions g.D.Disk.state g.met.D.Disk.sound (g.W.Recipient.account c.args.writer.now) c.args.self.now w c.args.wanted.mode (s.0 ++ piece) s.2 in
+          let all = (s.0 ++ piece) ++ rest.0 in (
+            all,
             has.next,
-            subst (λ t. BeginsWith functions w c.args.wanted.mode t (object_of f.form.read.datum) f.form.own.items has.next) (piece_whole s.0 piece n)
-                (form_begins functions w c.args.wanted.mode c.feed.new.pending text (object_of f.form.read.datum) f.form.own.items f.left has f.form.own.items (drop n piece) refl),
-            subst (λ (v : g.row.W.Denot). StandsBefore functions g.D.Disk.state (g.W.Recipient.account v) c.answer_group.new.self w c.args.wanted.mode (s.0 ++ piece)) (sym left.1)
-                (subst (λ (store : StoreView g.row.D.Denot g.row.R.Denot). StandsBefore functions g.D.Disk.state (g.W.Recipient.account c.args.writer.now) store w c.args.wanted.mode (s.0 ++ piece)) (sym left.0) s.2),
+            subst (λ t. BeginsWith functions w c.args.wanted.mode t (object_of f.form.read.datum) f.form.own.items has.next) (piece_whole_more s.0 piece rest.0 n)
+                (form_begins functions w c.args.wanted.mode c.feed.new.pending text (object_of f.form.read.datum) f.form.own.items f.left has f.form.own.items (drop n piece ++ rest.0) refl),
+            subst (λ (v : g.row.W.Denot). StandsBeforeAll functions g.D.Disk.state (g.W.Recipient.account v) c.answer_group.new.self w c.args.wanted.mode all) (sym left.1)
+                (subst (λ (store : StoreView g.row.D.Denot g.row.R.Denot). StandsBeforeAll functions g.D.Disk.state (g.W.Recipient.account c.args.writer.now) store w c.args.wanted.mode all) (sym left.0) rest.1),
           );
       order = within.0;
       forms = c.answer_group.ensures.forms;

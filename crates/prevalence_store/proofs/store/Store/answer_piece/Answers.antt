@@ -22,6 +22,7 @@ forms-init g c = record {
       let course = course_of c.args.course.now in
       extended functions g.D.Disk.state c.args.wanted.strict course course c.args.self.now c.args.self.now w c.args.wanted.mode bytes held held c.args.pending.now [] c.args.piece.now
       (nothing_answered functions g.D.Disk.state g.met.D.Disk.sound c.args.wanted.strict course c.args.self.now w c.args.wanted.mode bytes held c.args.pending.now known p);
+  first = refl;
   hands = hands_nothing g.R.Meaning.Meaning.functions g.D.Disk.state g.met.D.Disk.sound (course_of c.args.course.now).forms (g.W.Recipient.account c.args.writer.now) c.args.self.now c.args.wanted.mode
       (λ w known. (c.requires.stands w known).0 ++ c.args.piece.now) (λ w known. (c.requires.stands w known).2);
 }
@@ -38,7 +39,7 @@ answer_next-requires-clause-stands g c = λ v there.
       subst (λ u. StandsBefore functions g.D.Disk.state (g.W.Recipient.account c.forms.writer) c.forms.self u c.args.wanted.mode (goes.bytes ++ c.forms.rest.now)) same
           (stands_on functions g.D.Disk.state g.met.D.Disk.sound c.args.wanted.strict (course_of c.args.course.now) (course_of c.forms.course) c.args.self.now c.forms.self old.0 c.args.wanted.mode (s.0 ++ c.args.piece.now)
           (g.W.Recipient.contents c.args.writer.now) (g.W.Recipient.contents c.forms.writer) c.forms.pending c.forms.rest.now (g.W.Recipient.account c.args.writer.now) (g.W.Recipient.account c.forms.writer)
-          s.2 goes c.forms.invariant.hands),
+          goes c.forms.invariant.hands s.2),
     )
 
 pub answer_next-requires-clause-pending : goal.answer_next-requires-clause-pending
@@ -81,6 +82,7 @@ forms-preserved g c =
           (next_both functions g.D.Disk.state g.met.D.Disk.sound c.args.wanted (course_of c.args.course.now) (course_of c.forms.course) (course_of c.answer_next.new.course) c.args.self.now c.forms.self c.answer_next.new.self w c.args.wanted.mode
           held (g.W.Recipient.contents c.forms.writer) written c.forms.pending c.forms.invariant.honest text rest first c.answer_next.new.pending (Ok n)
           (c.in-Ok.ensures.answers first.far.world first.advances.after.left first.bytes first.is_pending));
+      first = c.answer_next.ensures.first ∙ c.forms.invariant.first;
       hands =
           let old = known_world c.args.self.now.world c.requires.pending.is_open in
           let p = c.requires.pending.some old.0 old.1 in

@@ -20,6 +20,7 @@ invariant-forms g l = record {
       → IsPending g.R.Meaning.Meaning.functions w l.wanted.mode l.fn.pending bytes
       → GoesOn g.R.Meaning.Meaning.functions g.D.Disk.state l.wanted.strict (course_of l.fn.course) (course_of l.course) l.fn.self l.self w l.wanted.mode (bytes ++ l.piece)
       (g.W.Recipient.contents l.fn.writer) (g.W.Recipient.contents l.writer) l.pending l.rest;
+  first : g.W.Recipient.first l.writer ≡ g.W.Recipient.first l.fn.writer;
   hands : HandsOn g.R.Meaning.Meaning.functions g.D.Disk.state (course_of l.fn.course).forms (course_of l.course).forms (g.W.Recipient.account l.fn.writer) (g.W.Recipient.account l.writer) l.self;
 }
 

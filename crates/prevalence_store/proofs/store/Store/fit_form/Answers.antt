@@ -4,7 +4,7 @@ use Rattle.lisp_object.specs.declared.refusal.TheConstants.{LOG_FULL}
 use Rattle.prevalence_store.specs.declared.session.answer.Answered.{Answered}
 use Rattle.prevalence_store.specs.calls.Account.{Account}
 use Rattle.prevalence_store.specs.steps.Answer.{BeginsWith}
-use Rattle.prevalence_store.specs.steps.Standing.{HandsOn, StandsBefore}
+use Rattle.prevalence_store.specs.steps.Standing.{HandsOn, StandsBeforeAll}
 use Rattle.prevalence_store.proofs.calls.Executing.{known_world}
 use Rattle.prevalence_store.proofs.steps.Handing.{stands_further, no_renewal, none_further}
 use Rattle.prevalence_store.specs.calls.Serve.{IsOver}
@@ -71,11 +71,11 @@ try_form-requires-in-Err-clause-stands g c = λ v left.
     let s = c.requires.stands w known.1 in
     let told = g.W.Recipient.account c.args.writer.now in
     let before = stands_further functions g.D.Disk.state g.met.D.Disk.sound told c.try_form.new.self c.renew.new.self w c.args.mode s.0
-    (subst (λ (store : StoreView g.row.D.Denot g.row.R.Denot). StandsBefore functions g.D.Disk.state told store w c.args.mode s.0) (sym same) s.3)
+    (subst (λ (store : StoreView g.row.D.Denot g.row.R.Denot). StandsBeforeAll functions g.D.Disk.state told store w c.args.mode s.0) (sym same) s.3)
     c.renew.ensures.honest here is.renews.left is.survives in
     let form = object_of c.args.form.now.datum in
-    subst (λ u. (text : List ℕ) × (next : ℕ) × BeginsWith functions u c.args.mode text form c.args.own.now next × StandsBefore functions g.D.Disk.state (g.W.Recipient.account c.try_form.new.writer) c.renew.new.self u c.args.mode text) one
-    (s.0, s.1, s.2, subst (λ (o : Option (Account g.row.D.Denot)). StandsBefore functions g.D.Disk.state o c.renew.new.self w c.args.mode s.0) (sym (ap (λ v. g.W.Recipient.account v) (c.in-Err.ensures.quiet full))) before)
+    subst (λ u. (text : List ℕ) × (next : ℕ) × BeginsWith functions u c.args.mode text form c.args.own.now next × StandsBeforeAll functions g.D.Disk.state (g.W.Recipient.account c.try_form.new.writer) c.renew.new.self u c.args.mode text) one
+    (s.0, s.1, s.2, subst (λ (o : Option (Account g.row.D.Denot)). StandsBeforeAll functions g.D.Disk.state o c.renew.new.self w c.args.mode s.0) (sym (ap (λ v. g.W.Recipient.account v) (c.in-Err.ensures.quiet full))) before)
 
 pub returns-in_default-clause-hands : goal.returns-in_default-clause-hands
 returns-in_default-clause-hands g c =
@@ -93,7 +93,7 @@ returns-in-Err-renew-clause-under_way g c =
     let here = ap (λ (s : StoreView g.row.D.Denot g.row.R.Denot). s.world) same ∙ known.1 in
     let s = c.requires.stands w known.1 in
     let told = g.W.Recipient.account c.try_form.new.writer in
-    let stands = subst (λ (o : Option (Account g.row.D.Denot)). StandsBefore functions g.D.Disk.state o c.try_form.new.self w c.args.mode s.0) (sym (ap (λ v. g.W.Recipient.account v) (c.in-Err.ensures.quiet full)))
-    (subst (λ (store : StoreView g.row.D.Denot g.row.R.Denot). StandsBefore functions g.D.Disk.state (g.W.Recipient.account c.args.writer.now) store w c.args.mode s.0) (sym same) s.3) in
-    none_further g.R.Meaning.Meaning.functions g.D.Disk.state g.met.D.Disk.sound told c.try_form.new.self c.renew.new.self w here (λ kept is. (stands kept is).at_rest)
+    let stands = subst (λ (o : Option (Account g.row.D.Denot)). StandsBeforeAll functions g.D.Disk.state o c.try_form.new.self w c.args.mode s.0) (sym (ap (λ v. g.W.Recipient.account v) (c.in-Err.ensures.quiet full)))
+    (subst (λ (store : StoreView g.row.D.Denot g.row.R.Denot). StandsBeforeAll functions g.D.Disk.state (g.W.Recipient.account c.args.writer.now) store w c.args.mode s.0) (sym same) s.3) in
+    none_further g.R.Meaning.Meaning.functions g.D.Disk.state g.met.D.Disk.sound told c.try_form.new.self c.renew.new.self w here (λ kept is. (stands kept is).0.at_rest)
     (no_renewal g.R.Meaning.Meaning.functions g.D.Disk.state g.met.D.Disk.sound c.try_form.new.self c.renew.new.self w c.in-Err-renew.number (c.in-Err-renew.ensures.renews w here))

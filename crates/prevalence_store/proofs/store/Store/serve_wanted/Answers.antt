@@ -1,15 +1,15 @@
-use Rattle.std.proofs.Common.{rules, ◌≡◌, ◌+◌, ◌≤◌, [], ◌++◌, None, Some, take, refl, subst, sym, ◌∙◌, arith}
+use Rattle.std.proofs.Common.{rules, ◌≡◌, ◌+◌, ◌≤◌, [], ◌++◌, None, Some, append-nil, take, refl, subst, sym, ◌∙◌, arith}
 use Rattle.std.specs.Io.KnownBytes.{Consumes}
 use Rattle.form_reader.specs.Reader.{fed}
 use Rattle.prevalence_store.specs.calls.Serve.{pace_wanted}
 use Rattle.prevalence_store.specs.steps.Course.{Course, course_of, first_course}
 use Rattle.prevalence_store.specs.steps.Input.{IsPending}
 use Rattle.prevalence_store.specs.steps.Serve.{GoesOn}
-use Rattle.prevalence_store.specs.steps.Standing.{HandsOn, StandsBefore}
-use Rattle.prevalence_store.proofs.steps.Handing.{hands_both, hands_nothing, stands_first, stands_on, none_handed}
+use Rattle.prevalence_store.specs.steps.Standing.{HandsOn, StandsBefore, StandsBeforeAll}
+use Rattle.prevalence_store.proofs.steps.Handing.{hands_both, hands_nothing, stands_first, stands_first_all, stands_on, stands_on_all, none_handed}
 use Rattle.prevalence_store.proofs.calls.Executing.{known_world}
 use Rattle.prevalence_store.proofs.steps.Answering.{end_both, extended, more_both, nothing_answered, pending_again, unread_after}
-use Rattle.prevalence_store.proofs.steps.Inputs.{decided_input, ended_input, consumes_none, keeps_same, left_both, unread_input}
+use Rattle.prevalence_store.proofs.steps.Inputs.{decided_input, ended_input, consumes_none, keeps_same, left_both, none_left, unread_input}
 use Rattle.prevalence_store.proofs.store.Store.serve_wanted.Goals as goal
 
 pub reads-init : goal.reads-init
@@ -33,6 +33,7 @@ reads-init g c =
               λ all is. (all, (is, refl)),
             ),
           );
+      first = refl;
       hands = subst (λ (k : Course). HandsOn g.R.Meaning.Meaning.functions g.D.Disk.state 0 k.forms (g.W.Recipient.account c.args.writer.now) (g.W.Recipient.account c.args.writer.now) c.args.self.now) (sym begun)
           (hands_nothing g.R.Meaning.Meaning.functions g.D.Disk.state g.met.D.Disk.sound 0 (g.W.Recipient.account c.args.writer.now) c.args.self.now c.args.wanted.mode (λ w known. [])
           (λ w known. stands_first g.R.Meaning.Meaning.functions g.D.Disk.state g.met.D.Disk.sound (g.W.Recipient.account c.args.writer.now) c.args.self.now w c.args.wanted.mode (g.I.Read.remaining c.args.reader.now) []
@@ -59,7 +60,7 @@ answer_piece-requires-clause-stands g c = λ v there.
       subst (λ u. IsPending functions u c.args.wanted.mode c.reads.pending goes.bytes) same goes.is_pending,
       subst (λ u. StandsBefore functions g.D.Disk.state (g.W.Recipient.account c.reads.writer) c.reads.self u c.args.wanted.mode (goes.bytes ++ piece)) same
           (stands_on functions g.D.Disk.state g.met.D.Disk.sound c.args.wanted.strict course (course_of c.reads.course) c.args.self.now c.reads.self old.0 c.args.wanted.mode (far.0 ++ piece) held written c.reads.pending ([] ++ piece)
-          (g.W.Recipient.account c.args.writer.now) (g.W.Recipient.account c.reads.writer) begins goes c.reads.invariant.hands),
+          (g.W.Recipient.account c.args.writer.now) (g.W.Recipient.account c.reads.writer) goes c.reads.invariant.hands begins),
     )
 
 pub answer_end-requires-clause-stands : goal.answer_end-requires-clause-stands
@@ -69,15 +70,21 @@ answer_end-requires-clause-stands g c = λ v there.
     let far = c.reads.invariant.far old.0 old.1 in
     let goes = far.1.0 in
     let course = first_course (pace_wanted c.args.wanted) in
-    let begins = stands_first functions g.D.Disk.state g.met.D.Disk.sound (g.W.Recipient.account c.args.writer.now) c.args.self.now old.0 c.args.wanted.mode (g.I.Read.remaining c.args.reader.now) far.0
-    (c.requires.begins old.0 old.1) (c.keeps_its_world.ensures old.0 old.1) (λ all is. let l = far.1.1 all is in (l.0, l.1.1)) in
+    let had = g.I.Read.remaining c.args.reader.now in
+    let before = g.I.Read.remaining c.reads.reader in
+    let has = g.I.Read.remaining c.read_piece.new.reader in
+    let whole = none_left functions g.D.Disk.state c.args.wanted c.args.self.now c.reads.self old.0 (g.W.Recipient.contents c.args.writer.now) (g.W.Recipient.contents c.reads.writer) had before has far.0 far.1.1
+    (subst (λ n. Consumes before has (take n c.read_piece.new.buffer)) c.if-count-eq0.true c.in-Ok.ensures.bytes.0) (c.in-Ok.ensures.bytes.1 c.if-count-eq0.true (search rules)) in
+    let begins = stands_first_all functions g.D.Disk.state g.met.D.Disk.sound (g.W.Recipient.account c.args.writer.now) c.args.self.now old.0 c.args.wanted.mode had far.0
+    (c.requires.begins old.0 old.1) (c.keeps_its_world.ensures old.0 old.1) (λ all is. let l = far.1.1 all is in (l.0, l.1.1)) (λ all is. (whole all is).0 ∙ append-nil far.0) in
     let same : goes.far.world ≡ v = let left_is = goes.advances.after.left in cc in (
       goes.bytes,
       subst (λ u. IsPending functions u c.args.wanted.mode c.reads.pending goes.bytes) same goes.is_pending,
-      subst (λ u. StandsBefore functions g.D.Disk.state (g.W.Recipient.account c.reads.writer) c.reads.self u c.args.wanted.mode (goes.bytes ++ [])) same
-          (stands_on functions g.D.Disk.state g.met.D.Disk.sound c.args.wanted.strict course (course_of c.reads.course) c.args.self.now c.reads.self old.0 c.args.wanted.mode far.0
+      subst (λ u. StandsBeforeAll functions g.D.Disk.state (g.W.Recipient.account c.reads.writer) c.reads.self u c.args.wanted.mode goes.bytes) same
+          (subst (λ t. StandsBeforeAll functions g.D.Disk.state (g.W.Recipient.account c.reads.writer) c.reads.self goes.far.world c.args.wanted.mode t) (append-nil goes.bytes)
+          (stands_on_all functions g.D.Disk.state g.met.D.Disk.sound c.args.wanted.strict course (course_of c.reads.course) c.args.self.now c.reads.self old.0 c.args.wanted.mode far.0
           (g.W.Recipient.contents c.args.writer.now) (g.W.Recipient.contents c.reads.writer) c.reads.pending []
-          (g.W.Recipient.account c.args.writer.now) (g.W.Recipient.account c.reads.writer) begins goes c.reads.invariant.hands),
+          (g.W.Recipient.account c.args.writer.now) (g.W.Recipient.account c.reads.writer) goes c.reads.invariant.hands begins)),
     )
 
 pub answer_end-requires-clause-pending : goal.answer_end-requires-clause-pending
@@ -166,6 +173,7 @@ reads-preserved g c =
               left_both _ _ _ far.0 piece far.1.1 c.in-Ok.ensures.bytes.0,
             ),
           );
+      first = c.answer_piece.ensures.first ∙ c.reads.invariant.first;
       hands =
           let old = known_world c.args.self.now.world (search rules) in
           let goes = (c.reads.invariant.far old.0 old.1).1.0 in

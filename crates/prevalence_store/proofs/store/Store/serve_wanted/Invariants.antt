@@ -20,6 +20,7 @@ invariant-reads g l = record {
       × (GoesOn g.R.Meaning.Meaning.functions g.D.Disk.state l.wanted.strict (first_course (pace_wanted l.wanted)) (course_of l.course) l.fn.self l.self w l.wanted.mode text
       (g.W.Recipient.contents l.fn.writer) (g.W.Recipient.contents l.writer) l.pending []
       × ((all : List ℕ) → g.I.Read.remaining l.fn.reader ≡ Some all → (left : List ℕ) × ((g.I.Read.remaining l.reader ≡ Some left) × (all ≡ text ++ left))));
+  first : g.W.Recipient.first l.writer ≡ g.W.Recipient.first l.fn.writer;
   hands : HandsOn g.R.Meaning.Meaning.functions g.D.Disk.state 0 (course_of l.course).forms (g.W.Recipient.account l.fn.writer) (g.W.Recipient.account l.writer) l.self;
 }
 
