@@ -4,7 +4,9 @@ use Rattle.deferred_disk.specs.Bytes.{orders_bytes}
 use Rattle.deferred_disk.specs.Disk.{IsReported, pending_of}
 use Rattle.lisp_object.specs.declared.refusal.TheConstants.{NO_MEMORY, REOPEN}
 use Rattle.pazturrok_c.specs.Engine.{ExecutesMany, IsBarred, IsExecuted, IsOpenedOn, IsSnapshotted, IsUnopenedOn, mode_in}
+use Rattle.pazturrok_c.specs.Messages.{AnswersAll, IsBegun}
 use Rattle.pazturrok_c.specs.declared.done.Done.{Done}
+use Rattle.pazturrok_c.specs.declared.done.RequestHead.{RequestHead}
 use Rattle.pazturrok_c.specs.declared.engine.Engine.{Engine}
 
 -- as many bytes as there is room for, from a place on
@@ -44,6 +46,13 @@ module _ (old new : Engine) (rescue : Bool) where
 
 abbrev pub TakesSnapshot : Engine → Engine → Done → Type 0
 TakesSnapshot old new done = IsAsked old new 0 done (IsSnapshotted old.store new.store done.number)
+
+abbrev pub BeginsWithMessages : Engine → Engine → ℕ → Done → Type 0
+BeginsWithMessages old new position done = IsAsked old new 0 done (IsBegun old.store new.store done.number position)
+
+abbrev pub AnswersEach : Engine → Engine → ℕ → List ℕ → List RequestHead → Done → Type 0
+AnswersEach old new last texts heads done =
+    IsAsked old new (length new.answer.items) done (AnswersAll old.store new.store last texts heads done.number new.answer.items)
 
 -- so many bytes of orders were reported done
 pub record IsPerformed (old new : Engine) (count : ℕ) : Type 0 where

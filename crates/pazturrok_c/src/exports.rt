@@ -4,12 +4,12 @@ ghost use Rattle.deferred_disk.specs.Bytes.{orders_bytes};
 ghost use Rattle.deferred_disk.specs.Disk.{pending_of};
 ghost use Rattle.lisp_object.specs.Refusal.{name_of as name};
 ghost use Rattle.lisp_object.specs.declared.refusal.TheConstants.{REOPEN as reopen};
-ghost use Rattle.pazturrok_c.specs.Calls.{ExecutesForm, ExecutesForms, IsCopied, IsPerformed, MayRefuse, OnEngine, Opens, ShowsAnswer, TakesSnapshot};
+ghost use Rattle.pazturrok_c.specs.Calls.{AnswersEach, BeginsWithMessages, ExecutesForm, ExecutesForms, IsCopied, IsPerformed, MayRefuse, OnEngine, Opens, ShowsAnswer, TakesSnapshot};
 ghost use Rattle.pazturrok_c.specs.Engine.{IsOpenedOn};
 ghost use Rattle.pazturrok_c.specs.declared.engine.Engine.{Engine as AnEngine};
 
 use crate::calls::copy_out;
-use crate::done::{Done, Setting, Told};
+use crate::done::{Done, RequestHead, Setting, Told};
 use crate::engine::Engine;
 use crate::slot::Slot;
 use lisp_object::refusal::{NO_MEMORY, REOPEN, name_of};
@@ -111,6 +111,48 @@ pub extern "C" fn pzt_execute_all(
         return;
     };
     *done = engine.execute_all_for(rescue, texts, ends);
+    slot.put(engine);
+}
+
+/// Begins with messages: gives the number of the last one that the store holds.
+#[unsafe(no_mangle)]
+pub extern "C" fn pzt_begin_messages(
+    alloc: Global,
+    slot: &mut Slot,
+    position: &mut u64,
+    done: &mut Done,
+)
+    ensures { OnEngine slot.old.handle.engine slot.new.handle.engine done.new.number
+        (λ old new. BeginsWithMessages old new position.new done.new) }
+{
+    let Some(mut engine) = slot.take(alloc) else {
+        *done = NO_ENGINE;
+        return;
+    };
+    *done = engine.begin_messages_for(position);
+    slot.put(engine);
+}
+
+/// Answers the requests whose texts end at these places, one after the other, after the message of the last number. What the messages
+/// wrote is logged together, with the position: a crash leaves all of it or nothing. The answer has for each 1 in two bytes if it is
+/// of a message that wrote, else 0, a length in eight, and so many bytes.
+#[unsafe(no_mangle)]
+pub extern "C" fn pzt_answer_requests(
+    alloc: Global,
+    slot: &mut Slot,
+    last: u64,
+    texts: &[u8],
+    heads: &[RequestHead],
+    done: &mut Done,
+)
+    ensures { OnEngine slot.old.handle.engine slot.new.handle.engine done.new.number
+        (λ old new. AnswersEach old new last texts.now heads.now done.new) }
+{
+    let Some(mut engine) = slot.take(alloc) else {
+        *done = NO_ENGINE;
+        return;
+    };
+    *done = engine.answer_requests_for(last, texts, heads);
     slot.put(engine);
 }
 
