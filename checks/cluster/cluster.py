@@ -87,7 +87,7 @@ class Cluster:
     def node(self, place, keep=600, options=()):
         host, port = self.places[place]
         options = ["--name", f"n{place}", *options, "--keep", str(keep), "--listen", f"{host}:{port}", *(["--open"] if self.apart else [])]
-        options += ["--cert", self.secrets.both] if self.secrets else []
+        options += ["--cert", self.secrets.both, "--client-ca", self.secrets.ca] if self.secrets else []
         return Process([*self.within(place), *self.words(place, self.store(place), *options)], os.path.join(self.folder, f"node-{place}.log"))
 
     def words(self, place, *further):

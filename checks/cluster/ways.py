@@ -80,14 +80,15 @@ def python_client(cluster):
 
 
 def heard_strangers(cluster):
-    """Those who are answered and should not be: without TLS, and who asks a node under another name than its own."""
-    strange = ssl.create_default_context()
-    for told, context in (("a client without TLS", None), ("a node that nobody trusts", strange)):
+    """Those who are answered and should not be."""
+    nameless = ssl.create_default_context(cafile=cluster.secrets.ca)
+    stranger = ssl.create_default_context()
+    for told, context in (("a client without TLS", None), ("one without a certificate", nameless), ("one that does not trust the node", stranger)):
         try:
             Client(cluster.places[:1], patience=3.0, context=context).once(b"do", ADD)
             yield told
         except (OSError, ValueError):
-            pass
+            continue
 
 
 def deaf_node(cluster, folder, words):

@@ -42,6 +42,7 @@ def words() -> argparse.Namespace:
     parser.add_argument("--etcd-cert", metavar="FILE", help="this node for the members, with its key in one file")
     parser.add_argument("--listen", default="127.0.0.1:7411", help="HOST:PORT, or the path of a socket")
     parser.add_argument("--cert", metavar="FILE", help="this node for its clients by TLS, with its key in one file")
+    parser.add_argument("--client-ca", metavar="FILE", help="who signs for clients: others are not heard")
     parser.add_argument("--open", action="store_true", help="listen beyond this machine without TLS")
     parser.add_argument("--log", default="store", help="which log in etcd: letters and digits")
     parser.add_argument("--name", default=socket.gethostname(), help="the name of this node, which no other of the log may have")
@@ -58,6 +59,8 @@ def words() -> argparse.Namespace:
     for word in (asked.log, asked.name):
         if not re.fullmatch(r"[A-Za-z0-9._-]{1,100}", word):
             parser.error(f"{word!r} is no name")
+    if asked.client_ca and not asked.cert:
+        parser.error("--client-ca wants --cert")
     if "/" not in asked.listen and not asked.cert and not asked.open and not is_loopback(asked.listen):
         parser.error(f"{asked.listen} is beyond this machine: give --cert, or --open where the network is your own")
     return asked
@@ -88,6 +91,9 @@ async def listen(asked: argparse.Namespace, clients: Clients) -> asyncio.Abstrac
     if asked.cert:
         context = ssl.SSLContext(ssl.PROTOCOL_TLS_SERVER)
         context.load_cert_chain(asked.cert)
+        if asked.client_ca:
+            context.load_verify_locations(asked.client_ca)
+            context.verify_mode = ssl.CERT_REQUIRED
     host, _, port = asked.listen.rpartition(":")
     return await asyncio.start_server(clients.serve, host.strip("[]"), int(port), ssl=context, limit=BUFFER, backlog=1024)
 
