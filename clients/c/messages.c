@@ -60,9 +60,11 @@ static int join_messages(struct requests *joined, const pazturrok_message *messa
     return 0;
 }
 
-static int answer_messages(struct store *store, const struct requests *requests, pazturrok_outcome *outcomes) {
+/* What is up to the position was carried out before. */
+static int answer_messages(struct store *store, uint64_t position, const struct requests *requests, pazturrok_outcome *outcomes) {
     pzt_done done = {0, 0, 0};
-    pzt_answer_requests(&store->engine, store->last, requests->bytes, requests->length, requests->heads, requests->count, &done);
+    uint64_t last = store->last > position ? store->last : position;
+    pzt_answer_requests(&store->engine, last, requests->bytes, requests->length, requests->heads, requests->count, &done);
     take_outcomes(store, &done, number_of, outcomes, requests->count);
     int number = finish(store, &done);
     for (size_t place = 0; number == 0 && place < requests->count; place++)
@@ -80,7 +82,7 @@ int pazturrok_do(pazturrok_store id, const pazturrok_message *messages, size_t c
     if (number == 0) number = begin_messages(call.store, &position);
     if (number == 0) {
         number = join_messages(&joined, messages, count);
-        number = number ? refuse(call.store, number) : answer_messages(call.store, &joined, outcomes);
+        number = number ? refuse(call.store, number) : answer_messages(call.store, position, &joined, outcomes);
         if (number != 0) empty_outcomes(outcomes, count);
     }
     free(joined.bytes);
