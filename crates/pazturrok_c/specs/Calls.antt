@@ -18,23 +18,33 @@ pub record IsCopied (from : List ℕ) (at : ℕ) (old new : List ℕ) (count : �
 abbrev pub MayRefuse : List ℕ → List ℕ → ℕ → ℕ → Type 0
 MayRefuse a b limit number = IsUnopenedOn a b limit number ⊎ (number ≡ NO_MEMORY)
 
--- what an empty slot holds after an opening: the store of two files of these bytes, or nothing still
-abbrev pub Opens : List ℕ → List ℕ → ℕ → Option Engine → ℕ → Type 0
-Opens a b limit (Some engine) number = (number ≡ 0) × IsOpenedOn a b limit engine.store
-Opens a b limit None number = MayRefuse a b limit number
+-- there is no answer, and there are no orders
+abbrev pub TellsNothing : Done → Type 0
+TellsNothing done = (done.answer ≡ 0) × (done.orders ≡ 0)
 
--- how a call ended: its number; of the answer, if it has one, how many bytes it has; and how many the orders have
+-- how many bytes the orders of an engine have
+abbrev pub orders_of : Engine → ℕ
+orders_of engine = length (orders_bytes (pending_of engine.store.disk))
+
+-- what an empty slot holds after an opening: the store of two files of these bytes, and its orders; or nothing still
+abbrev pub Opens : List ℕ → List ℕ → ℕ → Option Engine → Done → Type 0
+Opens a b limit (Some engine) done = (done.number ≡ 0) × (done.answer ≡ 0) × (done.orders ≡ orders_of engine) × IsOpenedOn a b limit engine.store
+Opens a b limit None done = TellsNothing done × MayRefuse a b limit done.number
+
+-- how a call ended: its number; how many bytes the answer has, 0 if it was refused; and how many the orders have
 pub record TellsEnd (engine : Engine) (number answer : ℕ) (done : Done) : Type 0 where
   pub number_is : done.number ≡ number
   pub answer_is : number ≡ 0 → done.answer ≡ answer
-  pub orders : done.orders ≡ length (orders_bytes (pending_of engine.store.disk))
+  pub refused : (number ≡ 0 → ⊥) → done.answer ≡ 0
+  pub orders : done.orders ≡ orders_of engine
 
 -- The engine was asked: it does this, unless orders are open; and it tells how long its answer is and its orders are.
 pub record IsAsked (old new : Engine) (answer : ℕ) (done : Done) (Does : Type 0) : Type 0 where
   pub barred : IsBarred (pending_of old.store.disk) old new done.number
   pub does : pending_of old.store.disk ≡ [] → Does
   pub answer_is : done.number ≡ 0 → done.answer ≡ answer
-  pub orders : done.orders ≡ length (orders_bytes (pending_of new.store.disk))
+  pub refused : (done.number ≡ 0 → ⊥) → done.answer ≡ 0
+  pub orders : done.orders ≡ orders_of new
 
 module _ (old new : Engine) (rescue : Bool) where
   abbrev pub ExecutesForm : List ℕ → Done → Type 0

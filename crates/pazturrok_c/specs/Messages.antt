@@ -1,5 +1,5 @@
 -- What the calls of the engine on messages answer, by what the calls of its store gave.
-use Rattle.std.specs.Prelude.{◌≡◌, ◌⊎◌, ℕ, List, map, None, Some, Result, Err, MatchResult}
+use Rattle.std.specs.Prelude.{◌≡◌, ◌⊎◌, ℕ, List, map, None, Some, Result, Ok, Err, MatchResult}
 use Rattle.std.specs.List.{flat_map}
 use Rattle.deferred_disk.specs.Disk.{state_of}
 use Rattle.deferred_disk.specs.declared.disk.DeferredDisk.{DeferredDisk}
@@ -17,6 +17,11 @@ use Rattle.six_functions.specs.MacroFunctions.{six_functions}
 abbrev pub AreTold : Replies → ℕ → List ℕ → Type 0
 AreTold replies number answers = ((number ≡ 0) × (answers ≡ flat_map answer_bytes replies.answers.items)) ⊎ (number ≡ NO_MEMORY)
 
+-- the same of what the store gave: replies, or the number of a refusal
+abbrev pub IsTold : Result Replies ℕ → ℕ → List ℕ → Type 0
+IsTold (Ok replies) number answers = AreTold replies number answers
+IsTold (Err refusal) number answers = number ≡ refusal
+
 module _ {R : Type 0} (old new : StoreView DeferredDisk R) where
   -- the store began with messages, and this is its position
   pub record IsBegun (number position : ℕ) : Type 0 where
@@ -32,7 +37,7 @@ module _ {R : Type 0} (old new : StoreView DeferredDisk R) where
     pub given : Result Replies ℕ
     pub reopen : old.world ≡ None → (given ≡ Err REOPEN) × (new ≡ old)
     pub answers_are : (world : WorldState) → old.world ≡ Some world → AnswersRequests six_functions state_of old new world last requests given
-    pub tells : MatchResult given (λ replies. AreTold replies number answers) (λ refusal. number ≡ refusal)
+    pub tells : IsTold given number answers
 
   -- where there is no room for the requests the number is 90, and nothing changes
   abbrev pub AnswersAll : ℕ → List ℕ → List RequestHead → ℕ → List ℕ → Type 0

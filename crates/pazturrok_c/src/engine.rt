@@ -4,7 +4,7 @@ ghost use Rattle.std.specs.List.{All};
 ghost use Rattle.deferred_disk.specs.Bytes.{orders_bytes};
 ghost use Rattle.deferred_disk.specs.Disk.{pending_of, state_of};
 ghost use Rattle.pazturrok_c.specs.Engine.{AreAnswered, ExecutesMany, IsAnswered, IsBarred, IsExecuted, IsOpenedOn, IsSnapshotted, IsUnopenedOn, mode_in};
-ghost use Rattle.pazturrok_c.specs.Messages.{AnswersAll, AreTold, IsBegun};
+ghost use Rattle.pazturrok_c.specs.Messages.{AnswersAll, AreTold, IsBegun, IsTold};
 ghost use Rattle.prevalence_store.specs.calls.Execute.{IsProperOutcome};
 ghost use Rattle.six_functions.specs.MacroFunctions.{six_functions};
 ghost use Rattle.user_macros.specs.Functions.{are_registered};
@@ -179,12 +179,7 @@ impl Engine {
     }
 
     /// Answers the requests whose texts end at these places, after the message of the last number, unless orders are open.
-    pub(crate) fn answer_requests(
-        &mut self,
-        last: u64,
-        texts: &[u8],
-        heads: &[RequestHead],
-    ) -> u16
+    pub(crate) fn answer_requests(&mut self, last: u64, texts: &[u8], heads: &[RequestHead]) -> u16
         ensures barred { IsBarred (pending_of self.old.store.disk) self.old self.new result }
         ensures answers { pending_of self.old.store.disk ≡ [] → AnswersAll self.old.store self.new.store
             last texts.now heads.now result self.new.answer.items }
@@ -195,9 +190,18 @@ impl Engine {
         let Ok(requests) = requests_of(self.alloc, texts, heads) else {
             return NO_MEMORY;
         };
-        match self.store.answer_requests(last, &requests) {
-            Ok(replies) => self.tell_replies(&replies),
-            Err(number) => number,
+        let given = self.store.answer_requests(last, &requests);
+        self.tell_given(&given)
+    }
+
+    // Keeps what is told of what the store gave, and gives the number.
+    fn tell_given(&mut self, given: &Result<Replies, u16>) -> u16
+        ensures store { self.new.store ≡ self.old.store }
+        ensures told { IsTold given.now result self.new.answer.items }
+    {
+        match given {
+            Ok(replies) => self.tell_replies(replies),
+            Err(number) => *number,
         }
     }
 
