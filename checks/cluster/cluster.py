@@ -55,13 +55,15 @@ class Process:
 
 
 class Cluster:
-    """Members m0, m1, .. and nodes n0, n1, ..; `apart` are namespaces, one for each place."""
+    """Members m0, m1, .. and nodes n0, n1, ..; `apart` are namespaces, one for each place, `secrets` are certificates for all ways between."""
 
-    def __init__(self, folder, program, members=3, nodes=3, keep=600, options=(), apart=None):
-        self.folder, self.program, self.apart, self.blows = folder, program, apart, 0
+    def __init__(self, folder, program, members=3, nodes=3, keep=600, options=(), apart=None, secrets=None):
+        self.folder, self.program, self.apart, self.secrets, self.blows = folder, program, apart, secrets, 0
+        self.context = secrets.context() if secrets else None
         ports = [2379] * members + [2380] * members + [7411] * nodes if apart else free_ports(2 * members + nodes)
-        self.urls = [f"http://{self.host(place)}:{ports[place]}" for place in range(members)]
-        peers = [f"http://{self.host(place)}:{ports[members + place]}" for place in range(members)]
+        scheme = "https" if secrets else "http"
+        self.urls = [f"{scheme}://{self.host(place)}:{ports[place]}" for place in range(members)]
+        peers = [f"{scheme}://{self.host(place)}:{ports[members + place]}" for place in range(members)]
         whole = ",".join(f"m{place}={peer}" for place, peer in enumerate(peers))
         self.members = [self.member(place, peers[place], whole) for place in range(members)]
         self.places = [(self.host(place), ports[2 * members + place]) for place in range(nodes)]
@@ -79,16 +81,21 @@ class Cluster:
         words = [*self.within(place), "etcd", "--name", f"m{place}", "--data-dir", self.data(place), "--log-level", "error"]
         words += ["--listen-client-urls", self.urls[place], "--advertise-client-urls", self.urls[place]]
         words += ["--listen-peer-urls", peer, "--initial-advertise-peer-urls", peer, "--initial-cluster", whole]
-        words += ["--heartbeat-interval", "100", "--election-timeout", "1000"]
+        words += ["--heartbeat-interval", "100", "--election-timeout", "1000", *(self.secrets.words_of_member() if self.secrets else [])]
         return Process(words, os.path.join(self.folder, f"etcd-{place}.log"), {**os.environ, "ETCD_UNSUPPORTED_ARCH": "arm64"})
 
     def node(self, place, keep=600, options=()):
         host, port = self.places[place]
-        options = [*options, "--keep", str(keep), "--listen", f"{host}:{port}", "--name", f"n{place}", *(["--open"] if self.apart else [])]
+        options = ["--name", f"n{place}", *options, "--keep", str(keep), "--listen", f"{host}:{port}", *(["--open"] if self.apart else [])]
+        options += ["--cert", self.secrets.both, "--client-ca", self.secrets.ca] if self.secrets else []
         return Process([*self.within(place), *self.words(place, self.store(place), *options)], os.path.join(self.folder, f"node-{place}.log"))
 
     def words(self, place, *further):
         """The words of a command of pazturrok-node at a place."""
+        return [*self.plain_words(place, *further), *(self.secrets.words_of_node() if self.secrets else [])]
+
+    def plain_words(self, place, *further):
+        """The same without its certificates."""
         urls = ",".join(self.urls[place:] + self.urls[:place])
         return [sys.executable, NODE, *further, "--etcd", urls, "--program", self.program]
 
@@ -149,8 +156,8 @@ class Cluster:
 class Client:
     """A client of one node after the other: it sends a request again, under its name, until it is answered."""
 
-    def __init__(self, places, at=0, patience=10.0):
-        self.places, self.at, self.stream, self.patience = places, at, None, patience
+    def __init__(self, places, at=0, patience=10.0, context=None):
+        self.places, self.at, self.stream, self.patience, self.context = places, at, None, patience, context
 
     def request(self, head, text, limit=2 * LONG):
         """The number and the text of the answer; the number is None of a question."""
@@ -166,7 +173,9 @@ class Client:
 
     def once(self, head, text):
         if self.stream is None:
-            self.stream = socket.create_connection(self.places[self.at], self.patience).makefile("rwb")
+            way = socket.create_connection(self.places[self.at], self.patience)
+            way = self.context.wrap_socket(way, server_hostname=self.places[self.at][0]) if self.context else way
+            self.stream = way.makefile("rwb")
         self.stream.write(b"%s %d\n%s\n" % (head, len(text), text))
         self.stream.flush()
         kind, size = self.stream.readline().split()

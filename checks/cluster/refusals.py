@@ -12,15 +12,15 @@ ADD = b"(INCF (GET 'COUNTER 'KY))"
 LOOK = b"(GET 'COUNTER 'KY)"
 
 
-def begun(folder, program, **options):
+def begun(folder, program, members=1, **options):
     """A cluster whose counter has gone up to 5, on all of its nodes."""
-    cluster = Cluster(folder, program, members=1, **options)
-    client = Client(cluster.places)
+    cluster = Cluster(folder, program, members, **options)
+    client = Client(cluster.places, context=cluster.context)
     client.request(b"do first", b"(SETF (GET 'COUNTER 'KY) 0)")
     for number in range(5):
         client.request(b"do add-%d" % number, ADD)
     for place in cluster.places:
-        Client([place]).request(b"read", LOOK)
+        Client([place], context=cluster.context).request(b"read", LOOK)
     return cluster
 
 
@@ -48,7 +48,7 @@ def copy_store(cluster, source, target):
 
 
 def value(cluster, place):
-    return Client([cluster.places[place]]).request(b"read", LOOK)[1]
+    return Client([cluster.places[place]], context=cluster.context).request(b"read", LOOK)[1]
 
 
 # ---- stores that are none of the log

@@ -1,58 +1,24 @@
 /* Calls of the library as its header has them, and others: over a folder that is thrown away, which is the first argument. It tells what
    was not as it is to be; the last line is `N passed, M failed`. */
-#include "pazturrok.h"
+#include "expect.h"
 #include <fcntl.h>
 #include <pthread.h>
 #include <signal.h>
-#include <stdbool.h>
-#include <stdio.h>
 #include <stdlib.h>
-#include <string.h>
 #include <sys/stat.h>
 #include <sys/time.h>
 #include <sys/wait.h>
 #include <unistd.h>
 
-static int passed, failed;
-static const char *room;
 /* Whether calls take long, as under valgrind: signals come less often then, and less is done. */
 static bool is_slow;
-
-#define EXPECT(holds) expect(holds, #holds, __LINE__)
-
-static void expect(bool holds, const char *what, int line) {
-    if (holds) passed++;
-    else printf("calls: line %d: %s\n", line, what), failed++;
-}
 
 /* How a child ended, by its status. */
 #define EXPECT_STATUS(status) expect_status(status, __LINE__)
 
 static void expect_status(int status, int line) {
-    if (status != 0) printf("calls: line %d: a child ended with %d\n", line, WEXITSTATUS(status));
+    if (status != 0) printf("line %d: a child ended with %d\n", line, WEXITSTATUS(status));
     expect(status == 0, "status == 0", line);
-}
-
-static const char *folder(const char *name) {
-    static char path[4096];
-    (void)snprintf(path, sizeof path, "%s/%s", room, name);
-    return path;
-}
-
-static pazturrok_store opened(const char *name) {
-    pazturrok_store store = 0;
-    pazturrok_fault fault;
-    if (pazturrok_open(folder(name), 0, &store, &fault) != 0) printf("calls: %s: %d %s\n", name, fault.number, fault.cause);
-    return store;
-}
-
-static int execute(pazturrok_store store, const char *text, const char **answer) {
-    return pazturrok_execute(store, PAZTURROK_CURRENT, text, strlen(text), answer, NULL);
-}
-
-static bool answers(pazturrok_store store, const char *text, const char *wanted) {
-    const char *answer;
-    return execute(store, text, &answer) == 0 && strcmp(answer, wanted) == 0;
 }
 
 static void forms(void) {

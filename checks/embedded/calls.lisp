@@ -83,6 +83,29 @@
     (expect "names before and after a change of the package" '(some-name "P" some-name)
             (send-all store '('some-name (in-package "P") 'some-name)))))
 
+(defun messages ()
+  (with-feed (feed :library (folder "feed"))
+    (expect "no message yet" 0 (feed-last feed))
+    (expect "a message" 1 (feed-form feed '(setf (get 'n 'n) 1)))
+    (expect "many, some of them refused" '(2 31 1 ("a") new)
+            (mapcar (lambda (outcome) (if (typep outcome 'refused) (refused-number outcome) outcome))
+                    (feed-all feed (list "(INCF (GET 'N 'N))" "(FROB)" "(LIST 1" '(list "a") ''new))))
+    (expect "5,000 of them" (loop for i from 3 to 5002 collect i)
+            (feed-all feed (loop repeat 5000 collect '(incf (get 'n 'n)))))
+    (expect "a question" 5002 (ask feed '(get 'n 'n)))
+    (expect "one that would write" 51 (handler-case (ask feed '(setf (get 'n 'n) 1)) (refused (condition) (refused-number condition))))
+    (feed-snapshot feed)
+    (expect "the number of the last one" 5006 (feed-last feed))
+    (expect "the lock" 'fault (signalled (open-feed :library (folder "feed")))))
+  (with-feed (feed :library (folder "feed"))
+    (expect "its position" 5006 (feed-last feed))
+    (expect "what it holds" 5002 (ask feed '(get 'n 'n)))
+    (close-feed feed)
+    (expect "a feed that was closed" 'closed (signalled (ask feed 1))))
+  (with-store (store :library (folder "feed"))
+    (send-text store "(SETF (GET '|position| '|position|) \"x\")"))
+  (expect "no position" 52 (handler-case (open-feed :library (folder "feed")) (refused (condition) (refused-number condition)))))
+
 ;;; Timers unwind in the middle of everything; no answer is taken for that of another form.
 #+sb-thread
 (defun unwindings ()
@@ -124,7 +147,7 @@
 
 (handler-case
     #-sbcl (elsewhere)
-    #+sbcl (progn (values-come-back) (ten-thousand-forms) (conditions-and-restarts) (packages)
+    #+sbcl (progn (values-come-back) (ten-thousand-forms) (conditions-and-restarts) (packages) (messages)
                   #+sb-thread (unwindings) #+sb-thread (other-threads)
                   (a-store-that-is-let-go-is-closed))
   (error (condition) (incf *failed*) (format t "lisp: ~A~%" condition)))

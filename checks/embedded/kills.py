@@ -24,6 +24,46 @@ def write_for_ever(library, folder, number):
             store.snapshot()
 
 
+def feed_for_ever(library, folder):
+    """Adds to a counter by messages, alone and in groups, and writes the number of each that was answered: what the counter is then."""
+    from pazturrok import EmbeddedMessageStore
+    store = EmbeddedMessageStore(folder, library)
+    while True:
+        before = store.position
+        assert store.do_all(["(INCF (GET 'N 'N))"] * 3) == [before + 1, before + 2, before + 3]
+        assert store.do("(INCF (GET 'N 'N))") == before + 4
+        os.write(1, b"%d\n" % (before + 4))
+        if before % 2000 == 0:
+            store.snapshot()
+
+
+def run_messages(built, times):
+    """So many kills of who sends messages: what the position says was done, each once, and nothing else. Gives how many were answered."""
+    sys.path.insert(0, CLIENT)
+    from pazturrok import EmbeddedMessageStore, MessageStore
+    folder, dice, position = built.folder(), random.Random(2), 0
+    with EmbeddedMessageStore(folder, built.library) as store:
+        store.do("(SETF (GET 'N 'N) 1)")
+    for turn in range(times):
+        command = [sys.executable, "-B", os.path.abspath(__file__), built.library, folder]
+        writer = subprocess.Popen(command, stdout=subprocess.PIPE)
+        first = writer.stdout.readline()
+        time.sleep(dice.random() * 0.05)
+        writer.send_signal(signal.SIGKILL)
+        told = [first, *writer.stdout.read().split(b"\n")]
+        writer.wait()
+        answered = int([line for line in told if line.strip()][-1])
+        opens = [lambda: EmbeddedMessageStore(folder, built.library)]
+        if built.has_program:
+            opens.append(lambda: MessageStore(folder, os.path.join(built.code, "program")))
+        for opened in opens:
+            with opened() as store:
+                position, found = store.position, store.ask("(GET 'N 'N)")
+            if found != position or position - answered not in (0, 3, 4):
+                raise AssertionError(f"kill {turn + 1}: {answered} was answered, the position is {position}, and {found} is there")
+    return position
+
+
 def value_in(library, folder):
     from pazturrok import EmbeddedStore
     with EmbeddedStore(folder, library) as store:
@@ -88,4 +128,6 @@ def two_processes(built):
 
 if __name__ == "__main__":
     sys.path.insert(0, CLIENT)
-    write_for_ever(sys.argv[1], sys.argv[2], int(sys.argv[3]))
+    if len(sys.argv) > 3:
+        write_for_ever(sys.argv[1], sys.argv[2], int(sys.argv[3]))
+    feed_for_ever(sys.argv[1], sys.argv[2])

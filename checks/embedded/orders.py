@@ -26,13 +26,19 @@ def load(path):
     library.pzt_open.argtypes = [slot, text, SIZE, text, SIZE, ctypes.POINTER(Setting), done]
     library.pzt_execute.argtypes = [slot, ctypes.c_bool, text, SIZE, text, SIZE, done]
     library.pzt_execute_all.argtypes = [slot, ctypes.c_bool, text, SIZE, ctypes.POINTER(word), SIZE, done]
+    library.pzt_begin_messages.argtypes = [slot, ctypes.POINTER(word), done]
+    library.pzt_answer_requests.argtypes = [slot, word, text, SIZE, ctypes.POINTER(Head), SIZE, done]
     library.pzt_snapshot.argtypes = [slot, done]
     library.pzt_answer.argtypes = library.pzt_orders.argtypes = [slot, SIZE, text, SIZE]
     library.pzt_answer.restype = library.pzt_orders.restype = SIZE
     library.pzt_performed.argtypes, library.pzt_close.argtypes = [slot, SIZE], [slot]
-    for name in ("open", "execute", "execute_all", "snapshot", "performed", "close"):
+    for name in ("open", "execute", "execute_all", "begin_messages", "answer_requests", "snapshot", "performed", "close"):
         getattr(library, "pzt_" + name).restype = None
     return library
+
+
+class Head(ctypes.Structure):
+    _fields_ = (("number", ctypes.c_uint64), ("end", ctypes.c_uint64), ("is_question", ctypes.c_bool))
 
 
 class Engine:
@@ -58,6 +64,20 @@ class Engine:
         self.library.pzt_execute_all(self.slot, False, joined, len(joined), (ctypes.c_uint64 * len(ends))(*ends), len(ends), self.done)
         return self.done.number, self.fetched(self.library.pzt_answer, self.done.answer)
 
+    def position(self):
+        position = ctypes.c_uint64()
+        self.library.pzt_begin_messages(self.slot, position, self.done)
+        return self.done.number, position.value
+
+    def answer_requests(self, last, requests):
+        """The answers to messages of these numbers, and to questions, whose number is None, as (wrote, text)."""
+        heads, joined = (Head * len(requests))(), b""
+        for head, (number, text) in zip(heads, requests):
+            joined += text
+            head.number, head.end, head.is_question = number or 0, len(joined), number is None
+        self.library.pzt_answer_requests(self.slot, last, joined, len(joined), heads, len(heads), self.done)
+        return self.done.number, list(told_in(self.fetched(self.library.pzt_answer, self.done.answer)))
+
     def snapshot(self):
         self.library.pzt_snapshot(self.slot, self.done)
         return self.done.number, b""
@@ -82,6 +102,14 @@ class Engine:
 
     def close(self):
         self.library.pzt_close(self.slot)
+
+
+def told_in(text):
+    """Whether each message wrote, and its answer."""
+    while text:
+        size = int.from_bytes(text[2:10], "little")
+        yield text[0] == 1, text[10 : 10 + size]
+        text = text[10 + size :]
 
 
 def carried_out(file, kind, place, held):
@@ -111,7 +139,8 @@ class Course:
         self.library, self.dice, self.ignores_syncs = library, dice, ignores_syncs
         self.now, self.synced, self.pending = [[bytearray(), bytearray()] for _ in range(2)] + [[[], []]]
         self.engine = Engine(library, self.now)
-        self.acknowledged = self.sent = self.crashes = 0
+        self.acknowledged = self.sent = self.crashes = self.position = 0
+        self.messages = None
         self.carry_out(None)
 
     def carry_out(self, acknowledged):
@@ -140,7 +169,33 @@ class Course:
         found = 0 if answer == b"NIL" else int(answer)
         if number or not self.acknowledged <= found <= self.sent:
             raise AssertionError(f"{self.acknowledged} of {self.sent} forms were answered, and {found} are there")
+        self.look_at_position(again, found)
         again.close()
+
+    def look_at_position(self, again, found):
+        """All that messages under way wrote is there with their position, or nothing of them."""
+        _, position = again.execute(b"(GET '|position| '|position|)")
+        position = 0 if position == b"NIL" else int(position)
+        allowed = self.messages or [(found, self.position)]
+        if (found, position) not in allowed:
+            raise AssertionError(f"{found} at the position {position}, and not one of {allowed}")
+
+    def do_messages(self):
+        """Messages, one of which is refused, and a question between them."""
+        before, first, self.sent = self.sent, self.sent + 1, self.sent + 3
+        number, position = self.engine.position()
+        if number or position != self.position:
+            raise AssertionError(f"{number} position {position}, and not {self.position}")
+        self.carry_out(None)
+        forms = [(value, b"(SETF (GET 'A 'B) %d)" % value) for value in range(first, self.sent + 1)]
+        requests = [*forms[:1], (None, b"(GET 'A 'B)"), (first, b"(SETF (GET 'A 'B) 0)"), *forms[1:]]
+        number, told = self.engine.answer_requests(self.dice.randrange(self.position + 1), requests)
+        texts = [b"%d" % value for value, _ in forms]
+        if number or told != [(True, texts[0]), (False, texts[0]), (False, b"! 50 OLD-NUMBER"), *((True, text) for text in texts[1:])]:
+            raise AssertionError(f"messages: {number} {told}")
+        self.messages = [(before, self.position), (self.sent, self.sent)]
+        self.carry_out(self.sent)
+        self.position, self.messages = self.sent, None
 
     def form(self):
         self.sent += 1
@@ -169,7 +224,7 @@ def run(path, courses, ignores_syncs=False):
     for _ in range(courses):
         one = Course(library, dice, ignores_syncs)
         for _ in range(60):
-            dice.choice([one.form, one.form, one.form, one.form, one.group, one.snapshot])()
+            dice.choice([one.form, one.form, one.form, one.form, one.group, one.do_messages, one.snapshot])()
         one.engine.close()
         crashes += one.crashes
     return crashes
@@ -183,8 +238,9 @@ def refuses_without_performed(path):
     given = engine.fetched(engine.library.pzt_orders, engine.done.orders)
     group = engine.execute_all([b"1"])[0]
     found = [number, engine.execute(b"(SETF (GET 'A 'B) 2)")[0], engine.snapshot()[0], group]
+    found += [engine.position()[0], engine.answer_requests(0, [(1, b"1")])[0]]
     same = engine.fetched(engine.library.pzt_orders, len(given)) == given
     engine.orders()
     found.append(engine.execute(b"(GET 'A 'B)"))
     engine.close()
-    return found == [0, 61, 61, 61, (0, b"1")] and same
+    return found == [0, 61, 61, 61, 61, 61, (0, b"1")] and same

@@ -19,6 +19,7 @@ from pazturrok import (
     Character,
     ClosedStoreError,
     DottedList,
+    EmbeddedMessageStore,
     EmbeddedStore,
     FaultError,
     NoLibraryError,
@@ -134,6 +135,53 @@ class Embedded(unittest.TestCase):
                 self.store("other", library=library)
         with self.assertRaises(ValueError):
             store.execute("1", time_limit=1)
+
+    def feed(self, **options: Any) -> EmbeddedMessageStore:
+        feed = EmbeddedMessageStore(os.path.join(self.folder, "feed"), **options)
+        self.addCleanup(feed.close)
+        return feed
+
+    def test_messages(self) -> None:
+        with self.feed() as feed:
+            self.assertEqual(feed.position, 0)
+            self.assertEqual(feed.do("(SETF (GET 'N 'N) 1)"), 1)
+            outcomes = feed.do_all(["(INCF (GET 'N 'N))", "(FROB)", "(LIST 1", [Symbol("LIST"), "a"], "'NEW"])
+            self.assertEqual([outcomes[0], *outcomes[3:]], [2, ["a"], Symbol("NEW")])
+            self.assertEqual([error.number for error in outcomes[1:3] if isinstance(error, RefusedError)], [31, 1])
+            self.assertEqual(feed.position, 6)
+            self.assertEqual(feed.do_all(["(INCF (GET 'N 'N))"] * 5000), list(range(3, 5003)))
+            self.assertEqual(feed.ask("(GET 'N 'N)"), 5002)
+            for form, number in (("(SETF (GET 'N 'N) 1)", 51), ("(FROB)", 31)):
+                with self.assertRaises(RefusedError) as refused:
+                    feed.ask(form)
+                self.assertEqual(refused.exception.number, number)
+            feed.snapshot()
+            self.assertEqual(feed.figures().records, 0)
+            feed.do_all(['(MAKE-PACKAGE "P")', '(IN-PACKAGE "P")'])
+            self.assertEqual(feed.ask("'COMMON-LISP-USER::A"), Symbol("A"))
+            position = feed.position
+        with self.assertRaises(ClosedStoreError):
+            feed.do("1")
+        again = self.feed()
+        self.assertEqual((again.position, again.ask("(GET 'COMMON-LISP-USER::N 'COMMON-LISP-USER::N)")), (position, 5002))
+        with self.assertRaises(FaultError):
+            self.feed()
+
+    def test_messages_of_threads_and_what_is_no_position(self) -> None:
+        feed = self.feed()
+        feed.do("(SETF (GET 'N 'N) 0)")
+        threads = [threading.Thread(target=lambda: [feed.do("(INCF (GET 'N 'N))") for _ in range(200)]) for _ in range(4)]
+        for thread in threads:
+            thread.start()
+        for thread in threads:
+            thread.join()
+        self.assertEqual((feed.ask("(GET 'N 'N)"), feed.position), (800, 801))
+        feed.close()
+        with EmbeddedStore(os.path.join(self.folder, "feed")) as store:
+            store.execute("(SETF (GET '|position| '|position|) \"x\")")
+        with self.assertRaises(RefusedError) as refused:
+            self.feed()
+        self.assertEqual((refused.exception.number, refused.exception.name), (52, "NO-POSITION"))
 
     def test_a_store_that_is_let_go_is_closed(self) -> None:
         EmbeddedStore(os.path.join(self.folder, "store")).execute("(SETF (GET 'A 'B) 7)")

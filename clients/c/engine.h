@@ -26,6 +26,13 @@ typedef struct {
     uint16_t version;
 } pzt_told;
 
+/* Where the text of a request ends among those of all; its number, if it is a message; and whether it is a question. */
+typedef struct {
+    uint64_t number;
+    uint64_t end;
+    bool is_question;
+} pzt_request_head;
+
 /* How many bytes a half may take, and the words by which names are hashed. */
 typedef struct {
     uint64_t limit;
@@ -49,6 +56,15 @@ void pzt_execute(pzt_slot *slot, bool rescue, const uint8_t *text, size_t length
    there is room. */
 void pzt_execute_all(pzt_slot *slot, bool rescue, const uint8_t *texts, size_t length, const uint64_t *ends, size_t count,
                      pzt_done *done);
+
+/* Begins with messages: gives the number of the last one that the store holds. One that has none yet logs that it is 0. */
+void pzt_begin_messages(pzt_slot *slot, uint64_t *position, pzt_done *done);
+
+/* Answers messages and questions, one after the other, after the message of the last number. What they write is logged together, with
+   the position. The answer has for each 1 in two bytes if it is of a message that wrote, else 0, a length in eight, and so many bytes:
+   the line that the program writes. */
+void pzt_answer_requests(pzt_slot *slot, uint64_t last, const uint8_t *texts, size_t length, const pzt_request_head *heads, size_t count,
+                         pzt_done *done);
 
 void pzt_snapshot(pzt_slot *slot, pzt_done *done);
 

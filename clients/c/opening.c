@@ -55,6 +55,7 @@ static bool open_files(struct store *store, int flags, pazturrok_fault *fault) {
 
 static bool open_store(struct store *store, const char *folder, int flags, pazturrok_fault *fault) {
     store->has_failed = false;
+    store->last = 0;
     store->fault = (pazturrok_fault){0, 0, ""};
     store->answer = malloc(ANSWER_ROOM + 1);
     if (!store->answer) {

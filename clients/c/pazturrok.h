@@ -11,10 +11,10 @@
      store, and last until the next call on it; so threads that share a store look at an answer under a lock of their own.
    - Texts are bytes below 128, and need no zero at their end. Answers have one after their length, which is not counted.
 
-   Numbers: 0; 1 to 26 the text cannot be read as one form; 30 to 46 the form is refused; 60 the device failed, and the store has
-   to be closed and opened again; 61 there is no store, or it has failed before; 62, 63, 65, 66 what stands in the files is
-   refused; 64 the file in use is full: take a snapshot, and execute the form again; 67 the system gave no random bytes; 90 no
-   memory. docs/use/refusals.md tells them all. */
+   Numbers: 0; 1 to 26 the text cannot be read as one form; 30 to 46 the form is refused; 50 to 52 are of messages; 60 the device
+   failed, and the store has to be closed and opened again; 61 there is no store, or it has failed before; 62, 63, 65, 66 what
+   stands in the files is refused; 64 the file in use is full: take a snapshot, and execute the form again; 67 the system gave no
+   random bytes; 90 no memory. docs/use/refusals.md tells them all. */
 #ifndef PAZTURROK_H
 #define PAZTURROK_H
 #include <stddef.h>
@@ -39,6 +39,9 @@ enum { PAZTURROK_EXISTING = 1 };
 enum {
     /* An argument is NULL where none may be, or a mode or a flag that is none: nothing was done. */
     PAZTURROK_MISUSE = -1,
+    PAZTURROK_OLD_NUMBER = 50,
+    PAZTURROK_QUESTION_WRITES = 51,
+    PAZTURROK_NO_POSITION = 52,
     PAZTURROK_DEVICE = 60,
     PAZTURROK_REOPEN = 61,
     PAZTURROK_RANDOM = 67,
@@ -58,6 +61,13 @@ typedef struct {
     const char *answer;
     size_t length;
 } pazturrok_outcome;
+
+/* A form that is carried out once: its number, over that of the message before it, and its text. */
+typedef struct {
+    uint64_t number;
+    const char *text;
+    size_t length;
+} pazturrok_message;
 
 /* What the file in use holds. */
 typedef struct {
@@ -80,6 +90,21 @@ int pazturrok_execute(pazturrok_store store, int mode, const char *text, size_t 
    the first ones may be on the disk. */
 int pazturrok_execute_all(pazturrok_store store, int mode, const char *const *texts, const size_t *lengths, size_t count,
                           pazturrok_outcome *outcomes);
+
+/* Gives the position: the number of the last message of which the store holds what it wrote, and of every one before it. Whoever opens
+   a store again sends what is over its position once more: nothing is done twice, and nothing is left out. In a store that never had
+   a message it is 0, which is logged. 52 where the property that is to be the position is no number. */
+int pazturrok_position(pazturrok_store store, uint64_t *position);
+
+/* Carries out messages, one after the other, whether one is refused or not. Each is read as the store reads, and sees the world without
+   the position. What they write is logged together, with the position: after a crash the store has all of it or nothing. Fills an
+   outcome for each, as pazturrok_execute_all: 50 for one whose number is not over the position, and that of each message before it. If
+   the number is not 0, no message was carried out; but after 60 the store may have all of them. */
+int pazturrok_do(pazturrok_store store, const pazturrok_message *messages, size_t count, pazturrok_outcome *outcomes);
+
+/* Asks for the value of one form, which is read as the store reads. It changes nothing, and interns nothing; one that would write is
+   refused with 51. Its answer is as that of pazturrok_execute. */
+int pazturrok_ask(pazturrok_store store, const char *text, size_t length, const char **answer, size_t *answer_length);
 
 /* Takes a snapshot: the next opening reads the world as it is, and not each form that made it. It waits as long as the disk
    takes to write the world. */

@@ -19,6 +19,7 @@ struct store {
     pazturrok_fault fault;
     char *answer;
     size_t capacity;            /* of the answer, without the zero after it */
+    uint64_t last;              /* the number of the last message since the opening */
 };
 
 /* A call that is under way: the store that it has locked, or NULL; and whether the thread could be cancelled before it. */

@@ -24,6 +24,9 @@
 (progn
   (defun close-library (library) library)
   (defun library-answers (library texts) (declare (ignore texts)) library)
+  (defun library-position (library) library)
+  (defun library-do (library numbers texts) (declare (ignore numbers texts)) library)
+  (defun library-ask (library text) (declare (ignore text)) library)
   (defun library-snapshot (library) library)
   (defun library-figures (library) library))
 
@@ -35,6 +38,7 @@
   path
   (open 0 :type (unsigned-byte 64)) (execute 0 :type (unsigned-byte 64))
   (execute-all 0 :type (unsigned-byte 64)) (snapshot 0 :type (unsigned-byte 64))
+  (position 0 :type (unsigned-byte 64)) (do 0 :type (unsigned-byte 64)) (ask 0 :type (unsigned-byte 64))
   (figures-of 0 :type (unsigned-byte 64)) (fault-of 0 :type (unsigned-byte 64))
   (close 0 :type (unsigned-byte 64)) (name 0 :type (unsigned-byte 64)))
 
@@ -61,6 +65,9 @@
                                 :execute (address-of "pazturrok_execute")
                                 :execute-all (address-of "pazturrok_execute_all")
                                 :snapshot (address-of "pazturrok_snapshot")
+                                :position (address-of "pazturrok_position")
+                                :do (address-of "pazturrok_do")
+                                :ask (address-of "pazturrok_ask")
                                 :figures-of (address-of "pazturrok_figures_of")
                                 :fault-of (address-of "pazturrok_fault_of")
                                 :close (address-of "pazturrok_close")
@@ -182,6 +189,18 @@
              (incf at (length part)))
     (values joined starts lengths)))
 
+(defun taken-outcomes (outcomes)
+  "The text of each answer, or the number of its refusal; within the call that filled them."
+  (loop for at from 0 below (length outcomes) by 3
+        for own = (sb-sys:signed-sap-ref-32 (place-of outcomes) (* 8 at))
+        collect (if (zerop own) (copied-text (aref outcomes (+ at 1)) (aref outcomes (+ at 2))) own)))
+
+(defun outcome-lines (library number answers count)
+  "The lines of so many answers; where there are none, that of the refusal of all."
+  (if (zerop number)
+      (mapcar (lambda (answer) (if (stringp answer) answer (refusal-line library answer))) answers)
+      (make-list count :initial-element (refusal-line library number))))
+
 (defun library-all (library texts)
   "The answers to the texts of many forms. Those that write are logged together."
   (let ((calls (ready-calls library)) (count (length texts)) (answers '()) (number 0))
@@ -195,21 +214,56 @@
                                 ((place-of lengths) sb-sys:system-area-pointer)
                                 (count sb-alien:size-t)
                                 ((place-of outcomes) sb-sys:system-area-pointer)))
-          (when (zerop number)
-            (dotimes (place count)
-              (let ((own (sb-sys:signed-sap-ref-32 (place-of outcomes) (* 24 place))))
-                (push (if (zerop own)
-                          (copied-text (aref outcomes (+ 1 (* 3 place))) (aref outcomes (+ 2 (* 3 place))))
-                          own)
-                      answers)))))))
-    (if (zerop number)
-        (mapcar (lambda (answer) (if (stringp answer) answer (refusal-line library answer))) (nreverse answers))
-        (make-list count :initial-element (refusal-line library number)))))
+          (when (zerop number) (setf answers (taken-outcomes outcomes))))))
+    (outcome-lines library number answers count)))
 
 (defun library-answers (library texts)
   (if (rest texts)
       (library-all library texts)
       (mapcar (lambda (text) (library-answer library text)) texts)))
+
+(defun library-do (library numbers texts)
+  "The answers to messages of these numbers. What they write is logged together."
+  (let ((calls (ready-calls library)) (count (length texts)) (answers '()) (number 0))
+    (multiple-value-bind (joined starts lengths) (joined-octets texts)
+      (let ((outcomes (id-vector (* 3 count))) (messages (id-vector (* 3 count))))
+        (with-call (joined messages outcomes)
+          (loop with base = (sb-sys:sap-int (place-of joined))
+                for own in numbers
+                for place from 0
+                do (setf (aref messages (* 3 place)) own
+                         (aref messages (+ 1 (* 3 place))) (+ base (aref starts place))
+                         (aref messages (+ 2 (* 3 place))) (aref lengths place)))
+          (setf number (foreign (calls-do calls) sb-alien:int ((library-id library) id)
+                                ((place-of messages) sb-sys:system-area-pointer)
+                                (count sb-alien:size-t)
+                                ((place-of outcomes) sb-sys:system-area-pointer)))
+          (when (zerop number) (setf answers (taken-outcomes outcomes))))))
+    (outcome-lines library number answers count)))
+
+(defun library-ask (library text)
+  "The answer to a question."
+  (let ((calls (ready-calls library)) (octets (octets text)) (out (id-vector 2)) (answer nil) (number 0))
+    (declare (type (simple-array (unsigned-byte 8) (*)) octets) (type fixnum number))
+    (with-call (octets out)
+      (setf number (foreign (calls-ask calls) sb-alien:int ((library-id library) id)
+                            ((place-of octets) sb-sys:system-area-pointer) ((length octets) sb-alien:size-t)
+                            ((place-of out) sb-sys:system-area-pointer)
+                            ((sb-sys:sap+ (place-of out) 8) sb-sys:system-area-pointer)))
+      (when (zerop number)
+        (setf answer (copied-text (aref out 0) (aref out 1)))))
+    (or answer (refusal-line library number))))
+
+(defun library-position (library)
+  "The number of the last message that the store holds."
+  (let* ((calls (ready-calls library)) (position (id-vector 1))
+         (number (with-call (position)
+                   (foreign (calls-position calls) sb-alien:int ((library-id library) id)
+                            ((place-of position) sb-sys:system-area-pointer)))))
+    (unless (zerop number)
+      (multiple-value-bind (refusal name) (refusal-of (refusal-line library number))
+        (error 'refused :number refusal :name name)))
+    (aref position 0)))
 
 (defun library-snapshot (library)
   "Takes a snapshot. Gives the line of a refusal, or NIL."

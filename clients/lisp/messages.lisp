@@ -3,7 +3,8 @@
 (in-package "PAZTURROK-CLIENT")
 
 (defstruct (feed (:constructor make-feed (words naming)) (:copier nil))
-  "A program over a folder that carries out messages and answers questions. It belongs to one thread at a time."
+  "A program over a folder, or a library in this process, that carries out messages and answers questions. It belongs to
+one thread at a time."
   words
   naming
   (program nil)                                 ; NIL while none runs
@@ -99,7 +100,20 @@
   "Ends the program, if one runs, and gives its status and what it wrote to standard error."
   (let ((program (feed-program feed)))
     (setf (feed-program feed) nil)
-    (if program (end program) (values nil nil))))
+    (cond ((library-p program) (close-library program) (values 0 nil))
+          (program (end program))
+          (t (values nil nil)))))
+
+(defun embedded-p (feed)
+  "Whether the store is in this process, as IN-PROCESS-P."
+  (eq (first (feed-words feed)) :library))
+
+(defun call-feed-library (feed function &rest arguments)
+  "What a call of the library gives. After a fault the next one opens the store again."
+  (handler-bind (((or fault broken) (lambda (condition)
+                                      (declare (ignore condition))
+                                      (leave feed))))
+    (apply function (feed-program feed) arguments)))
 
 (defun killed-p (condition)
   "Whether the program was killed. One that ends by itself has a status of 0 to 3."
@@ -107,12 +121,24 @@
     (not (and status (<= 0 status 3)))))
 
 (defun open-feed-once (feed)
-  "Starts the program, asks how it prints symbols, and gives the position that it told."
+  "Starts the program, or calls the library, asks how it prints symbols, and gives the position that it told."
+  (let ((whole-p nil))
+    (unwind-protect
+         (let ((position (if (embedded-p feed) (open-feed-library feed) (launch-feed feed))))
+           (ask-feed-naming feed)
+           (setf (feed-last feed) (max position (feed-last feed))
+                 whole-p t)
+           position)
+      (unless whole-p (leave feed)))))
+
+(defun launch-feed (feed)
   (setf (feed-program feed) (launch (feed-words feed)))
-  (let ((position (read-position feed)))
-    (ask-feed-naming feed)
-    (setf (feed-last feed) (max position (feed-last feed)))
-    position))
+  (read-position feed))
+
+(defun open-feed-library (feed)
+  (destructuring-bind (path folder existing) (rest (feed-words feed))
+    (setf (feed-program feed) (open-library path folder existing)))
+  (call-feed-library feed #'library-position))
 
 (defun open-feed-again (feed)
   "The same, where the program may be killed meanwhile."
@@ -121,11 +147,16 @@
              (stopped (condition)
                (when (or (not (killed-p condition)) (> stops *restarts*)) (error condition))))))
 
-(defun open-feed (program folder &key (package *package*) intern options)
-  "Starts PROGRAM over FOLDER to feed it messages, and gives the feed when it is open. PACKAGE, INTERN and OPTIONS are
-those of OPEN-STORE. One feed at a time may be open on a store."
+(defun open-feed (program folder &key (package *package*) intern options existing)
+  "Starts PROGRAM over FOLDER to feed it messages, and gives the feed when it is open. PROGRAM, PACKAGE, INTERN, OPTIONS
+and EXISTING are those of OPEN-STORE. One feed at a time may be open on a store."
   (flet ((word (file) (if (pathnamep file) (uiop:native-namestring file) file)))
-    (let ((feed (make-feed (list* (word program) "run" (word folder) "--messages" options)
+    (when (and options (library-word-p program)) (error "a store in this process has no options"))
+    (let ((feed (make-feed (if (library-word-p program)
+                               (let ((path (and (consp program) (second program))))
+                                 (list :library (and path (word path)) (word folder) existing))
+                               (append (list (word program) "run" (word folder) "--messages") options
+                                       (and existing '("--existing"))))
                            (make-naming :package (find-package package) :interns-p intern))))
       (open-feed-again feed)
       feed)))
@@ -153,7 +184,15 @@ those of OPEN-STORE. One feed at a time may be open on a store."
 (defun ask-feed-naming (feed)
   (if (node-feed-p feed)
       (leave-node feed)                         ; the next connection asks
-      (exchange-frames feed (list (question-frame *qualified-question*)) '(nil) (lambda (text) (take-naming feed text)))))
+      (take-naming feed (exchange-question feed *qualified-question*))))
+
+(defun exchange-question (feed text)
+  "The answer to a question, of a feed that is open."
+  (if (embedded-p feed)
+      (call-feed-library feed #'library-ask text)
+      (let ((answer nil))
+        (exchange-frames feed (list (question-frame text)) '(nil) (lambda (text) (setf answer text)))
+        answer)))
 
 (defun take-naming (feed answer)
   "Takes the answer to the question for the names."
@@ -185,7 +224,16 @@ those of OPEN-STORE. One feed at a time may be open on a store."
 
 (defun send-messages (feed texts)
   "The outcomes of texts that are sent at once: each is carried out once."
-  (if (node-feed-p feed) (send-to-nodes feed texts nil) (send-numbered feed texts)))
+  (cond ((node-feed-p feed) (send-to-nodes feed texts nil))
+        ((embedded-p feed) (send-to-library feed texts))
+        (t (send-numbered feed texts))))
+
+(defun send-to-library (feed texts)
+  (make-feed-ready feed)
+  (let ((numbers (loop for number from (1+ (feed-last feed)) repeat (length texts) collect number)))
+    (incf (feed-last feed) (length texts))
+    (mapcar (lambda (answer) (feed-outcome feed answer))
+            (call-feed-library feed #'library-do numbers texts))))
 
 (defun send-numbered (feed texts)
   "The same over a program, to which each is sent under a number."
@@ -220,7 +268,7 @@ those of OPEN-STORE. One feed at a time may be open on a store."
   "Has many forms carried out, objects or texts, each once. Gives the value of each, or the condition in its place."
   (let ((texts (mapcar (lambda (form) (feed-text feed form)) forms)))
     (loop while texts
-          nconc (let ((some (subseq texts 0 (first-texts texts +pipe-room+))))
+          nconc (let ((some (subseq texts 0 (first-texts texts (if (embedded-p feed) +library-room+ +pipe-room+)))))
                   (setf texts (nthcdr (length some) texts))
                   (prog1 (send-messages feed some)
                     (when (changes-naming-p (first (last some))) (ask-feed-naming feed)))))))
@@ -232,14 +280,20 @@ those of OPEN-STORE. One feed at a time may be open on a store."
 
 (defun ask-program (feed text)
   "The text of the answer to a question."
-  (let ((answer nil))
-    (loop for stops from 1
-          do (handler-case
-                 (progn (make-feed-ready feed)
-                        (exchange-frames feed (list (question-frame text)) '(nil) (lambda (text) (setf answer text)))
-                        (return answer))
-               (stopped (condition)
-                 (when (or (not (killed-p condition)) (> stops *restarts*)) (error condition)))))))
+  (loop for stops from 1
+        do (handler-case (progn (make-feed-ready feed)
+                                (return (exchange-question feed text)))
+             (stopped (condition)
+               (when (or (not (killed-p condition)) (> stops *restarts*)) (error condition))))))
+
+(defun feed-snapshot (feed)
+  "Takes a snapshot of a store in this process, as SNAPSHOT."
+  (unless (embedded-p feed) (error "the store is a program, and no library in this process"))
+  (make-feed-ready feed)
+  (let ((line (call-feed-library feed #'library-snapshot)))
+    (when line
+      (multiple-value-bind (number name) (refusal-of line)
+        (error 'refused :number number :name name)))))
 
 (defun ask (feed form)
   "Asks for the value of a form, which may change nothing; of nodes one is asked, as far as its store has come."

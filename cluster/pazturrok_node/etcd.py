@@ -6,6 +6,8 @@ import asyncio
 import base64
 import json
 import ssl
+import sys
+import time
 import urllib.parse
 from collections.abc import AsyncIterator
 from typing import Any
@@ -15,6 +17,9 @@ TIMEOUT = 5.0
 
 PAUSE = 0.1
 """Seconds after a call that no member answered."""
+
+SILENCE = 5.0
+"""After so many seconds in which no member answers that is told; again after twice as many, and so on."""
 
 
 class EtcdError(Exception):
@@ -91,6 +96,8 @@ class Etcd:
     def __init__(self, urls: list[str], context: ssl.SSLContext | None = None) -> None:
         self._urls, self._context = urls, context
         self._at = self._watched = 0
+        self._silent_since: float | None = None
+        self._told = SILENCE
         self._free: list[tuple[int, Connection]] = []
 
     async def call(self, path: str, body: dict[str, Any]) -> dict[str, Any]:
@@ -99,14 +106,16 @@ class Etcd:
             at, connection = self._take()
             try:
                 found = await asyncio.wait_for(self._ask(connection, path, body), TIMEOUT)
-            except (OSError, asyncio.TimeoutError, asyncio.IncompleteReadError, ValueError):
+            except (OSError, asyncio.TimeoutError, asyncio.IncompleteReadError, ValueError) as error:
                 connection.close()
+                self._tell_silence(at, error)
                 self._at = (at + 1) % len(self._urls)
                 await asyncio.sleep(PAUSE)
                 continue
             except BaseException:
                 connection.close()
                 raise
+            self._silent_since, self._told = None, SILENCE
             self._free.append((at, connection))
             if "error" not in found:
                 return found
@@ -116,6 +125,16 @@ class Etcd:
                 raise EtcdError(found["error"])
             self._at = (at + 1) % len(self._urls)
             await asyncio.sleep(PAUSE)
+
+    def _tell_silence(self, at: int, error: BaseException) -> None:
+        """Tells an operator what keeps this node from etcd, now and then."""
+        now = time.monotonic()
+        self._silent_since = self._silent_since or now
+        silent = now - self._silent_since
+        if silent > self._told:
+            why = str(error) or type(error).__name__
+            print(f"node: no member of etcd answers for {silent:.0f} s; {self._urls[at]}: {why}", file=sys.stderr, flush=True)
+            self._told = 2 * silent
 
     def _take(self) -> tuple[int, Connection]:
         while self._free:

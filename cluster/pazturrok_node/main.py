@@ -17,6 +17,7 @@ import sys
 from .clients import BUFFER, Clients
 from .etcd import Etcd, EtcdError
 from .log import BehindError, Log
+from .names import Name, TakenNameError
 from .node import Appender, Node
 from .orders import begin, skip
 from .replica import RefusedStoreError, Replica
@@ -41,9 +42,10 @@ def words() -> argparse.Namespace:
     parser.add_argument("--etcd-cert", metavar="FILE", help="this node for the members, with its key in one file")
     parser.add_argument("--listen", default="127.0.0.1:7411", help="HOST:PORT, or the path of a socket")
     parser.add_argument("--cert", metavar="FILE", help="this node for its clients by TLS, with its key in one file")
+    parser.add_argument("--client-ca", metavar="FILE", help="who signs for clients: others are not heard")
     parser.add_argument("--open", action="store_true", help="listen beyond this machine without TLS")
     parser.add_argument("--log", default="store", help="which log in etcd: letters and digits")
-    parser.add_argument("--name", default=socket.gethostname(), help="the name of this node among those of the log")
+    parser.add_argument("--name", default=socket.gethostname(), help="the name of this node, which no other of the log may have")
     parser.add_argument("--program", default="pazturrok", help="the program of the store")
     parser.add_argument("--snapshot-every", metavar="N", help="as the program has it")
     parser.add_argument("--keep", type=float, default=600, metavar="SECONDS", help="an entry stays so long at least, 600")
@@ -57,6 +59,8 @@ def words() -> argparse.Namespace:
     for word in (asked.log, asked.name):
         if not re.fullmatch(r"[A-Za-z0-9._-]{1,100}", word):
             parser.error(f"{word!r} is no name")
+    if asked.client_ca and not asked.cert:
+        parser.error("--client-ca wants --cert")
     if "/" not in asked.listen and not asked.cert and not asked.open and not is_loopback(asked.listen):
         parser.error(f"{asked.listen} is beyond this machine: give --cert, or --open where the network is your own")
     return asked
@@ -87,27 +91,45 @@ async def listen(asked: argparse.Namespace, clients: Clients) -> asyncio.Abstrac
     if asked.cert:
         context = ssl.SSLContext(ssl.PROTOCOL_TLS_SERVER)
         context.load_cert_chain(asked.cert)
+        if asked.client_ca:
+            context.load_verify_locations(asked.client_ca)
+            context.verify_mode = ssl.CERT_REQUIRED
     host, _, port = asked.listen.rpartition(":")
     return await asyncio.start_server(clients.serve, host.strip("[]"), int(port), ssl=context, limit=BUFFER, backlog=1024)
 
 
-async def serve(asked: argparse.Namespace, node: Node) -> int:
-    """Serves until a signal asks for the end, or the store is refused."""
+async def has_name(name: Name, stop: asyncio.Task[bool]) -> bool:
+    """Takes the name; or gives false, where the end is asked for before that."""
+    taking = asyncio.ensure_future(name.hold())
+    await asyncio.wait([taking, stop], return_when=asyncio.FIRST_COMPLETED)
+    if not taking.done():
+        await end_all([taking], 1)
+        return False
+    taking.result()
+    return True
+
+
+async def serve(asked: argparse.Namespace, node: Node, name: Name) -> int:
+    """Serves until a signal asks for the end, or the store or the name is refused."""
     most = resource.getrlimit(resource.RLIMIT_NOFILE)[1]
     resource.setrlimit(resource.RLIMIT_NOFILE, (most, most))
-    appender = Appender(node)
-    trimmer = Trimmer(asked.name, node, appender, asked.keep)
-    server = await listen(asked, Clients(node, appender))
-    stop = asyncio.Event()
+    ended = asyncio.Event()
     for number in (signal.SIGTERM, signal.SIGINT):
-        asyncio.get_running_loop().add_signal_handler(number, stop.set)
-    tasks = [asyncio.ensure_future(work) for work in (node.run(), appender.run(), trimmer.run(), stop.wait())]
+        asyncio.get_running_loop().add_signal_handler(number, ended.set)
+    stop = asyncio.ensure_future(ended.wait())
+    if not await has_name(name, stop):
+        return 0
+    appender = Appender(node)
+    trimmer = Trimmer(name, node, appender, asked.keep)
+    server = await listen(asked, Clients(node, appender))
+    tasks = [stop, *(asyncio.ensure_future(work) for work in (node.run(), appender.run(), trimmer.run()))]
     done, others = await asyncio.wait(tasks, return_when=asyncio.FIRST_COMPLETED)
     server.close()
     await end_all(others, 15)
     for task in done:
         task.result()
     await node.end()
+    await name.let_go()
     return 0
 
 
@@ -120,9 +142,14 @@ async def carry_out(asked: argparse.Namespace) -> int:
         if order == "skip":
             return await skip(log, int(thing))
         replica = Replica(log, asked.program, thing)
-        return await (begin(log, replica, program) if order == "begin" else serve(asked, Node(log, replica, program)))
+        if order == "begin":
+            return await begin(log, replica, program)
+        return await serve(asked, Node(log, replica, program), Name(log, asked.name, replica))
     except (BehindError, RefusedStoreError) as error:
         print(REFUSED.format(BEHIND if isinstance(error, BehindError) else error), file=sys.stderr)
+        return 4
+    except TakenNameError as error:
+        print(f"node: {error}", file=sys.stderr)
         return 4
     except EtcdError as error:
         print(f"pazturrok-node: etcd: {error}", file=sys.stderr)

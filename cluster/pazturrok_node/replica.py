@@ -43,6 +43,8 @@ class Replica:
         self._noted: dict[str, Any] = {}
         with contextlib.suppress(FileNotFoundError), open(self._path, encoding="ascii") as file:
             self._noted = json.load(file)
+        self.lease: int = self._noted.get("lease", 0)
+        """By which the node of this store has its name, or had it in its earlier life."""
         self._is_foreign = self._is_changed = False
 
     async def look(self) -> None:
@@ -109,12 +111,19 @@ class Replica:
         """The store has answered an entry."""
         self._write(seen={"number": entry.number, "name": entry.name.decode("ascii"), "mark": mark(entry)})
 
+    def note_lease(self, lease: int) -> None:
+        """The node of this store has its name by this lease. It is written with the first note, which a new store has when it is admitted."""
+        if lease != self.lease:
+            self.lease = lease
+            if self._noted:
+                self._write()
+
     async def ended(self) -> None:
         """The program has ended, and nobody will open the store but this node."""
         self._write(ended=await self._figures())
 
     def _write(self, **noted: Any) -> None:
-        self._noted.update(noted)
+        self._noted.update(noted, lease=self.lease)
         with open(self._path + ".new", "wb") as file:
             file.write(json.dumps(self._noted).encode("ascii") + b"\n")
             file.flush()

@@ -13,13 +13,11 @@ from typing import Any
 
 from .etcd import CompactedError, EtcdError, among, decoded, encoded
 from .log import Log
+from .names import Name
 from .node import MARK, Appender, Node
 
 BEAT = 3.0
 """Seconds between two reports of a node."""
-
-LEASE = 15
-"""After so many seconds without a report a node is none any more, and nothing is kept for it."""
 
 AT_ONCE = 100
 """How many entries are deleted by one transaction."""
@@ -27,17 +25,20 @@ AT_ONCE = 100
 PAGE = 10_000
 """How many of them are asked for at once: etcd looks at all entries for that."""
 
+
 class Reports:
     """What the nodes of a log tell of themselves, each under a lease."""
 
     def __init__(self, log: Log) -> None:
         self._log, self._prefix = log, log.prefix + b"nodes/"
 
-    async def put(self, name: str, told: dict[str, int], lease: int) -> None:
-        """Tells it; and those who watch the log see that it is alive."""
-        report = {"key": encoded(self._prefix + name.encode("ascii")), "value": encoded(json.dumps(told).encode("ascii")), "lease": str(lease)}
+    async def put(self, name: Name, told: dict[str, int]) -> None:
+        """Tells it, where the name is still this node's; and those who watch the log see that it is alive."""
+        key = encoded(self._prefix + name.text.encode("ascii"))
+        report = {"key": key, "value": encoded(json.dumps(told).encode("ascii")), "lease": str(name.lease)}
         beat = {"key": encoded(self._log.beat), "value": ""}
-        await self._log.etcd.call("/v3/kv/txn", {"success": [{"request_put": report}, {"request_put": beat}]})
+        puts = [{"request_put": report}, {"request_put": beat}]
+        await self._log.etcd.call("/v3/kv/txn", {"compare": [name.is_held()], "success": puts})
 
     async def all(self) -> dict[str, dict[str, int]]:
         found = await self._log.etcd.call("/v3/kv/range", among(self._prefix))
@@ -47,7 +48,7 @@ class Reports:
 class Trimmer:
     """Reports a node, and deletes old entries where no other node does. Entries stay `keep` seconds at least."""
 
-    def __init__(self, name: str, node: Node, appender: Appender, keep: float) -> None:
+    def __init__(self, name: Name, node: Node, appender: Appender, keep: float) -> None:
         self._name, self._node, self._appender, self._keep = name, node, appender, keep
         self._log, self._etcd, self._reports = node.log, node.log.etcd, Reports(node.log)
         self._holder = node.log.prefix + b"trimmer"
@@ -56,39 +57,35 @@ class Trimmer:
 
     async def run(self) -> None:
         await self._node.is_admitted.wait()
-        lease, answered = 0, 0
+        answered = 0
         while True:
             try:
                 if self._node.position != answered:
                     answered = self._node.position
                     self._node.note()
-                lease = lease or int((await self._etcd.call("/v3/lease/grant", {"TTL": LEASE}))["ID"])
-                await self._report(lease)
-                if await self._is_holder(lease):
+                await self._name.hold()
+                await self._report()
+                if await self._is_holder():
                     await self._trim()
             except EtcdError as error:
                 print(f"node: {error}", file=sys.stderr, flush=True)
-                lease = 0
             await asyncio.sleep(BEAT)
 
-    async def _report(self, lease: int) -> None:
-        found = await self._etcd.call("/v3/lease/keepalive", {"ID": str(lease)})
-        if int(found.get("result", {}).get("TTL", "0")) <= 0:
-            raise EtcdError("the lease has ended")
+    async def _report(self) -> None:
         told = {"answered": self._node.position, "lasting": self._node.lasting, "stuck": self._node.stuck}
-        await self._reports.put(self._name, told, lease)
+        await self._reports.put(self._name, told)
         self._seen.append((time.monotonic(), self._node.lasting))
 
-    async def _is_holder(self, lease: int) -> bool:
+    async def _is_holder(self) -> bool:
         """Whether it is this node that trims: it takes the key where nobody has it."""
-        key = encoded(self._holder)
+        key, name = encoded(self._holder), self._name.text.encode("ascii")
         compare: dict[str, Any] = {"key": key, "target": "CREATE", "result": "EQUAL", "create_revision": "0"}
-        put = {"request_put": {"key": key, "value": encoded(self._name.encode("ascii")), "lease": str(lease)}}
+        put = {"request_put": {"key": key, "value": encoded(name), "lease": str(self._name.lease)}}
         found = await self._etcd.call("/v3/kv/txn", {"compare": [compare], "success": [put], "failure": [{"request_range": {"key": key}}]})
         if found.get("succeeded"):
             return True
         held = found["responses"][0]["response_range"].get("kvs", [])
-        return bool(held) and decoded(held[0]["value"]) == self._name.encode("ascii")
+        return bool(held) and decoded(held[0]["value"]) == name
 
     async def _trim(self) -> None:
         await self._mark()

@@ -4,7 +4,9 @@ use Rattle.deferred_disk.specs.Bytes.{orders_bytes}
 use Rattle.deferred_disk.specs.Disk.{IsReported, pending_of}
 use Rattle.lisp_object.specs.declared.refusal.TheConstants.{NO_MEMORY, REOPEN}
 use Rattle.pazturrok_c.specs.Engine.{ExecutesMany, IsBarred, IsExecuted, IsOpenedOn, IsSnapshotted, IsUnopenedOn, mode_in}
+use Rattle.pazturrok_c.specs.Messages.{AnswersAll, IsBegun}
 use Rattle.pazturrok_c.specs.declared.done.Done.{Done}
+use Rattle.pazturrok_c.specs.declared.done.RequestHead.{RequestHead}
 use Rattle.pazturrok_c.specs.declared.engine.Engine.{Engine}
 
 -- as many bytes as there is room for, from a place on
@@ -16,23 +18,33 @@ pub record IsCopied (from : List ℕ) (at : ℕ) (old new : List ℕ) (count : �
 abbrev pub MayRefuse : List ℕ → List ℕ → ℕ → ℕ → Type 0
 MayRefuse a b limit number = IsUnopenedOn a b limit number ⊎ (number ≡ NO_MEMORY)
 
--- what an empty slot holds after an opening: the store of two files of these bytes, or nothing still
-abbrev pub Opens : List ℕ → List ℕ → ℕ → Option Engine → ℕ → Type 0
-Opens a b limit (Some engine) number = (number ≡ 0) × IsOpenedOn a b limit engine.store
-Opens a b limit None number = MayRefuse a b limit number
+-- there is no answer, and there are no orders
+abbrev pub TellsNothing : Done → Type 0
+TellsNothing done = (done.answer ≡ 0) × (done.orders ≡ 0)
 
--- how a call ended: its number; of the answer, if it has one, how many bytes it has; and how many the orders have
+-- how many bytes the orders of an engine have
+abbrev pub orders_of : Engine → ℕ
+orders_of engine = length (orders_bytes (pending_of engine.store.disk))
+
+-- what an empty slot holds after an opening: the store of two files of these bytes, and its orders; or nothing still
+abbrev pub Opens : List ℕ → List ℕ → ℕ → Option Engine → Done → Type 0
+Opens a b limit (Some engine) done = (done.number ≡ 0) × (done.answer ≡ 0) × (done.orders ≡ orders_of engine) × IsOpenedOn a b limit engine.store
+Opens a b limit None done = TellsNothing done × MayRefuse a b limit done.number
+
+-- how a call ended: its number; how many bytes the answer has, 0 if it was refused; and how many the orders have
 pub record TellsEnd (engine : Engine) (number answer : ℕ) (done : Done) : Type 0 where
   pub number_is : done.number ≡ number
   pub answer_is : number ≡ 0 → done.answer ≡ answer
-  pub orders : done.orders ≡ length (orders_bytes (pending_of engine.store.disk))
+  pub refused : (number ≡ 0 → ⊥) → done.answer ≡ 0
+  pub orders : done.orders ≡ orders_of engine
 
 -- The engine was asked: it does this, unless orders are open; and it tells how long its answer is and its orders are.
 pub record IsAsked (old new : Engine) (answer : ℕ) (done : Done) (Does : Type 0) : Type 0 where
   pub barred : IsBarred (pending_of old.store.disk) old new done.number
   pub does : pending_of old.store.disk ≡ [] → Does
   pub answer_is : done.number ≡ 0 → done.answer ≡ answer
-  pub orders : done.orders ≡ length (orders_bytes (pending_of new.store.disk))
+  pub refused : (done.number ≡ 0 → ⊥) → done.answer ≡ 0
+  pub orders : done.orders ≡ orders_of new
 
 module _ (old new : Engine) (rescue : Bool) where
   abbrev pub ExecutesForm : List ℕ → Done → Type 0
@@ -44,6 +56,13 @@ module _ (old new : Engine) (rescue : Bool) where
 
 abbrev pub TakesSnapshot : Engine → Engine → Done → Type 0
 TakesSnapshot old new done = IsAsked old new 0 done (IsSnapshotted old.store new.store done.number)
+
+abbrev pub BeginsWithMessages : Engine → Engine → ℕ → Done → Type 0
+BeginsWithMessages old new position done = IsAsked old new 0 done (IsBegun old.store new.store done.number position)
+
+abbrev pub AnswersEach : Engine → Engine → ℕ → List ℕ → List RequestHead → Done → Type 0
+AnswersEach old new last texts heads done =
+    IsAsked old new (length new.answer.items) done (AnswersAll old.store new.store last texts heads done.number new.answer.items)
 
 -- so many bytes of orders were reported done
 pub record IsPerformed (old new : Engine) (count : ℕ) : Type 0 where

@@ -1,4 +1,6 @@
 pub mod Calls
 pub mod Engine
 pub mod Held
+pub mod Messages
+pub mod Requests
 pub mod Texts

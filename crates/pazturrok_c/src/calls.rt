@@ -1,8 +1,8 @@
 // What C asks of an engine.
 ghost use Rattle.std.specs.Prelude.{◌≡◌, length, min};
-ghost use Rattle.pazturrok_c.specs.Calls.{ExecutesForm, ExecutesForms, IsCopied, TakesSnapshot, TellsEnd};
+ghost use Rattle.pazturrok_c.specs.Calls.{AnswersEach, BeginsWithMessages, ExecutesForm, ExecutesForms, IsCopied, TakesSnapshot, TellsEnd};
 
-use crate::done::Done;
+use crate::done::{Done, RequestHead};
 use crate::engine::Engine;
 
 /// As many bytes as there is room for, from a place on. Gives how many.
@@ -48,6 +48,27 @@ impl Engine {
         ensures { ExecutesForms self.old self.new rescue texts.now ends.now result }
     {
         let number = self.execute_all(rescue, texts, ends);
+        self.done(number, self.answer().len())
+    }
+
+    /// Begins with messages.
+    pub(crate) fn begin_messages_for(&mut self, position: &mut u64) -> Done
+        ensures { BeginsWithMessages self.old self.new position.new result }
+    {
+        let number = self.begin_messages(position);
+        self.done(number, 0)
+    }
+
+    /// Answers the requests whose texts end at these places.
+    pub(crate) fn answer_requests_for(
+        &mut self,
+        last: u64,
+        texts: &[u8],
+        heads: &[RequestHead],
+    ) -> Done
+        ensures { AnswersEach self.old self.new last texts.now heads.now result }
+    {
+        let number = self.answer_requests(last, texts, heads);
         self.done(number, self.answer().len())
     }
 

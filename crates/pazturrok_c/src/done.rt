@@ -24,6 +24,18 @@ pub struct Told {
     pub version: u16,
 }
 
+/// Where the text of a request ends among those of all, and its number.
+#[repr(C)]
+#[derive(Clone, Copy, Drop)]
+pub struct RequestHead {
+    /// The number of a message. Of a question it is nothing.
+    pub number: u64,
+    /// Where the text ends.
+    pub end: u64,
+    /// Whether it is a question.
+    pub is_question: bool,
+}
+
 /// What an opening is told.
 #[repr(C)]
 #[derive(Clone, Copy, Drop)]

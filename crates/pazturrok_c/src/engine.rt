@@ -4,19 +4,21 @@ ghost use Rattle.std.specs.List.{All};
 ghost use Rattle.deferred_disk.specs.Bytes.{orders_bytes};
 ghost use Rattle.deferred_disk.specs.Disk.{pending_of, state_of};
 ghost use Rattle.pazturrok_c.specs.Engine.{AreAnswered, ExecutesMany, IsAnswered, IsBarred, IsExecuted, IsOpenedOn, IsSnapshotted, IsUnopenedOn, mode_in};
+ghost use Rattle.pazturrok_c.specs.Messages.{AnswersAll, AreTold, IsBegun, IsTold};
 ghost use Rattle.prevalence_store.specs.calls.Execute.{IsProperOutcome};
 ghost use Rattle.six_functions.specs.MacroFunctions.{six_functions};
 ghost use Rattle.user_macros.specs.Functions.{are_registered};
 
 use crate::answer::{EngineStore, printed};
-use crate::done::Setting;
+use crate::done::{RequestHead, Setting};
 use crate::many::{answers_to, texts_of};
+use crate::requests::{requests_of, told_of};
 use deferred_disk::DeferredDisk;
 use disk_trait::Disk;
 use fixed_macros::Fixed;
 use lisp_object::refusal::{NO_MEMORY, REOPEN};
 use plist_state::Seed;
-use prevalence_store::{Mode, Outcome, Store};
+use prevalence_store::{Mode, Outcome, Replies, Store};
 use six_functions::SixFunctions;
 use std::alloc::Global;
 use user_macros::MacroFunctions;
@@ -151,6 +153,64 @@ impl Engine {
         ensures answered { AreAnswered self.new.store.world outcomes.now result self.new.answer.items }
     {
         match answers_to(self.alloc, &self.store, outcomes) {
+            Ok(answer) => {
+                self.answer = answer;
+                0
+            }
+            Err(_) => NO_MEMORY,
+        }
+    }
+
+    /// Begins with messages, unless orders are open. Gives the position.
+    pub(crate) fn begin_messages(&mut self, position: &mut u64) -> u16
+        ensures barred { IsBarred (pending_of self.old.store.disk) self.old self.new result }
+        ensures begins { pending_of self.old.store.disk ≡ [] → IsBegun self.old.store self.new.store result position.new }
+    {
+        if !self.is_done() {
+            return REOPEN;
+        }
+        match self.store.begin_messages() {
+            Ok(number) => {
+                *position = number;
+                0
+            }
+            Err(number) => number,
+        }
+    }
+
+    /// Answers the requests whose texts end at these places, after the message of the last number, unless orders are open.
+    pub(crate) fn answer_requests(&mut self, last: u64, texts: &[u8], heads: &[RequestHead]) -> u16
+        ensures barred { IsBarred (pending_of self.old.store.disk) self.old self.new result }
+        ensures answers { pending_of self.old.store.disk ≡ [] → AnswersAll self.old.store self.new.store
+            last texts.now heads.now result self.new.answer.items }
+    {
+        if !self.is_done() {
+            return REOPEN;
+        }
+        let Ok(requests) = requests_of(self.alloc, texts, heads) else {
+            return NO_MEMORY;
+        };
+        let given = self.store.answer_requests(last, &requests);
+        self.tell_given(&given)
+    }
+
+    // Keeps what is told of what the store gave, and gives the number.
+    fn tell_given(&mut self, given: &Result<Replies, u16>) -> u16
+        ensures store { self.new.store ≡ self.old.store }
+        ensures told { IsTold given.now result self.new.answer.items }
+    {
+        match given {
+            Ok(replies) => self.tell_replies(replies),
+            Err(number) => *number,
+        }
+    }
+
+    // Keeps what is told of replies, and gives the number.
+    fn tell_replies(&mut self, replies: &Replies) -> u16
+        ensures store { self.new.store ≡ self.old.store }
+        ensures told { AreTold replies.now result self.new.answer.items }
+    {
+        match told_of(self.alloc, &replies.answers) {
             Ok(answer) => {
                 self.answer = answer;
                 0

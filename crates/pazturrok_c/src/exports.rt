@@ -4,12 +4,12 @@ ghost use Rattle.deferred_disk.specs.Bytes.{orders_bytes};
 ghost use Rattle.deferred_disk.specs.Disk.{pending_of};
 ghost use Rattle.lisp_object.specs.Refusal.{name_of as name};
 ghost use Rattle.lisp_object.specs.declared.refusal.TheConstants.{REOPEN as reopen};
-ghost use Rattle.pazturrok_c.specs.Calls.{ExecutesForm, ExecutesForms, IsCopied, IsPerformed, MayRefuse, OnEngine, Opens, ShowsAnswer, TakesSnapshot};
+ghost use Rattle.pazturrok_c.specs.Calls.{AnswersEach, BeginsWithMessages, ExecutesForm, ExecutesForms, IsCopied, IsPerformed, MayRefuse, OnEngine, Opens, ShowsAnswer, TakesSnapshot, TellsNothing};
 ghost use Rattle.pazturrok_c.specs.Engine.{IsOpenedOn};
 ghost use Rattle.pazturrok_c.specs.declared.engine.Engine.{Engine as AnEngine};
 
 use crate::calls::copy_out;
-use crate::done::{Done, Setting, Told};
+use crate::done::{Done, RequestHead, Setting, Told};
 use crate::engine::Engine;
 use crate::slot::Slot;
 use lisp_object::refusal::{NO_MEMORY, REOPEN, name_of};
@@ -50,9 +50,9 @@ pub extern "C" fn pzt_open(
     done: &mut Done,
 )
     ensures busy { (engine : AnEngine) → slot.old.handle.engine ≡ Some engine
-        → (done.new.number ≡ reopen) × (slot.new.handle.engine ≡ Some engine) }
+        → (done.new.number ≡ reopen) × TellsNothing done.new × (slot.new.handle.engine ≡ Some engine) }
     ensures opens { slot.old.handle.engine ≡ None
-        → Opens a.now b.now setting.now.limit slot.new.handle.engine done.new.number }
+        → Opens a.now b.now setting.now.limit slot.new.handle.engine done.new }
 {
     done.answer = 0;
     done.orders = 0;
@@ -82,6 +82,7 @@ pub extern "C" fn pzt_execute(
 )
     ensures asks { OnEngine slot.old.handle.engine slot.new.handle.engine done.new.number
         (λ old new. ExecutesForm old new rescue text.now done.new) }
+    ensures none { slot.old.handle.engine ≡ None → TellsNothing done.new }
     ensures copies { done.new.number ≡ 0 → ShowsAnswer slot.new.handle.engine answer.old answer.new }
 {
     let Some(mut engine) = slot.take(alloc) else {
@@ -103,8 +104,9 @@ pub extern "C" fn pzt_execute_all(
     ends: &[u64],
     done: &mut Done,
 )
-    ensures { OnEngine slot.old.handle.engine slot.new.handle.engine done.new.number
+    ensures asks { OnEngine slot.old.handle.engine slot.new.handle.engine done.new.number
         (λ old new. ExecutesForms old new rescue texts.now ends.now done.new) }
+    ensures none { slot.old.handle.engine ≡ None → TellsNothing done.new }
 {
     let Some(mut engine) = slot.take(alloc) else {
         *done = NO_ENGINE;
@@ -114,11 +116,56 @@ pub extern "C" fn pzt_execute_all(
     slot.put(engine);
 }
 
+/// Begins with messages: gives the number of the last one that the store holds.
+#[unsafe(no_mangle)]
+pub extern "C" fn pzt_begin_messages(
+    alloc: Global,
+    slot: &mut Slot,
+    position: &mut u64,
+    done: &mut Done,
+)
+    ensures asks { OnEngine slot.old.handle.engine slot.new.handle.engine done.new.number
+        (λ old new. BeginsWithMessages old new position.new done.new) }
+    ensures none { slot.old.handle.engine ≡ None → TellsNothing done.new }
+{
+    let Some(mut engine) = slot.take(alloc) else {
+        *done = NO_ENGINE;
+        return;
+    };
+    *done = engine.begin_messages_for(position);
+    slot.put(engine);
+}
+
+/// Answers the requests whose texts end at these places, one after the other, after the message of the last number. What the messages
+/// wrote is logged together, with the position: a crash leaves all of it or nothing. The answer has for each 1 in two bytes if it is
+/// of a message that wrote, else 0, a length in eight, and so many bytes.
+#[unsafe(no_mangle)]
+pub extern "C" fn pzt_answer_requests(
+    alloc: Global,
+    slot: &mut Slot,
+    last: u64,
+    texts: &[u8],
+    heads: &[RequestHead],
+    done: &mut Done,
+)
+    ensures asks { OnEngine slot.old.handle.engine slot.new.handle.engine done.new.number
+        (λ old new. AnswersEach old new last texts.now heads.now done.new) }
+    ensures none { slot.old.handle.engine ≡ None → TellsNothing done.new }
+{
+    let Some(mut engine) = slot.take(alloc) else {
+        *done = NO_ENGINE;
+        return;
+    };
+    *done = engine.answer_requests_for(last, texts, heads);
+    slot.put(engine);
+}
+
 /// Takes a snapshot.
 #[unsafe(no_mangle)]
 pub extern "C" fn pzt_snapshot(alloc: Global, slot: &mut Slot, done: &mut Done)
-    ensures { OnEngine slot.old.handle.engine slot.new.handle.engine done.new.number
+    ensures asks { OnEngine slot.old.handle.engine slot.new.handle.engine done.new.number
         (λ old new. TakesSnapshot old new done.new) }
+    ensures none { slot.old.handle.engine ≡ None → TellsNothing done.new }
 {
     let Some(mut engine) = slot.take(alloc) else {
         *done = NO_ENGINE;
@@ -134,6 +181,7 @@ pub extern "C" fn pzt_answer(alloc: Global, slot: &mut Slot, at: usize, out: &mu
     ensures same { slot.new.handle.engine ≡ slot.old.handle.engine }
     ensures copies { (engine : AnEngine) → slot.old.handle.engine ≡ Some engine
         → IsCopied engine.answer.items at out.old out.new result }
+    ensures none { slot.old.handle.engine ≡ None → result ≡ 0 }
 {
     let Some(engine) = slot.take(alloc) else {
         return 0;
@@ -149,6 +197,7 @@ pub extern "C" fn pzt_orders(alloc: Global, slot: &mut Slot, at: usize, out: &mu
     ensures same { slot.new.handle.engine ≡ slot.old.handle.engine }
     ensures copies { (engine : AnEngine) → slot.old.handle.engine ≡ Some engine
         → IsCopied (orders_bytes (pending_of engine.store.disk)) at out.old out.new result }
+    ensures none { slot.old.handle.engine ≡ None → result ≡ 0 }
 {
     let Some(engine) = slot.take(alloc) else {
         return 0;
@@ -177,6 +226,8 @@ pub extern "C" fn pzt_tell(alloc: Global, slot: &mut Slot, told: &mut Told)
     ensures tells { (engine : AnEngine) → slot.old.handle.engine ≡ Some engine
         → (told.new.generation ≡ engine.store.generation) × (told.new.records ≡ engine.store.record_count)
         × (told.new.version ≡ engine.store.version) }
+    ensures none { slot.old.handle.engine ≡ None
+        → (told.new.generation ≡ 0) × (told.new.records ≡ 0) × (told.new.version ≡ 0) }
 {
     told.generation = 0;
     told.records = 0;

@@ -5,7 +5,8 @@
 //! `engine.h` has these exports.
 //!
 //! - `engine`: a store over a disk that defers its calls, and what it answered last.
-//!   `answer` prints answers, `many` takes many texts and gives many answers, and `calls` has what C asks for.
+//!   `answer` prints answers, `many` takes many texts and gives many answers, `requests` does so for messages and questions, and `calls`
+//!   has what C asks for.
 //! - `slot`, `handle`, `parts`: an engine as C holds it. Their proofs alone are walks over raw pointers.
 //! - `exports`: what C calls. `done` is how a call ended.
 //!
@@ -20,7 +21,8 @@ mod exports;
 mod handle;
 mod many;
 mod parts;
+mod requests;
 mod slot;
 
-pub use done::{Done, Setting, Told};
+pub use done::{Done, RequestHead, Setting, Told};
 pub use slot::Slot;

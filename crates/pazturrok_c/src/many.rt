@@ -30,8 +30,8 @@ pub(crate) fn texts_of<'a>(
     Ok(texts)
 }
 
-// What is told of one form more: its number, the length of its answer, and the answer.
-fn tell(bytes: &mut Vec<u8>, number: u16, answer: &[u8]) -> Result<(), AllocError>
+/// What is told of one form more: its number, the length of its answer, and the answer.
+pub(crate) fn tell(bytes: &mut Vec<u8>, number: u16, answer: &[u8]) -> Result<(), AllocError>
     ensures { OnOk result (bytes.new.items ≡ bytes.old.items ++ told number answer.now) }
 {
     bytes.extend_from_slice(&number.to_le_bytes())?;

@@ -4,12 +4,12 @@
         store.execute("(SETF (GET 'APPLE 'PRICE) 7)")
 
 A Store starts the program over a folder; a MessageStore sends it messages that are carried out once, whatever
-becomes of the program; an EmbeddedStore has the store in this process, by the library; a NodeStore speaks to
-the nodes of a store on several machines.
+becomes of the program; an EmbeddedStore and an EmbeddedMessageStore have the store in this process, by the library;
+a NodeStore speaks to the nodes of a store on several machines.
 README.md beside pyproject.toml says how they are used, docs/run/protocol.md what goes to and fro.
 """
 
-from .embedded import EmbeddedStore
+from .embedded import EmbeddedMessageStore, EmbeddedStore
 from .errors import (
     BrokenStoreError,
     ClosedStoreError,
@@ -36,6 +36,7 @@ __all__ = [
     "Character",
     "ClosedStoreError",
     "DottedList",
+    "EmbeddedMessageStore",
     "EmbeddedStore",
     "FaultError",
     "LostAnswerError",

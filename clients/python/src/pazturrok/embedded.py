@@ -1,14 +1,20 @@
-"""A store in this process, by the library: the same calls and values as over a pipe."""
+"""A store in this process, by the library: the same calls and values as over a pipe, of forms and of messages."""
 
 from __future__ import annotations
 
 import os
+from collections.abc import Callable, Sequence
+from typing import TypeVar
 
 from .answers import refusal_of
-from .errors import BrokenStoreError, FaultError, RefusedError
+from .errors import BrokenStoreError, ClosedStoreError, FaultError, RefusedError
 from .library import EXISTING, Figures, Library, calls_of, find_library
+from .messages import MessageStore
+from .naming import NAMING_QUESTION
 from .printer import check_characters
-from .store import Link, State, Store, changes_naming
+from .store import Link, Outcome, State, Store, changes_naming
+
+Given = TypeVar("Given")
 
 
 class EmbeddedStore(Store):
@@ -93,3 +99,84 @@ class EmbeddedStore(Store):
         """What the file in use holds: its generation, records and version."""
         with self._lock:
             return self._library().figures()
+
+
+class EmbeddedMessageStore(MessageStore):
+    """A store in this process that carries out messages, each once, and answers questions. Threads may share it.
+
+    `library` and `existing` are those of EmbeddedStore. A store that was closed or killed and is opened again tells
+    its `position`: what has a number up to it is carried out, and nothing over it has written.
+    """
+
+    def __init__(
+        self,
+        folder: str | os.PathLike[str],
+        library: str | os.PathLike[str] | None = None,
+        *,
+        existing: bool = False,
+    ) -> None:
+        self._folder = os.fspath(folder)
+        self._flags = EXISTING if existing else 0
+        self._calls = calls_of(find_library(library))
+        self._library: Library | None = None
+        self._begin()
+
+    def snapshot(self) -> None:
+        """Takes a snapshot, so that the next opening reads the world, and not each form that made it."""
+        with self._lock:
+            self._ready()
+            line = self._call(lambda library: library.snapshot())
+        refusal = refusal_of(line) if line else None
+        if refusal:
+            raise RefusedError(*refusal)
+
+    def figures(self) -> Figures:
+        """What the file in use holds: its generation, records and version."""
+        with self._lock:
+            self._ready()
+            return self._call(lambda library: library.figures())
+
+    def _do_some(self, texts: Sequence[str]) -> list[Outcome]:
+        numbers = range(self._ready() + 1, self._last + 1 + len(texts))
+        self._last += len(texts)
+        messages = [(number, text.encode("ascii")) for number, text in zip(numbers, texts)]
+        answers = self._call(lambda library: library.do_all(messages))
+        return list(map(self._naming.outcome, answers))
+
+    def _ask(self, text: str) -> str:
+        self._ready()
+        return self._call(lambda library: library.ask(text.encode("ascii")))
+
+    def _call(self, call: Callable[[Library], Given]) -> Given:
+        """What the library gives. After a fault the next call opens the store again."""
+        assert self._library
+        try:
+            return call(self._library)
+        except (BrokenStoreError, FaultError):
+            self._leave()
+            raise
+
+    def _ready(self) -> int:
+        if self._is_closed:
+            raise ClosedStoreError
+        if self._library is None:
+            self._open()
+        return self._last
+
+    def _open(self) -> int:
+        self._library = Library(self._folder, self._calls, self._flags)
+        try:
+            position = self._call(lambda library: library.position())
+            self._ask_naming()
+        except BaseException:
+            self._leave()
+            raise
+        self._last = max(self._last, position)
+        return position
+
+    def _leave(self) -> int | None:
+        library, self._library = self._library, None
+        return library.end()[0] if library else None
+
+    def _ask_naming(self) -> None:
+        self._naming.take(self._call(lambda library: library.ask(NAMING_QUESTION.encode("ascii"))))

@@ -9,7 +9,7 @@ import weakref
 from collections.abc import Callable, Sequence
 from dataclasses import dataclass
 
-from .errors import BrokenStoreError, FaultError, MalformedAnswerError, NoLibraryError
+from .errors import BrokenStoreError, FaultError, MalformedAnswerError, NoLibraryError, RefusedError
 
 RESCUE = 1
 """Forms are read under the standard readtable, in COMMON-LISP-USER, in base 10."""
@@ -26,6 +26,10 @@ class _Fault(ctypes.Structure):
 
 class _Outcome(ctypes.Structure):
     _fields_ = (("number", ctypes.c_int), ("answer", ctypes.c_void_p), ("length", ctypes.c_size_t))
+
+
+class _Message(ctypes.Structure):
+    _fields_ = (("number", ctypes.c_uint64), ("text", ctypes.c_char_p), ("length", ctypes.c_size_t))
 
 
 class _Figures(ctypes.Structure):
@@ -63,6 +67,12 @@ class Calls:
         self.execute_all.argtypes = [
             store, ctypes.c_int, ctypes.POINTER(text), length, size, ctypes.POINTER(_Outcome)
         ]  # fmt: skip
+        self.position = library.pazturrok_position
+        self.position.argtypes = [store, ctypes.POINTER(store)]
+        self.do = library.pazturrok_do
+        self.do.argtypes = [store, ctypes.POINTER(_Message), size, ctypes.POINTER(_Outcome)]
+        self.ask = library.pazturrok_ask
+        self.ask.argtypes = [store, text, size, answer, length]
         self.snapshot = library.pazturrok_snapshot
         self.snapshot.argtypes = [store]
         self.figures_of = library.pazturrok_figures_of
@@ -134,8 +144,32 @@ class Library:
         number = self._calls.execute_all(
             self._store, RESCUE, (ctypes.c_char_p * count)(*texts), lengths, count, outcomes
         )
+        return self._lines(number, outcomes)
+
+    def do_all(self, messages: Sequence[tuple[int, bytes]]) -> list[str]:
+        """Carries out messages, each a number and a text: the line of each answer."""
+        outcomes = (_Outcome * len(messages))()
+        handed = (_Message * len(messages))(*(_Message(number, text, len(text)) for number, text in messages))
+        return self._lines(self._calls.do(self._store, handed, len(messages), outcomes), outcomes)
+
+    def ask(self, text: bytes) -> str:
+        """The line of the answer to a question."""
+        number = self._calls.ask(self._store, text, len(text), *self._arguments)
+        return self._refusal(number) if number else self._text(self._answer.value, self._length.value)
+
+    def position(self) -> int:
+        """The number of the last message that the store holds."""
+        position = ctypes.c_uint64()
+        number = self._calls.position(self._store, ctypes.byref(position))
         if number:
-            return [self._refusal(number)] * count
+            self._refusal(number)
+            raise RefusedError(number, self._calls.name(number))
+        return position.value
+
+    def _lines(self, number: int, outcomes: ctypes.Array[_Outcome]) -> list[str]:
+        """The answers of many; or the refusal of all of them."""
+        if number:
+            return [self._refusal(number)] * len(outcomes)
         return [
             self._refusal(each.number) if each.number else self._text(each.answer, each.length)
             for each in outcomes

@@ -103,6 +103,10 @@ class MessageStore:
     ) -> None:
         self._words = [os.fspath(program), "run", os.fspath(folder), "--messages", *options]
         self._time_limit = time_limit
+        self._begin()
+
+    def _begin(self) -> None:
+        """Opens the store for the first time."""
         self._lock = threading.RLock()
         self._program: Program | None = None
         self._is_closed = False

@@ -1,0 +1,111 @@
+"""The names of nodes, and the ways between clients, nodes and members by TLS. Each part gives what is wrong."""
+import os
+import shutil
+import ssl
+import subprocess
+import sys
+import time
+
+from cluster import LONG, Client, Process, free_ports
+from refusals import ADD, begun, value
+from secrets import Secrets
+
+sys.path.append(os.path.join(os.path.dirname(os.path.abspath(__file__)), "..", "..", "clients", "python", "src"))
+
+# ---- names
+
+
+def names(folder, program):
+    """A second node under a name is refused, over an empty folder and over a copy, and the first goes on. A node that was killed has its name
+    at once when it comes again, and who comes after one that was ended has it at once; after one that was killed another one waits."""
+    cluster = begun(folder, program, nodes=1)
+    try:
+        cluster.places += [(cluster.host(0), port) for port in free_ports(2)]
+        shutil.copytree(cluster.store(0), cluster.store(2), ignore=shutil.ignore_patterns("replica"))
+        others = [cluster.node(place, options=("--name", "n0")) for place in (1, 2)]
+        for other in others:
+            other.start()
+        faults = [fault for other in others for fault in refused_name(other)]
+        faults += [] if value(cluster, 0) == "5" else ["the first one does not go on"]
+        took = [came_again(cluster, cluster.nodes[0].kill, 0), came_again(cluster, cluster.nodes[0].finish, 2)]
+        took.append(came_again(cluster, cluster.nodes[0].kill, 0))
+        if max(took[:2]) > 10 or not 3 < took[2] < 25 or "had it until now" not in cluster.nodes[0].told():
+            faults.append(f"nodes wait for a name in another way than they should: {took}")
+        return faults
+    finally:
+        cluster.end()
+
+
+def refused_name(node):
+    try:
+        status = node.child.wait(LONG)
+    except subprocess.TimeoutExpired:
+        node.kill()
+        return ["a node goes on under a name that another has"]
+    told = node.told()
+    return [] if status == 4 and "another node of this log goes by the name n0" in told else [f"status {status}: {told[-300:]}"]
+
+
+def came_again(cluster, end, place):
+    """Ends the node, and starts one of its name over the store of a place; after how many seconds that answers."""
+    end()
+    cluster.nodes = [cluster.node(place, options=("--name", "n0"))]
+    began = time.monotonic()
+    cluster.nodes[0].start()
+    return time.monotonic() - began if value(cluster, place) == "5" else LONG
+
+
+# ---- TLS
+
+
+def secure(folder, program):
+    """Members, nodes and clients know one another by certificates. Who has none, or one that another signed, has no answer; a node says so."""
+    cluster = begun(folder, program, members=3, nodes=2, secrets=Secrets(folder))
+    try:
+        faults = [] if python_client(cluster) == [6, 6] else ["the client for Python has another answer"]
+        faults += [f"{told} is heard" for told in heard_strangers(cluster)]
+        other = Secrets(folder, "other")
+        for words in (["--etcd-ca", other.ca, "--etcd-cert", other.both], ["--etcd-ca", cluster.secrets.ca]):
+            faults += deaf_node(cluster, folder, words)
+        return faults + ([] if value(cluster, 0) == value(cluster, 1) == "6" else ["another value"])
+    finally:
+        cluster.end()
+
+
+def python_client(cluster):
+    from pazturrok import NodeStore
+
+    with NodeStore([f"{host}:{port}" for host, port in cluster.places], context=cluster.context) as store:
+        return [store.do(ADD.decode()), store.read("(GET 'COUNTER 'KY)")]
+
+
+def heard_strangers(cluster):
+    """Those who are answered and should not be."""
+    nameless = ssl.create_default_context(cafile=cluster.secrets.ca)
+    stranger = ssl.create_default_context()
+    for told, context in (("a client without TLS", None), ("one without a certificate", nameless), ("one that does not trust the node", stranger)):
+        try:
+            Client(cluster.places[:1], patience=3.0, context=context).once(b"do", ADD)
+            yield told
+        except (OSError, ValueError):
+            continue
+
+
+def deaf_node(cluster, folder, words):
+    """What is wrong with a node that should find no member to talk to, and say so."""
+    further = [cluster.store(7), "--listen", os.path.join(folder, "deaf"), *words]
+    node = Process(cluster.plain_words(0, *further), os.path.join(folder, "deaf.log"))
+    node.start()
+    try:
+        deadline = time.monotonic() + LONG
+        while "no member of etcd answers" not in node.told():
+            if time.monotonic() > deadline or node.child.poll() is not None:
+                return [f"a node that no member of etcd hears does not say so: {node.told()[-300:]}"]
+            time.sleep(0.2)
+        return [] if not os.path.exists(cluster.store(7)) else ["a node that no member of etcd hears has opened its store"]
+    finally:
+        node.finish()
+        os.remove(node.log)
+
+
+PARTS = {"names": names, "secure": secure}
