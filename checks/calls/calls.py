@@ -9,7 +9,8 @@ HERE = os.path.dirname(os.path.abspath(__file__))
 CHECKS = os.path.dirname(HERE)
 sys.path[:0] = [os.path.join(CHECKS, "embedded"), os.path.join(CHECKS, "hostile")]
 
-from orders import CUTS, SYNCS, WRITES, Engine, load  # noqa: E402
+import orders  # noqa: E402
+from orders import CUTS, SYNCS, WRITES  # noqa: E402
 from power import File  # noqa: E402
 
 # A limit that no half of a check comes near.
@@ -36,10 +37,35 @@ def library(engine, folder):
                    check=True)
     subprocess.run([os.path.join(tool, "ld.lld"), "-shared", "--wrap=malloc", "--wrap=realloc", code, "--whole-archive", engine,
                     "--no-whole-archive", os.path.join(kit, "c", "liblibc_c.a"), "-o", built], check=True)
-    made = load(built)
+    made = orders.load(built)
+    made.pzt_tell.argtypes, made.pzt_tell.restype = [ctypes.POINTER(orders.Slot), ctypes.POINTER(Told)], None
     made.refuse_growth.argtypes, made.refuse_growth.restype = [ctypes.c_ulong, ctypes.c_int], None
     made.refused_growths.restype = ctypes.c_ulong
     return made
+
+
+class Told(ctypes.Structure):
+    _fields_ = (("generation", ctypes.c_uint64), ("records", ctypes.c_uint64), ("version", ctypes.c_uint16))
+
+
+class Engine(orders.Engine):
+    """An engine whose halves have a limit, under words by which names are hashed."""
+
+    def __init__(self, made, files, limit=AMPLE, seed=(1, 2)):
+        self.library, self.slot, self.done = made, orders.Slot(), orders.Done()
+        first, second = bytes(files[0]), bytes(files[1])
+        made.pzt_open(self.slot, first, len(first), second, len(second), orders.Setting(limit, *seed), self.done)
+        self.number = self.done.number
+
+    def execute(self, text, rescue=False):
+        self.library.pzt_execute(self.slot, rescue, text, len(text), b"", 0, self.done)
+        return self.done.number, self.fetched(self.library.pzt_answer, self.done.answer)
+
+    def figures(self):
+        """The generation in use, its records and its version."""
+        told = Told()
+        self.library.pzt_tell(self.slot, told)
+        return told.generation, told.records, told.version
 
 
 class Store:

@@ -1,6 +1,6 @@
 """What fits a half and what does not, and how many records are left: each row is worked out by hand. A half with the first world has 154 bytes,
 a record of (SETF (GET 'A 'B) 7) has 26, and a snapshot after it 12 more than the first one."""
-from calls import AMPLE, Store, files_after, opened, want
+from calls import AMPLE, SYNCS, Store, files_after, opened, want
 
 SEVEN = b"(SETF (GET 'A 'B) 7)"
 EIGHT = b"(SETF (GET 'A 'B) 8)"
@@ -21,12 +21,14 @@ TAKEN, FULL, TOO_LARGE = 0, 64, 65
 ROWS = [
     ("no room for the first world", 153, (b"", b""), [], [TOO_LARGE], None, None),
     ("room for it", 154, (b"", b""), [], [], (1, 0, 2), (154, 0)),
-    ("no room for a record", 179, (b"", b""), [SEVEN, GET], [FULL, FULL], (1, 0, 2), (154, 0)),
+    ("no room for a record", 165, (b"", b""), [SEVEN, GET], [FULL, FULL], (1, 0, 2), (154, 0)),
+    ("room for a shorter one", 179, (b"", b""), [SEVEN, GET], [FULL, TAKEN], (1, 1, 2), (171, 0)),
     ("room for one", 180, (b"", b""), [SEVEN, EIGHT, GET], [TAKEN, FULL, TAKEN], (1, 1, 2), (180, 0)),
     ("one that only reads is not logged", 180, (b"", b""), [SEVEN, GET, b"(REMPROP 'A 'A)", b"'C", SEVEN], [TAKEN, TAKEN, TAKEN, FULL, FULL],
      (1, 1, 2), (180, 0)),
     ("a snapshot makes room", 202, (b"", b""), [SEVEN, EIGHT, GET, None, EIGHT], [TAKEN, FULL, TAKEN, TAKEN, TAKEN], (2, 1, 2), (180, 192)),
-    ("a snapshot without room", 165, (b"", b""), [b"'A", None, b"'A"], [TAKEN, TOO_LARGE, TAKEN], (1, 1, 2), None),
+    ("a snapshot without room", 224, (b"", b""), [b"(PROGN (SETF (GET 'A 'B) '#200(1)) 1)", None, b"(SETF (GET 'A 'C) 2)"],
+     [TAKEN, TOO_LARGE, TAKEN], (1, 2, 2), (223, 0)),
     ("version 1 is full, and renewed", 202, (VERSION_1, b""), [EIGHT, None, EIGHT], [FULL, TAKEN, TAKEN], (2, 1, 2), (len(VERSION_1), 192)),
     ("a text is one form", AMPLE, (b"", b""), [b"1 2", b"", b"1 ", b" 1"], [26, 1, TAKEN, TAKEN], (1, 0, 2), (154, 0)),
 ]
@@ -51,7 +53,7 @@ def check_opened(made):
     """A half that is longer than the limit is opened, and stays as it is."""
     whole = files_after(made, SEVEN)
     store = opened(made, whole, 153)
-    want(not store.orders and store.files() == whole, "an opening wrote")
+    want(all(order[0] == SYNCS for order in store.orders) and store.files() == whole, "an opening wrote")
     want(store.form(GET) == (0, b"7") and not store.orders, "a half past the limit is not read, or was written")
     want(store.form(SEVEN)[0] == FULL, "a half past the limit takes a record")
     store.close()
@@ -113,8 +115,8 @@ def check_lengths(made):
         want(len(text) == length or length == 30, "a row of another length")
         want(store.form(text) == (0, b"%d" % length), "a form of", length, "bytes")
         again = opened(made, store.files())
-        want(again.figures() == store.figures() and not again.orders, "replayed after", length)
-        want(again.form(GET)[1] == b'"' + (b"x" * (length - len(front) - len(back)) + b'"')[:4095], "replayed after", length)
+        want(again.figures() == store.figures() and again.files() == store.files(), "replayed after", length)
+        want(again.form(GET)[1] == b'"' + b"x" * (length - len(front) - len(back)) + b'"', "replayed after", length)
         again.close()
     store.close()
 

@@ -2,7 +2,7 @@
 after the one under way too, and go on from there."""
 import copy
 
-from calls import CRASHES, done, files_after, opened, want, world
+from calls import CRASHES, File, done, files_after, opened, want, world
 from limits import BOTH, EIGHT, GET, NINE, SEVEN, VERSION_1
 from orders import CUTS, SYNCS, WRITES
 
@@ -55,11 +55,9 @@ class Course:
 
     def __init__(self, made, files, steps):
         self.made, self.images = made, 0
-        store = opened(made, (b"", b""))
-        store.close()
         store = opened(made, files)
         self.worlds = [world(made, store.files())]
-        halves = [half_of(held) for held in files]
+        halves = [File(bytes(held)) for held in files]
         self.cut_short(halves, store.orders, 0, 0)
         for step in steps:
             was = len(self.worlds) - 1
@@ -98,14 +96,11 @@ class Course:
         store.close()
 
 
-def half_of(held):
-    from calls import File
-    return File(bytes(held))
-
-
 # What a half gets in an append, and in a start over a half of each kind: W writes, C cuts, S syncs; and the half, as in use or the other one.
 APPEND = "W+ S+ W+ S+"
-STARTS = {"seven": "W- S- W- S-", "older": "W- S- C- W- S- W- S-", "closed": "C- W- S- W- S-", "version 1": "W- S- W- S-"}
+STARTS = {
+    "seven": "W- S- W- S- W- S-", "older": "W- S- C- S- W- S- W- S-", "closed": "C- S- W- S- W- S-", "version 1": "W- S- W- S- W- S-",
+}
 
 
 def shape(orders, half):
@@ -124,7 +119,7 @@ def check_shapes(made, files):
         store.close()
     for name, wanted in STARTS.items():
         store = opened(made, files[name])
-        in_use = 0 if store.figures()[0] % 2 else 1
+        in_use = 1 - store.figures()[0] % 2
         want(store.snapshot() == 0, "no snapshot")
         want(shape(store.orders, in_use) == wanted, name, "gives", shape(store.orders, in_use))
         store.close()

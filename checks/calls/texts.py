@@ -2,8 +2,7 @@
 seed of the hash."""
 import random
 
-from calls import opened, want, world
-from orders import Engine
+from calls import Engine, opened, want, world
 from store import OPERATORS
 
 # The ways to alter a byte, by its bits. One of the first gives other worlds.
@@ -48,6 +47,7 @@ def check_seeds(made, text):
     for seed in seeds:
         engine = Engine(made, (half_with(text), b""), seed=seed)
         want(engine.number == 0, "not opened under", seed)
+        engine.orders()
         number, _ = engine.snapshot()
         found = [held for kind, _, _, held in engine.orders() if text in held]
         want(number == 0 and found, "another text under", seed)

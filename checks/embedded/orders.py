@@ -15,10 +15,6 @@ class Done(ctypes.Structure):
     _fields_ = (("number", ctypes.c_uint16), ("answer", SIZE), ("orders", SIZE))
 
 
-class Told(ctypes.Structure):
-    _fields_ = (("generation", ctypes.c_uint64), ("records", ctypes.c_uint64), ("version", ctypes.c_uint16))
-
-
 class Setting(ctypes.Structure):
     _fields_ = (("limit", ctypes.c_uint64), ("seed_first", ctypes.c_uint64), ("seed_second", ctypes.c_uint64))
 
@@ -34,8 +30,7 @@ def load(path):
     library.pzt_answer.argtypes = library.pzt_orders.argtypes = [slot, SIZE, text, SIZE]
     library.pzt_answer.restype = library.pzt_orders.restype = SIZE
     library.pzt_performed.argtypes, library.pzt_close.argtypes = [slot, SIZE], [slot]
-    library.pzt_tell.argtypes = [slot, ctypes.POINTER(Told)]
-    for name in ("open", "execute", "execute_all", "snapshot", "performed", "tell", "close"):
+    for name in ("open", "execute", "execute_all", "snapshot", "performed", "close"):
         getattr(library, "pzt_" + name).restype = None
     return library
 
@@ -43,15 +38,15 @@ def load(path):
 class Engine:
     """A store over the bytes of two files, whose orders are for the caller to carry out."""
 
-    def __init__(self, library, files, limit=1 << 30, seed=(1, 2)):
+    def __init__(self, library, files):
         self.library, self.slot, self.done = library, Slot(), Done()
         first, second = bytes(files[0]), bytes(files[1])
-        library.pzt_open(self.slot, first, len(first), second, len(second), Setting(limit, *seed), self.done)
+        library.pzt_open(self.slot, first, len(first), second, len(second), Setting(1 << 30, 1, 2), self.done)
         self.number = self.done.number
 
-    def execute(self, text, rescue=False):
+    def execute(self, text):
         answer = ctypes.create_string_buffer(4096)
-        self.library.pzt_execute(self.slot, rescue, text, len(text), answer, 4096, self.done)
+        self.library.pzt_execute(self.slot, False, text, len(text), answer, 4096, self.done)
         return self.done.number, answer.raw[: self.done.answer]
 
     def execute_all(self, texts):
@@ -66,12 +61,6 @@ class Engine:
     def snapshot(self):
         self.library.pzt_snapshot(self.slot, self.done)
         return self.done.number, b""
-
-    def figures(self):
-        """The generation in use, its records and its version."""
-        told = Told()
-        self.library.pzt_tell(self.slot, told)
-        return told.generation, told.records, told.version
 
     def fetched(self, call, count):
         room = ctypes.create_string_buffer(count + 1)
