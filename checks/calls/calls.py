@@ -36,7 +36,8 @@ def library(engine, folder):
     subprocess.run([os.path.join(tool, "clang"), "-O2", "-fPIC", "-ffreestanding", "-nostdinc", "-c", os.path.join(HERE, "growth.c"), "-o", code],
                    check=True)
     subprocess.run([os.path.join(tool, "ld.lld"), "-shared", "--wrap=malloc", "--wrap=realloc", code, "--whole-archive", engine,
-                    "--no-whole-archive", os.path.join(kit, "c", "liblibc_c.a"), "-o", built], check=True)
+                    "--no-whole-archive", os.path.join(kit, "c", "liblibc_c.a"), os.path.join(kit, "toolchain", "lib", "libgcc.a"), "-o", built],
+                   check=True)
     made = orders.load(built)
     made.pzt_tell.argtypes, made.pzt_tell.restype = [ctypes.POINTER(orders.Slot), ctypes.POINTER(Told)], None
     made.refuse_growth.argtypes, made.refuse_growth.restype = [ctypes.c_ulong, ctypes.c_int], None
