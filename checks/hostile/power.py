@@ -4,7 +4,7 @@ import random
 
 from store import answers, check_world, courses, library, want
 
-NAMES = ("property", "brackets", "snapshots", "together", "more snapshots", "a closed half", "operators", "snapshot", "upgrade")
+NAMES = ("property", "brackets", "snapshots", "together", "more snapshots", "a closed half", "operators", "messages", "more messages", "snapshot", "upgrade")
 
 
 class File:
