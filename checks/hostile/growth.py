@@ -1,7 +1,7 @@
 """Each growth of memory refused in turn: that one alone, and it and all after it."""
 import collections
 
-from store import NO_MEMORY, check, courses, library, logged, want
+from store import NO_MEMORY, check, courses, has_messages, library, logged, want
 
 
 REFUSED = NO_MEMORY.decode().strip()
@@ -39,7 +39,8 @@ def disturbed(room, one, loaded, log, number, goes_on, kinds):
     want(got == one.ample or got.status == 3 and got.err == NO_MEMORY, where, got)
     want(got.out in (b"", one.ample.out) or got.out.endswith(b"\n"), where, "a part of a line:", got)
     if got == one.ample:
-        want(left == one.after, where, "other files")
+        # messages that were answered one by one have a position each in the log
+        want(left == one.after or has_messages(one.session), where, "other files")
         kinds["absorbed"] += 1
     else:
         kinds[got.err.decode().strip()] += 1

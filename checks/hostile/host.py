@@ -7,7 +7,7 @@ import signal
 import subprocess
 import time
 
-from store import DEVICE, OUTPUT, Answer, want, without_cause
+from store import DEVICE, OUTPUT, Answer, message, want, without_cause
 
 NEW_STORE = 154
 HALF_LIMIT = 1_073_741_824
@@ -98,25 +98,50 @@ def no_room(room):
     return 4
 
 
-def full(room):
-    """A half has no room for one more record. A snapshot makes room, and the form is accepted."""
-    filled(room, 0)
-    half = os.path.join(room.store, "half-a")
+def fill(half):
+    """Fills a half with records up to its limit. Gives how many bytes are left."""
+    left = HALF_LIMIT - os.path.getsize(half)
     with open(half, "rb+") as file:
-        file.seek(NEW_STORE - 1)
-        left = HALF_LIMIT - NEW_STORE
+        file.seek(-1, os.SEEK_END)
         while left >= 30:
             size = min(65_536, left - 20 if left < 65_542 + 30 else 65_536)
             file.write(b"\xa5\0" + size.to_bytes(4, "big") + b"(GET 'A" + b" " * (size - 10) + b"'N)")
             left -= 6 + size
         file.write(b"\0")
+    return left
+
+
+def full(room):
+    """A half has no room for one more record. A snapshot makes room, and the form is accepted."""
+    filled(room, 0)
+    half = os.path.join(room.store, "half-a")
+    left = fill(half)
     got = room.run(["run"], form(1))
     want(got == Answer(0, b"1\n", b""), "a form that does not fit:", got)
     want(os.path.getsize(half) + left == HALF_LIMIT, "the file stays")
     told = room.run(["verify"])
-    want(told.out == b"half B generation 2 records 1\n", "the other half is in use:", told)
+    want(told.out.splitlines()[0] == b"half B generation 2 records 1", "the other half is in use:", told)
     want(count_in(room) == 1, "reopened")
     return 1
+
+
+def full_of_messages(room):
+    """A half has no room for the records of messages, or for that of the first position. A snapshot makes room, and they are carried out once."""
+    texts = [b"(SETF (GET 'A 'N) 1)", b"(INCF (GET 'A 'N))", b"(INCF (GET 'A 'N))"]
+    sent = b"".join(message(number, text) for number, text in enumerate(texts, 1))
+    for begun in (True, False):
+        filled(room, 0)
+        if begun:
+            room.run(["run", "--messages"])
+        fill(os.path.join(room.store, "half-a"))
+        got = room.run(["run", "--messages"], sent)
+        want(got == Answer(0, b"at 0\n1 1\n1\n2 1\n2\n3 1\n3\n", b""), "messages that do not fit:", got)
+        told = room.run(["verify"])
+        want(told.out.startswith(b"half B generation 2 records "), "the other half is in use:", told)
+        again = room.run(["run", "--messages"], sent)
+        want(again.out.startswith(b"at 3\n1 15\n! 50"), "the same messages again:", again)
+        want(count_in(room) == 3, "reopened")
+    return 2
 
 
 def killed(room, times):
@@ -156,7 +181,7 @@ def run(room, kills, is_long):
     """So many kills, and what needs 3 GB of memory where that is asked for. Gives how many runs there were, and of what."""
     kinds = {"closed streams": closed_streams(room), "readers that are gone": reader_gone(room), "second processes": two_processes(room), "files that may not grow": no_room(room)}
     if is_long:
-        kinds["full halves"] = full(room)
+        kinds["full halves"] = full(room) + full_of_messages(room)
     kinds["kills between two answers"] = killed(room, kills)
     kinds["other kills"] = kills - kinds["kills between two answers"]
     return sum(kinds.values()), kinds

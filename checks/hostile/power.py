@@ -4,7 +4,8 @@ import random
 
 from store import answers, check_world, courses, library, want
 
-NAMES = ("property", "brackets", "snapshots", "together", "more snapshots", "a closed half", "operators", "snapshot", "version 1", "upgrade")
+NAMES = ("property", "brackets", "snapshots", "together", "more snapshots", "a closed half", "operators", "messages", "more messages", "snapshot", "version 1",
+         "upgrade")
 
 
 class File:

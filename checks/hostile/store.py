@@ -12,8 +12,8 @@ HERE = os.path.dirname(os.path.abspath(__file__))
 
 Answer = collections.namedtuple("Answer", "status out err")
 Session = collections.namedtuple("Session", "name words text base")
-# What a session does undisturbed: the files before it, its answer, the files after it, and after each number of its lines how many
-# answers there are, and the text of the world. `looked` has the files that were looked at, each with how many answers there were: what
+# What a session does undisturbed: the files before it, its answer, the files after it, and after each number of its parts how many answers
+# there are, and the text of the world. `looked` has the files that were looked at, each with how many answers there were: what
 # was left by one run is looked at once, though many runs leave it.
 Course = collections.namedtuple("Course", "session before ample after dumps looked")
 
@@ -56,6 +56,27 @@ NEWONE
 (FROB newsym)
 """
 
+
+
+def message(number, text):
+    return b"do %d %d\n%s\n" % (number, len(text), text)
+
+
+def question(text):
+    return b"ask %d\n%s\n" % (len(text), text)
+
+
+# Frames, of which the last one that is carried out writes: so the world tells one position however they are cut into batches.
+MESSAGES = b"".join([
+    message(1, b"(SETF (GET 'A 'B) 7)"),
+    question(b"(GET 'A 'B)"),
+    question(b"(SETF (GET 'A 'B) 9)"),
+    message(1, b"(INCF (GET 'A 'B))"),
+    message(4, b"(INCF (GET 'A 'B))"),
+    question(b") ("),
+    message(8, b"(SETF (GET 'NEW 'C) \"t\n\")"),
+])
+
 # Files of old bytes behind a closed gate, which are cut before a half is started.
 CLOSED = [bytes(10), bytes(200)]
 
@@ -88,6 +109,9 @@ SESSIONS = [
             b"(MAKE-DISPATCH-MACRO-CHARACTER #\\@)\n(SET-DISPATCH-MACRO-CHARACTER #\\@ #\\s :SCALE)\n@3S14\n@S14\n", None),
     Session("a closed half", ["run", "--snapshot-every", "1"], b"(SETF (GET 'A 'B) 7)\n(SETF (GET 'A 'B) 8)\n", CLOSED),
     Session("operators", ["run", "--snapshot-every", "3"], OPERATORS, None),
+    Session("messages", ["run", "--messages"], MESSAGES, None),
+    Session("more messages", ["run", "--messages", "--snapshot-every", "1"],
+            message(9, b"(INCF (GET 'A 'B) 10)") + question(b"(GET 'A 'B)") + message(10, b"(SETF (GET 'A 'C) 9)"), "messages"),
     Session("after operators", ["run", "--snapshot-every", "1"], b"(setf (get 'b 'x) (symbol-plist 'a))\n(get 'b 'x)\n", "operators"),
     Session("dump", ["dump"], b"", "operators"),
     Session("verify", ["verify"], b"", "operators"),
@@ -205,14 +229,37 @@ def course(room, session, before):
     ample = room.run(session.words, session.text)
     want((ample.status, ample.out) == WANTED[session.name], session.name, "undisturbed:", ample)
     after = room.files()
-    lines = session.text.splitlines(keepends=True)
-    words = session.words if session.words[0] == "run" else ["run"]
+    parts = parts_of(session)
     dumps = []
-    for count in range(len(lines) + 1):
+    for count in range(len(parts) + 1):
         room.put(before)
-        answer = room.run(words, b"".join(lines[:count]))
-        dumps.append((answer.out.count(b"\n"), room.run(["dump"]).out))
+        # before the first of its parts a session of messages has not begun
+        words = ["run"] if session.words[0] != "run" or has_messages(session) and not count else session.words
+        answer = room.run(words, b"".join(parts[:count]))
+        dumps.append((answered_in(session, answer.out), room.run(["dump"]).out))
     return Course(session, before, ample, after, dumps, set())
+
+
+def has_messages(session):
+    return "--messages" in session.words
+
+
+# The first line of a frame, and of an answer.
+HEAD = re.compile(rb"(?:do [0-9]+|ask|[0-9]+) ([0-9]+)\n")
+
+
+def framed(text):
+    """The frames or answers that stand whole at the front of bytes."""
+    found = []
+    while (head := HEAD.match(text)) and (size := head.end() + int(head[1]) + 1) <= len(text):
+        found.append(text[:size])
+        text = text[size:]
+    return found
+
+
+def parts_of(session):
+    """What a session answers one after the other: its lines; or that messages are begun, which it answers with the position, and each frame."""
+    return [b"", *framed(session.text)] if has_messages(session) else session.text.splitlines(keepends=True)
 
 
 def courses(room, names=()):
@@ -236,12 +283,30 @@ def check(room, one, got):
 
 def answers(one, out):
     """How many forms these bytes answer: those of a session, and none of another command."""
-    return out.count(b"\n") if one.session.words[0] == "run" else 0
+    return answered_in(one.session, out) if one.session.words[0] == "run" else 0
+
+
+def answered_in(session, out):
+    """How many parts of a session these bytes answer."""
+    if not has_messages(session):
+        return out.count(b"\n")
+    told = re.match(rb"at [0-9]+\n", out)
+    return len(framed(out[told.end() if told else 0 :])) + bool(told)
+
+
+def may_be_there(one, answered, apart):
+    """After how many parts the world may be that is there."""
+    messages, words = has_messages(one.session), one.session.words
+    if messages and not answered:
+        # that messages are begun is logged before a frame is read
+        return {0, 1}
+    together = "--group" in words or messages and "--snapshot-every" not in words
+    return {answered, len(one.dumps) - 1 if together else answered + 1, answered + 1 if apart else answered}
 
 
 def check_world(room, one, answered, apart=True):
-    """A session with groups has one, of all its forms: all of them may be there, and not some, unless it was executed form by form (`apart`)
-    as memory ran out in it."""
+    """A session with groups has one, of all its forms, and one of messages without snapshots has one of all frames: all of them may be there,
+    and not some, unless it was executed form by form (`apart`) as memory ran out in it."""
     left = (*room.files(), answered)
     if left in one.looked:
         return
@@ -249,8 +314,7 @@ def check_world(room, one, answered, apart=True):
     dump = room.run(["dump"])
     want(dump.status == 0, one.session.name, "no dump:", dump)
     prefixes = [count for count, text in one.dumps if text == dump.out]
-    together = "--group" in one.session.words
-    may = {answered, len(one.dumps) - 1 if together else answered + 1, answered + 1 if apart else answered}
+    may = may_be_there(one, answered, apart)
     want(may & set(prefixes), one.session.name, answered, "answered, and the world is that after", prefixes)
     verified = room.run(["verify"])
     want(verified.status == 0, one.session.name, "not verified:", verified)

@@ -45,6 +45,22 @@ WANTED = {
         b'7\n'
         b'8\n'
     )),
+    "messages": (0, (
+        b'at 0\n'
+        b'1 1\n7\n'
+        b'ask 1\n7\n'
+        b'ask 20\n! 51 QUESTION-WRITES\n'
+        b'1 15\n! 50 OLD-NUMBER\n'
+        b'4 1\n8\n'
+        b'ask 15\n! 4 STRAY-CLOSE\n'
+        b'8 4\n"t\n"\n'
+    )),
+    "more messages": (0, (
+        b'at 8\n'
+        b'9 2\n18\n'
+        b'ask 2\n18\n'
+        b'10 1\n9\n'
+    )),
     "operators": (0, (
         b'"P"\n'
         b'"P"\n'

@@ -1,0 +1,4 @@
+pub mod Tidy
+pub mod TidyOperators
+pub mod TidyForms
+pub mod Together

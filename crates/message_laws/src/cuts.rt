@@ -1,0 +1,24 @@
+//! Batches of requests.
+ghost use Rattle.std.specs.Prelude.{◌≡◌, ℕ, List};
+ghost use Rattle.message_laws.specs.Batches.{IsAlike, all_of, at_first, in_batches};
+ghost use Rattle.plist_state.specs.Sound.{IsSound};
+ghost use Rattle.plist_state.specs.State.{WorldState};
+ghost use Rattle.prevalence_store.specs.declared.messages.request.Request.{Request};
+ghost use Rattle.prevalence_store.specs.messages.Answers.{begun, each_request};
+ghost use Rattle.user_macros.specs.Functions.{Functions};
+
+/// Requests have the same answers in whichever batches they are answered. From a sound world on, as that of each store is
+/// (`World::soundness`):
+///
+/// - `alike`: batches that have the same requests in all have the same answers and the same last number, and leave the same world but
+///   for its position: that tells the last message that wrote, or a later one of its batch.
+/// - `at_once`: so each request has the answer that it has in one batch of all.
+pub fn cuts_change_nothing()
+    ensures alike { (functions : Functions) (world : WorldState) (last : ℕ) (batches others : List (List Request))
+        → IsSound world → all_of batches ≡ all_of others
+        → IsAlike (in_batches functions (at_first last world) batches) (in_batches functions (at_first last world) others) }
+    ensures at_once { (functions : Functions) (world : WorldState) (last : ℕ) (batches : List (List Request))
+        → IsSound world
+        → (in_batches functions (at_first last world) batches).told
+        ≡ (each_request functions (begun last world) (all_of batches)).told }
+{}
