@@ -9,11 +9,11 @@ use Rattle.clap.specs.Words.{App, Row, Rule, Text, fault_of, first_of, new_app, 
 use Rattle.clap.specs.Simple.{on_top}
 use Rattle.clap.specs.declared.builder.value_parser.ValueParser.TheVariants.{Unsigned}
 use Rattle.clap.specs.declared.error.kind.ErrorKind.TheVariants.{MissingRequiredArgument}
-use Rattle.prevalence_store.specs.declared.mode.Mode.{Mode}
-use Rattle.prevalence_store.specs.declared.mode.Mode.TheVariants.{Current, Rescue}
-use Rattle.prevalence_store.specs.declared.outcome.Wanted.{Wanted}
-use Rattle.world_forms.specs.declared.export.Content.{Content}
-use Rattle.world_forms.specs.declared.export.Content.TheVariants.{Data, World}
+use Rattle.session_words.specs.declared.mode.Mode.{Mode}
+use Rattle.session_words.specs.declared.mode.Mode.TheVariants.{Current, Rescue}
+use Rattle.session_words.specs.declared.wanted.Wanted.{Wanted}
+use Rattle.session_words.specs.declared.content.Content.{Content}
+use Rattle.session_words.specs.declared.content.Content.TheVariants.{Data, World}
 use Rattle.command_words.specs.Rules.{flag_rule, folder_line, is_set, option_rule}
 use Rattle.command_words.specs.declared.words.Task.{Task}
 use Rattle.command_words.specs.declared.words.Report.TheVariants.{Dump, Verify}

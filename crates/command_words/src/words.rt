@@ -16,10 +16,9 @@ use crate::tips::with_tip;
 use clap::builder::ValueParser;
 use clap::error::ErrorKind;
 use clap::{Arg, ArgMatches, Command, Error};
-use prevalence_store::{Mode, Wanted};
+use session_words::{Content, Mode, Wanted};
 use std::alloc::{AllocError, Global};
 use std::convert::AsStr;
-use world_forms::Content;
 
 /// The version of the program, and of the files that it writes.
 const PROGRAM_VERSION: &str = "0.1.0, files of version 2";

@@ -17,7 +17,7 @@ use Rattle.evaluator.specs.Value.{last, value_by, values_by}
 use Rattle.form_eval.specs.Acceptance.{accept, accepted_by}
 use Rattle.form_eval.proofs.KnownSymbols.{known_symbols}
 use Rattle.prevalence_store.specs.meaning.Acceptance.{form_limits}
-use Rattle.world_forms.specs.declared.export.Content.TheVariants.{Data}
+use Rattle.session_words.specs.declared.content.Content.TheVariants.{Data}
 use Rattle.world_forms.specs.Forms.{current_form, package_form, reading_forms}
 use Rattle.export_laws.specs.Objects.{call}
 use Rattle.export_laws.proofs.OneForm.{IsForm}

@@ -11,7 +11,7 @@ use Rattle.plist_state.specs.Sound.{IsSound}
 use Rattle.plist_state.specs.State.{WorldState, initial, standard_name, user_name}
 use Rattle.user_macros.specs.Functions.{Functions}
 use Rattle.snapshot_text.specs.Built.{with_packages_of, with_properties_of}
-use Rattle.world_forms.specs.declared.export.Content.TheVariants.{Data}
+use Rattle.session_words.specs.declared.content.Content.TheVariants.{Data}
 use Rattle.world_forms.specs.Forms.{current_form, forms, last_newline}
 use Rattle.world_forms.specs.Packages.{package_lines}
 use Rattle.world_forms.specs.Properties.{left_out_lines, property_lines}

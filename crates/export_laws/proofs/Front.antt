@@ -14,7 +14,7 @@ use Rattle.lisp_reading.specs.Plans.{Read, run}
 use Rattle.lisp_reading.specs.Setting.{Setting, setting_of}
 use Rattle.lisp_reading.specs.Reading.{Outcome, attempt, empty, form, outcome, reads, reads_at, reads_in, refused, space_at}
 use Rattle.lisp_reading.proofs.Forms.{reads_is}
-use Rattle.prevalence_store.specs.declared.mode.Mode.TheVariants.{Current}
+use Rattle.session_words.specs.declared.mode.Mode.TheVariants.{Current}
 use Rattle.prevalence_store.specs.meaning.Acceptance.{form_limits, read_in}
 use Rattle.prevalence_store.specs.meaning.Answers.{Progress, after_forms, begun as before_forms, evaluated, one_form, one_form_more, onward}
 use Rattle.world_text.proofs.Begun.{newline_begun}

@@ -15,7 +15,7 @@ use Rattle.lisp_reading.specs.declared.found.Found.TheVariants.{One as one}
 use Rattle.lisp_reading.specs.Setting.{setting_of}
 use Rattle.lisp_reading.specs.Reading.{form, outcome, reads, reads_at}
 use Rattle.lisp_reading.proofs.Forms.{drop_front, reads_is}
-use Rattle.prevalence_store.specs.declared.mode.Mode.TheVariants.{Current}
+use Rattle.session_words.specs.declared.mode.Mode.TheVariants.{Current}
 use Rattle.prevalence_store.specs.meaning.Acceptance.{between, form_limits, read_in}
 use Rattle.prevalence_store.specs.meaning.Answers.{begun as before_forms, evaluated, one_form, one_form_more, onward}
 use Rattle.world_text.proofs.Begun.{begun, newline_begun}

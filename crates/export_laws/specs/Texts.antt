@@ -3,7 +3,7 @@ use Rattle.std.specs.Prelude.{◌≡◌, ℕ, List, [], Some}
 use Rattle.readtable_core.specs.Tables.{standard}
 use Rattle.package_table.specs.Table.{common_lisp_user}
 use Rattle.plist_state.specs.State.{WorldState}
-use Rattle.prevalence_store.specs.declared.mode.Mode.TheVariants.{Current}
+use Rattle.session_words.specs.declared.mode.Mode.TheVariants.{Current}
 use Rattle.prevalence_store.specs.meaning.Acceptance.{table_in}
 use Rattle.prevalence_store.specs.meaning.Answers.{Progress, after_forms}
 use Rattle.snapshot_text.specs.Built.{with_properties_of}

@@ -31,7 +31,7 @@ ghost use Rattle.plist_state.specs.State.{WorldState, initial};
 ghost use Rattle.form_eval.specs.Acceptance.{accept};
 ghost use Rattle.snapshot_text.specs.Built.{with_packages_of, with_properties_of};
 ghost use Rattle.user_macros.specs.Functions.{Functions};
-ghost use Rattle.world_forms.specs.declared.export.Content.TheVariants.{Data};
+ghost use Rattle.session_words.specs.declared.content.Content.TheVariants.{Data};
 ghost use Rattle.world_forms.specs.Forms.{forms};
 ghost use Rattle.world_forms.specs.Properties.{left_out_lines, property_lines};
 ghost use Rattle.export_laws.specs.Objects.{after_each, property_object, property_objects};

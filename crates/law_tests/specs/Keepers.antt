@@ -3,7 +3,7 @@ use Rattle.std.specs.Prelude.{ℕ, List, Option, unwrap_or}
 use Rattle.plist_state.specs.State.{initial}
 use Rattle.prevalence_store.specs.calls.Account.{Account}
 use Rattle.prevalence_store.specs.calls.Store.{StoreView}
-use Rattle.prevalence_store.specs.declared.mode.Mode.{Mode}
+use Rattle.session_words.specs.declared.mode.Mode.{Mode}
 
 abbrev pub kept_by : {D R : Type 0} → Mode → (first : StoreView D R) → Option (List ℕ) → (last : StoreView D R) → ℕ → Account D
 kept_by mode first input last forms = record {

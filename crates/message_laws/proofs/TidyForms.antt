@@ -13,7 +13,7 @@ use Rattle.plist_state.specs.Changes.{with_packages}
 use Rattle.evaluator.specs.Value.{value}
 use Rattle.evaluator.proofs.Induction.{Operators, Steps, every_value}
 use Rattle.form_eval.specs.Acceptance.{accept, accepted_by as accepted_with, with_symbols}
-use Rattle.prevalence_store.specs.declared.mode.Mode.{Mode}
+use Rattle.session_words.specs.declared.mode.Mode.{Mode}
 use Rattle.prevalence_store.specs.calls.ExecuteAll.{left_by}
 use Rattle.prevalence_store.specs.meaning.Acceptance.{Acceptance, acceptance_of, accepted_of, accepts, between, read_in}
 use Rattle.user_macros.specs.Functions.{Functions}

@@ -12,7 +12,7 @@ use Rattle.plist_state.specs.State.{WorldState}
 use Rattle.plist_state.specs.Sound.{IsSound}
 use Rattle.prevalence_store.specs.declared.messages.request.Request.{Request}
 use Rattle.prevalence_store.specs.declared.messages.request.TheConstants.{OLD_NUMBER}
-use Rattle.prevalence_store.specs.declared.mode.Mode.TheVariants.{Current}
+use Rattle.session_words.specs.declared.mode.Mode.TheVariants.{Current}
 use Rattle.prevalence_store.specs.calls.ExecuteAll.{entries_of, left_by, told_of}
 use Rattle.prevalence_store.specs.meaning.Acceptance.{Acceptance, accepts, after, records_of}
 use Rattle.prevalence_store.specs.messages.Answers.{Round, answer_in, answer_to_question, begun, by_number, cleared, closed, each_request, one_request, refusal_text, with_asked, with_message, with_old, wrote_by}

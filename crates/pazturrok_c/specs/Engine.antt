@@ -17,8 +17,8 @@ use Rattle.prevalence_store.specs.calls.ExecuteAll.{AreExecuted, ExecutesAll}
 use Rattle.prevalence_store.specs.calls.Open.{IsOpened, IsUnopened}
 use Rattle.prevalence_store.specs.calls.Snapshot.{Snapshots}
 use Rattle.prevalence_store.specs.calls.Store.{StoreView}
-use Rattle.prevalence_store.specs.declared.mode.Mode.{Mode}
-use Rattle.prevalence_store.specs.declared.mode.Mode.TheVariants.{Current, Rescue}
+use Rattle.session_words.specs.declared.mode.Mode.{Mode}
+use Rattle.session_words.specs.declared.mode.Mode.TheVariants.{Current, Rescue}
 use Rattle.prevalence_store.specs.declared.outcome.Outcome.{Outcome}
 use Rattle.prevalence_store.specs.declared.outcome.Outcome.TheVariants.{Accepted, Snapshotted, Refused}
 use Rattle.pazturrok_c.specs.Texts.{texts_in}

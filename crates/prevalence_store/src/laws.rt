@@ -6,7 +6,7 @@ ghost use Rattle.gate_log.specs.Layout.{LogRecord};
 ghost use Rattle.prevalence_store.specs.meaning.Acceptance.{Acceptance, accepts, after, IsFormNumber};
 ghost use Rattle.prevalence_store.specs.meaning.Files.{MeansWorld};
 ghost use Rattle.prevalence_store.specs.meaning.Version1.{accepts1, MeansWorld1};
-ghost use Rattle.prevalence_store.specs.declared.mode.Mode.{Mode};
+ghost use Rattle.session_words.specs.declared.mode.Mode.{Mode};
 ghost use Rattle.prevalence_store.specs.calls.Account.{Account, AreStored, call_of, with_forms};
 ghost use Rattle.prevalence_store.specs.calls.Open.{IsNoWord, IsUnopened, limit_of};
 ghost use Rattle.prevalence_store.specs.calls.Store.{StoreView};

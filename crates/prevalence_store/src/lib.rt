@@ -50,7 +50,7 @@
 //!   `gather`, forms that stand whole after one another, with their lines, and `together`, the answers to them; `schedule`,
 //!   when it takes snapshots; `course`, how far it has come. A line is made before its record is logged, and written after.
 //! - `recipient`: who gets the lines of a session.
-//! - `mode`, `step`, `outcome`, `open_fault`: the words of the calls. `failure`: why a form is not accepted.
+//! - `step`, `outcome`, `open_fault`: the words of the calls, with `Mode` and `Wanted` of session_words. `failure`: why a form is not accepted.
 //! - `laws`: the headline, openings in a row, that an image means one world, that files of version 1 mean what they meant, and
 //!   which numbers refuse a form.
 #![tactic(auto)]
@@ -61,7 +61,6 @@ mod group;
 mod laws;
 mod log;
 mod messages;
-mod mode;
 mod open_fault;
 mod outcome;
 mod recipient;
@@ -77,9 +76,9 @@ pub use laws::{
 };
 pub use lisp_object::refusal::name_of as refusal_name;
 pub use messages::request::{Answer, NO_POSITION, OLD_NUMBER, QUESTION_WRITES, Replies, Request};
-pub use mode::Mode;
 pub use open_fault::OpenFault;
-pub use outcome::{Ended, Ending, Outcome, Place, Wanted};
+pub use outcome::{Ended, Ending, Outcome, Place};
 pub use recipient::{OutputFault, Recipient};
+pub use session_words::{Mode, Wanted};
 pub use step::Step;
 pub use store::{Store, Unopened};

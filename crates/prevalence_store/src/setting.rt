@@ -6,13 +6,13 @@ ghost use Rattle.prevalence_store.specs.meaning.Acceptance.{base_in, package_in,
 ghost use Rattle.prevalence_store.specs.steps.Setting.{AreThere, IsWhole};
 ghost use Rattle.user_macros.specs.Functions.{are_registered};
 
-use crate::mode::Mode;
 use form_eval::ReadForm;
 use form_reader::{Limits, ReadOutcome, read_one};
 use lisp_object::refusal::{END_OF_FILE, TEXT_LEFT_OVER};
 use plain_reader::read_plain;
 use plist_state::World;
 use readtable_core::Readtable;
+use session_words::Mode;
 use std::alloc::{AllocError, Global};
 use user_macros::MacroFunctions;
 

@@ -1,6 +1,6 @@
 // The steps of a run.
 
-use crate::mode::Mode;
+use session_words::Mode;
 
 /// A step of `Store::run`.
 #[derive(Clone, Copy, Debug, PartialEq, Eq)]

@@ -6,7 +6,7 @@ use Rattle.disk_trait.specs.declared.host.HostError.{HostError}
 use Rattle.disk_trait.specs.declared.host.HostError.TheVariants.{NoName}
 use Rattle.disk_trait.specs.declared.host.IfMissing.{IfMissing}
 use Rattle.disk_trait.specs.Disk.{IsHonest, State}
-use Rattle.prevalence_store.specs.declared.outcome.Wanted.{Wanted}
+use Rattle.session_words.specs.declared.wanted.Wanted.{Wanted}
 use Rattle.user_macros.specs.Functions.{Functions}
 use Rattle.store_commands.specs.Commands.{DoesAfter, IsUntouched, OpensFolder, SitsAfter}
 use Rattle.store_commands.specs.Folders.{HoldsStore, LooksWhether, OpensStore}

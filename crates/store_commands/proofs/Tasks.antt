@@ -10,7 +10,7 @@ use Rattle.world_forms.specs.Forms.{forms}
 use Rattle.user_macros.specs.Functions.{Functions}
 use Rattle.prevalence_store.specs.declared.outcome.Ended.{Ended}
 use Rattle.prevalence_store.specs.declared.outcome.Ended.TheVariants.{End, Store, Unaccepted, Unreadable}
-use Rattle.prevalence_store.specs.declared.outcome.Wanted.{Wanted}
+use Rattle.session_words.specs.declared.wanted.Wanted.{Wanted}
 use Rattle.store_commands.specs.Commands.{CarriesOut, DoesOn, IsEarlyFault, IsUntouched, Performs, TaskBreaksOff, TaskReads, TaskWrites, TellsUnopened}
 use Rattle.store_commands.specs.Report.{IsExport, IsReport, IsSnapshot, IsUpgrade, half_line, version_line}
 use Rattle.prevalence_store.specs.calls.Open.{IsUnopened}
@@ -30,7 +30,7 @@ use Rattle.store_commands.proofs.Reports.{report_breaks, report_writes, text_fau
 use Rattle.store_commands.proofs.SessionLaws.{answers_input, broken_at, fault_of_session, no_opening_at, nothing_written, number_of_opening, reads_to_end}
 use Rattle.store_commands.proofs.Snapshots.{snapshot_breaks, snapshot_fault, snapshot_of_no_opening, snapshot_taken, snapshot_writes}
 use Rattle.store_commands.proofs.Upgrades.{forms_break, forms_fault, forms_of_no_opening, forms_taken, forms_written, upgrade_breaks, upgrade_fault, upgrade_of_no_opening, upgrade_taken, upgrade_writes}
-use Rattle.world_forms.specs.declared.export.Content.{Content}
+use Rattle.session_words.specs.declared.content.Content.{Content}
 use Rattle.store_commands.proofs.Statuses.{end_at, taken_at_end}
 
 -- a session that answered nothing met no fault

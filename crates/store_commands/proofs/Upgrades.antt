@@ -8,7 +8,7 @@ use Rattle.prevalence_store.specs.calls.Store.{StoreView}
 use Rattle.prevalence_store.specs.declared.outcome.Outcome.{Outcome}
 use Rattle.prevalence_store.specs.declared.outcome.Outcome.TheVariants.{Accepted, Snapshotted, Refused}
 use Rattle.user_macros.specs.Functions.{Functions}
-use Rattle.world_forms.specs.declared.export.Content.{Content}
+use Rattle.session_words.specs.declared.content.Content.{Content}
 use Rattle.world_forms.specs.Forms.{forms}
 use Rattle.world_forms.specs.Properties.{left_out_lines}
 use Rattle.lisp_object.specs.declared.refusal.TheConstants.{NO_MEMORY}

@@ -7,7 +7,7 @@ use Rattle.plist_state.specs.State.{WorldState}
 use Rattle.world_text.specs.Snapshot.{snapshot}
 use Rattle.world_forms.specs.Forms.{forms}
 use Rattle.world_forms.specs.Properties.{left_out_lines}
-use Rattle.world_forms.specs.declared.export.Content.{Content}
+use Rattle.session_words.specs.declared.content.Content.{Content}
 use Rattle.user_macros.specs.Functions.{Functions}
 use Rattle.prevalence_store.specs.calls.Open.{IsOpened}
 use Rattle.prevalence_store.specs.calls.Snapshot.{Snapshots}

@@ -3,11 +3,11 @@ use Rattle.std.specs.Prelude.{◌≡◌, ◌⊎◌, ℕ, List, [], ◌++◌, Opt
 use Rattle.disk_trait.specs.Disk.{State}
 use Rattle.lisp_reading.specs.Reading.{empty, refused}
 use Rattle.plist_state.specs.State.{WorldState}
-use Rattle.prevalence_store.specs.declared.mode.Mode.{Mode}
+use Rattle.session_words.specs.declared.mode.Mode.{Mode}
 use Rattle.prevalence_store.specs.declared.outcome.Ended.{Ended}
 use Rattle.prevalence_store.specs.declared.outcome.Ended.TheVariants.{End}
 use Rattle.prevalence_store.specs.declared.outcome.Place.{Place}
-use Rattle.prevalence_store.specs.declared.outcome.Wanted.{Wanted}
+use Rattle.session_words.specs.declared.wanted.Wanted.{Wanted}
 use Rattle.prevalence_store.specs.meaning.Acceptance.{read_in}
 use Rattle.user_macros.specs.Functions.{Functions}
 use Rattle.prevalence_store.specs.calls.Open.{IsOpened}

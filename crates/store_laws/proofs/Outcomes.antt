@@ -7,12 +7,12 @@ use Rattle.gate_log.specs.Layout.{LogRecord}
 use Rattle.lisp_object.specs.declared.refusal.TheConstants.{OUTPUT}
 use Rattle.lisp_reading.specs.Reading.{Outcome as Reading, form, empty, refused}
 use Rattle.plist_state.specs.State.{WorldState}
-use Rattle.prevalence_store.specs.declared.mode.Mode.{Mode}
+use Rattle.session_words.specs.declared.mode.Mode.{Mode}
 use Rattle.prevalence_store.specs.declared.outcome.Ended.{Ended}
 use Rattle.prevalence_store.specs.declared.outcome.Ended.TheVariants.{End, Unreadable, Unaccepted, Store}
 use Rattle.prevalence_store.specs.declared.outcome.Ending.TheVariants as ending
 use Rattle.prevalence_store.specs.declared.outcome.Place.{Place}
-use Rattle.prevalence_store.specs.declared.outcome.Wanted.{Wanted}
+use Rattle.session_words.specs.declared.wanted.Wanted.{Wanted}
 use Rattle.prevalence_store.specs.meaning.Acceptance.{between, read_in}
 use Rattle.prevalence_store.specs.meaning.Answers.{Progress, after_forms, evaluated, last_line, one_form, one_form_more, onward}
 use Rattle.prevalence_store.specs.calls.Serve.{Ends, HasRead, IsAfter, IsUnwritten, Serves, ServesInput, ServesWanted, IsUnaccepted, StaysOrEnds, StaysRefused, StaysStopped, pace_wanted}

@@ -18,9 +18,9 @@ use Rattle.lisp_reading.specs.Plans.{Read, run, scans}
 use Rattle.lisp_reading.specs.Reading.{Outcome, alone, empty, inner, outcome, reads, reads_in, stands_alone, token_found}
 use Rattle.lisp_reading.specs.Setting.{Setting}
 use Rattle.lisp_reading.proofs.Forms.{first, the_end_there}
-use Rattle.prevalence_store.specs.declared.mode.Mode.TheVariants.{Current}
+use Rattle.session_words.specs.declared.mode.Mode.TheVariants.{Current}
 use Rattle.prevalence_store.specs.meaning.Acceptance.{read_in, setting_in}
-use Rattle.world_forms.specs.declared.export.Content.TheVariants.{World}
+use Rattle.session_words.specs.declared.content.Content.TheVariants.{World}
 use Rattle.world_forms.specs.Forms.{last_newline, newline_in}
 
 abbrev newline : Bool → List ℕ

@@ -6,7 +6,7 @@ use Rattle.std.proofs.Common.{◌≡◌, ℕ, List, [], ◌∷◌, ◌++◌, app
 use Rattle.package_table.specs.Table.{Name, keyword}
 use Rattle.plist_state.specs.State.{WorldState}
 use Rattle.canon_printer.specs.Written.{printed_text}
-use Rattle.world_forms.specs.declared.export.Content.TheVariants.{World}
+use Rattle.session_words.specs.declared.content.Content.TheVariants.{World}
 use Rattle.world_forms.specs.Forms.{base_form, current_form, package_form, reading_forms, readtable_form}
 use Rattle.world_forms.specs.Readtables.{set_case_line, table_argument, table_end}
 use Rattle.world_forms.specs.Tokens.{keyword_argument, line, value_text}

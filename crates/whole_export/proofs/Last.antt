@@ -25,7 +25,7 @@ use Rattle.evaluator.specs.Value.{last, value_by, values_by}
 use Rattle.form_eval.specs.Acceptance.{accept}
 use Rattle.lisp_reading.specs.declared.found.Found.TheVariants.{One as one}
 use Rattle.prevalence_store.specs.meaning.Acceptance.{form_limits}
-use Rattle.world_forms.specs.declared.export.Content.TheVariants.{World}
+use Rattle.session_words.specs.declared.content.Content.TheVariants.{World}
 use Rattle.world_forms.specs.Forms.{current_form}
 use Rattle.world_forms.specs.Tokens.{value_text}
 use Rattle.export_laws.specs.Objects.{call}

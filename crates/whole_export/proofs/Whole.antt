@@ -18,7 +18,7 @@ use Rattle.lisp_operators.specs.Evaluation.{also, and_then, writes}
 use Rattle.lisp_operators.specs.Readtables.{after, enter_readtable}
 use Rattle.evaluator.specs.Value.{value_by}
 use Rattle.snapshot_text.specs.Covered.{are_covered}
-use Rattle.world_forms.specs.declared.export.Content.TheVariants.{World}
+use Rattle.session_words.specs.declared.content.Content.TheVariants.{World}
 use Rattle.world_forms.specs.Forms.{current_form, forms, last_newline}
 use Rattle.world_forms.specs.Packages.{package_lines}
 use Rattle.world_forms.specs.Properties.{left_out_lines, property_lines}

@@ -22,13 +22,13 @@ ghost use Rattle.plist_state.specs.State.{WorldState, first_readtables, initial}
 ghost use Rattle.lisp_reading.specs.Reading.{empty};
 ghost use Rattle.prevalence_store.specs.calls.Serve.{ServesWanted};
 ghost use Rattle.prevalence_store.specs.calls.Store.{StoreView};
-ghost use Rattle.prevalence_store.specs.declared.mode.Mode.TheVariants.{Current};
+ghost use Rattle.session_words.specs.declared.mode.Mode.TheVariants.{Current};
 ghost use Rattle.prevalence_store.specs.declared.outcome.Ended.{Ended};
-ghost use Rattle.prevalence_store.specs.declared.outcome.Wanted.{Wanted};
+ghost use Rattle.session_words.specs.declared.wanted.Wanted.{Wanted};
 ghost use Rattle.prevalence_store.specs.meaning.Acceptance.{read_in};
 ghost use Rattle.snapshot_text.specs.Covered.{are_covered};
 ghost use Rattle.user_macros.specs.Functions.{Functions};
-ghost use Rattle.world_forms.specs.declared.export.Content.TheVariants.{World};
+ghost use Rattle.session_words.specs.declared.content.Content.TheVariants.{World};
 ghost use Rattle.world_forms.specs.Forms.{forms, last_newline};
 ghost use Rattle.world_forms.specs.Properties.{left_out_lines};
 ghost use Rattle.world_forms.specs.Readtables.{readtable_lines};

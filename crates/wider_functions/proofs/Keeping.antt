@@ -23,7 +23,7 @@ use Rattle.lisp_reading.specs.Reading.{Outcome as Reading, form, empty, refused}
 use Rattle.form_eval.specs.Acceptance.{accept}
 use Rattle.world_text.specs.Snapshot.{table_named}
 use Rattle.snapshot_text.specs.Covered.{are_covered}
-use Rattle.prevalence_store.specs.declared.mode.Mode.{Mode}
+use Rattle.session_words.specs.declared.mode.Mode.{Mode}
 use Rattle.prevalence_store.specs.meaning.Acceptance.{Acceptance, acceptance_of, accepted_of, accepts, after, base_in, between, form_limits, mode_of, package_in, read_in, table_in}
 use Rattle.prevalence_store.specs.meaning.Files.{IsWorldOf, MeansWorld}
 use Rattle.prevalence_store.specs.Theorem.{MeansSome}

@@ -4,7 +4,7 @@ ghost use Rattle.gate_log.specs.Layout.{LogRecord};
 ghost use Rattle.lisp_object.specs.Object.{Object};
 ghost use Rattle.lisp_reading.specs.Reading.{form};
 ghost use Rattle.plist_state.specs.State.{WorldState};
-ghost use Rattle.prevalence_store.specs.declared.mode.Mode.{Mode};
+ghost use Rattle.session_words.specs.declared.mode.Mode.{Mode};
 ghost use Rattle.prevalence_store.specs.meaning.Acceptance.{Acceptance, accepts, after, read_in};
 ghost use Rattle.user_macros.specs.Functions.{Functions};
 ghost use Rattle.wider_functions.specs.Among.{AreAmong};

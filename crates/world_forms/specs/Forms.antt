@@ -9,8 +9,8 @@ use Rattle.readtable_core.specs.declared.characters.Syntax.TheVariants.{Whitespa
 use Rattle.package_table.specs.Table.{keyword}
 use Rattle.plist_state.specs.State.{WorldState}
 use Rattle.canon_printer.specs.Written.{printed_text}
-use Rattle.world_forms.specs.declared.export.Content.{Content}
-use Rattle.world_forms.specs.declared.export.Content.TheVariants.{World, Data}
+use Rattle.session_words.specs.declared.content.Content.{Content}
+use Rattle.session_words.specs.declared.content.Content.TheVariants.{World, Data}
 use Rattle.world_forms.specs.Tokens.{line, value_text}
 use Rattle.world_forms.specs.Packages.{package_lines}
 use Rattle.world_forms.specs.Properties.{property_lines}

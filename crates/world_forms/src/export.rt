@@ -12,16 +12,8 @@ use crate::texts::{push_text, push_value};
 use package_table::standardized::KEYWORD;
 use plist_state::World;
 use readtable_core::{Readtable, Syntax};
+use session_words::Content;
 use std::alloc::{AllocError, Global};
-
-/// What of a world is exported.
-#[derive(Clone, Copy, Debug, PartialEq, Eq)]
-pub enum Content {
-    /// All of it.
-    World,
-    /// Packages and properties alone, in forms that other Lisps know.
-    Data,
-}
 
 /// The forms of a world.
 #[derive(Drop)]

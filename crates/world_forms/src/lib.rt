@@ -14,4 +14,5 @@ mod properties;
 mod readtables;
 mod texts;
 
-pub use export::{Content, Export, all_forms};
+pub use export::{Export, all_forms};
+pub use session_words::Content;

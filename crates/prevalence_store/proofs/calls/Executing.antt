@@ -20,7 +20,7 @@ use Rattle.lisp_reading.proofs.Forms.{form_framed}
 use Rattle.plist_state.specs.State.{WorldState}
 use Rattle.prevalence_store.specs.declared.failure.Failure.{Failure}
 use Rattle.prevalence_store.specs.declared.failure.Failure.TheVariants.{Refused, Full, DeviceFault, OutOfMemory}
-use Rattle.prevalence_store.specs.declared.mode.Mode.{Mode}
+use Rattle.session_words.specs.declared.mode.Mode.{Mode}
 use Rattle.prevalence_store.specs.declared.outcome.Outcome.TheVariants as outcome
 use Rattle.prevalence_store.specs.meaning.Acceptance.{Acceptance, accepts, accepted_of, acceptance_of, between, read_in, records_of, setting_in}
 use Rattle.prevalence_store.specs.steps.Failure.{failure_number, is_device, IsCause}

@@ -6,7 +6,7 @@ use Rattle.disk_trait.specs.Disk.{State, IsHonest, IsSound}
 use Rattle.disk_trait.specs.Half.{opposite_of}
 use Rattle.disk_trait.specs.declared.half.Half.{Half}
 use Rattle.gate_log.specs.Layout.{LogRecord, with_records}
-use Rattle.prevalence_store.specs.declared.mode.Mode.{Mode}
+use Rattle.session_words.specs.declared.mode.Mode.{Mode}
 use Rattle.prevalence_store.specs.declared.outcome.Ending.{Ending}
 use Rattle.prevalence_store.specs.declared.outcome.Ending.TheVariants.{End, Reader, Store}
 use Rattle.prevalence_store.specs.meaning.Acceptance.{after, read_in}

@@ -15,7 +15,7 @@ use Rattle.form_eval.proofs.Accepted.{accepted_without_base}
 use Rattle.plist_state.specs.State.{WorldState}
 use Rattle.world_text.specs.Snapshot.{snapshot_in}
 use Rattle.world_text.proofs.Versions.{text_with, third_by}
-use Rattle.prevalence_store.specs.declared.mode.Mode.{Mode}
+use Rattle.session_words.specs.declared.mode.Mode.{Mode}
 use Rattle.prevalence_store.specs.meaning.Acceptance.{Acceptance, accepted_by, acceptance_of, accepts, after, between, mode_of, read_by, read_in, rules_in_force, setting_by}
 use Rattle.prevalence_store.specs.meaning.Files.{ContentsMean, IsWorldOf, MeansWorld}
 use Rattle.prevalence_store.specs.meaning.Version1.{ContentsMean1, IsWorldOf1, MeansWorld1, accepts1, after1, rules1}

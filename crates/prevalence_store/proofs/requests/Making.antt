@@ -27,7 +27,7 @@ use Rattle.prevalence_store.specs.declared.messages.own.Own.TheVariants.{Clearin
 use Rattle.prevalence_store.specs.declared.messages.request.Request.{Request}
 use Rattle.prevalence_store.specs.declared.messages.round.Round.{Round as Held}
 use Rattle.prevalence_store.specs.declared.outcome.Outcome.{Outcome}
-use Rattle.prevalence_store.specs.declared.mode.Mode.TheVariants.{Current, Rescue}
+use Rattle.session_words.specs.declared.mode.Mode.TheVariants.{Current, Rescue}
 use Rattle.prevalence_store.specs.meaning.Acceptance.{Acceptance, accepts, after, logged, records_of}
 use Rattle.prevalence_store.specs.calls.ExecuteAll.{entries_of, left_by, told_by, told_of}
 use Rattle.prevalence_store.specs.messages.Answers.{Round, answer_in, answer_to_question, asked_in, by_number, cleared, given_in, one_request, with_answer, with_asked, with_given, with_message, with_old, with_own, wrote_by}

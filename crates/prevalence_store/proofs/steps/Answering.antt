@@ -7,11 +7,11 @@ use Rattle.lisp_object.specs.declared.refusal.TheConstants.{INPUT}
 use Rattle.plist_state.specs.State.{WorldState}
 use Rattle.form_reader.specs.Reader.{MayGoOn}
 use Rattle.prevalence_store.specs.declared.session.input.Pending.{Pending}
-use Rattle.prevalence_store.specs.declared.mode.Mode.{Mode}
+use Rattle.session_words.specs.declared.mode.Mode.{Mode}
 use Rattle.prevalence_store.specs.declared.outcome.Ended.{Ended}
 use Rattle.prevalence_store.specs.declared.outcome.Ended.TheVariants as ways
 use Rattle.prevalence_store.specs.declared.outcome.Place.{Place}
-use Rattle.prevalence_store.specs.declared.outcome.Wanted.{Wanted}
+use Rattle.session_words.specs.declared.wanted.Wanted.{Wanted}
 use Rattle.prevalence_store.specs.declared.outcome.Ending.{Ending}
 use Rattle.prevalence_store.specs.declared.outcome.Ending.TheVariants.{End, Reader, Store}
 use Rattle.prevalence_store.specs.meaning.Acceptance.{read_in}

@@ -7,13 +7,13 @@ use Rattle.form_reader.specs.Reader.{BeginsAt, IsDecidedFrom}
 use Rattle.lisp_reading.specs.Deciding.{decided_from}
 use Rattle.lisp_reading.specs.Reading.{empty, refused}
 use Rattle.plist_state.specs.State.{WorldState}
-use Rattle.prevalence_store.specs.declared.mode.Mode.{Mode}
+use Rattle.session_words.specs.declared.mode.Mode.{Mode}
 use Rattle.prevalence_store.specs.declared.outcome.Ended.{Ended}
 use Rattle.prevalence_store.specs.declared.outcome.Ended.TheVariants as ways
 use Rattle.prevalence_store.specs.declared.outcome.Ending.{Ending}
 use Rattle.prevalence_store.specs.declared.outcome.Ending.TheVariants.{End, Reader, Store}
 use Rattle.prevalence_store.specs.declared.outcome.Place.{Place}
-use Rattle.prevalence_store.specs.declared.outcome.Wanted.{Wanted}
+use Rattle.session_words.specs.declared.wanted.Wanted.{Wanted}
 use Rattle.prevalence_store.specs.declared.session.answer.Answered.{Answered}
 use Rattle.prevalence_store.specs.declared.session.answer.Answered.TheVariants.{Accepted, Refused}
 use Rattle.prevalence_store.specs.declared.session.input.Pending.{Pending}

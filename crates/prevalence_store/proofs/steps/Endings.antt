@@ -7,7 +7,7 @@ use Rattle.lisp_object.specs.declared.refusal.TheConstants.{INPUT, NO_MEMORY}
 use Rattle.form_reader.specs.Reader.{MayGoOn}
 use Rattle.lisp_reading.specs.Reading.{empty, refused}
 use Rattle.plist_state.specs.State.{WorldState}
-use Rattle.prevalence_store.specs.declared.mode.Mode.{Mode}
+use Rattle.session_words.specs.declared.mode.Mode.{Mode}
 use Rattle.prevalence_store.specs.declared.outcome.Ending.{Ending}
 use Rattle.prevalence_store.specs.declared.outcome.Ending.TheVariants.{End, Reader, Store}
 use Rattle.prevalence_store.specs.meaning.Acceptance.{read_in}

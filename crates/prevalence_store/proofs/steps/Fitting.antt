@@ -16,7 +16,7 @@ use Rattle.form_eval.specs.Laws.{IsForm}
 use Rattle.form_eval.specs.Laws as evaluator
 use Rattle.plist_state.specs.State.{WorldState}
 use Rattle.plist_state.specs.Sound as world
-use Rattle.prevalence_store.specs.declared.mode.Mode.{Mode}
+use Rattle.session_words.specs.declared.mode.Mode.{Mode}
 use Rattle.prevalence_store.specs.meaning.Acceptance.{read_in, setting_in}
 use Rattle.user_macros.specs.Functions.{Functions}
 

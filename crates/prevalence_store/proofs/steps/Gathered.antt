@@ -12,9 +12,9 @@ use Rattle.lisp_reading.specs.Reading.{Outcome as Reading, form, empty, refused}
 use Rattle.canon_printer.specs.Printed.{printed}
 use Rattle.form_eval.specs.Acceptance.{accept}
 use Rattle.plist_state.specs.State.{WorldState}
-use Rattle.prevalence_store.specs.declared.mode.Mode.{Mode}
+use Rattle.session_words.specs.declared.mode.Mode.{Mode}
 use Rattle.prevalence_store.specs.declared.outcome.Ended.TheVariants as ways
-use Rattle.prevalence_store.specs.declared.outcome.Wanted.{Wanted}
+use Rattle.session_words.specs.declared.wanted.Wanted.{Wanted}
 use Rattle.prevalence_store.specs.declared.session.gather.Gathered.{Gathered}
 use Rattle.prevalence_store.specs.declared.session.together.Grouped.TheVariants as grouped
 use Rattle.prevalence_store.specs.meaning.Acceptance.{after, between, read_in}

@@ -31,7 +31,7 @@ use Rattle.lisp_reading.proofs.Registered.{setting_same}
 use Rattle.plist_state.specs.Sound.{IsSound}
 use Rattle.plist_state.specs.State.{WorldState}
 use Rattle.prevalence_store.specs.declared.session.input.Pending.{Pending}
-use Rattle.prevalence_store.specs.declared.mode.Mode.{Mode}
+use Rattle.session_words.specs.declared.mode.Mode.{Mode}
 use Rattle.prevalence_store.specs.meaning.Acceptance.{base_in, between, form_limits, package_in, read_in, setting_in, table_in}
 use Rattle.user_macros.specs.Functions.{Functions, are_registered, named_among}
 use Rattle.prevalence_store.specs.steps.Input.{HasForm, HasRefusal, IsLastForm, IsPending}

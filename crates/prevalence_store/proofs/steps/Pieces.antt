@@ -10,7 +10,7 @@ use Rattle.plist_state.specs.State.{WorldState}
 use Rattle.form_reader.specs.Reader.{fed}
 use Rattle.lisp_reading.specs.Reading.{form}
 use Rattle.prevalence_store.specs.declared.session.input.Pending.{Pending}
-use Rattle.prevalence_store.specs.declared.mode.Mode.{Mode}
+use Rattle.session_words.specs.declared.mode.Mode.{Mode}
 use Rattle.prevalence_store.specs.declared.outcome.Ending.TheVariants.{End}
 use Rattle.prevalence_store.specs.meaning.Acceptance.{between, read_in, setting_in}
 use Rattle.user_macros.specs.Functions.{Functions}
@@ -20,7 +20,7 @@ use Rattle.prevalence_store.specs.steps.Input.{HasForm, IsLastForm, IsPending}
 use Rattle.prevalence_store.specs.calls.Serve.{Advances}
 use Rattle.prevalence_store.specs.calls.Store.{StoreView}
 use Rattle.prevalence_store.specs.steps.Serve.{GoesOn, MovesOn, ServesStrict}
-use Rattle.prevalence_store.specs.declared.outcome.Wanted.{Wanted}
+use Rattle.session_words.specs.declared.wanted.Wanted.{Wanted}
 use Rattle.prevalence_store.specs.steps.Course.{Course}
 use Rattle.prevalence_store.specs.steps.Answer.{BeginsWith, PassesForm}
 use Rattle.prevalence_store.proofs.calls.Executing.{form_places}

@@ -7,7 +7,7 @@ use Rattle.form_reader.specs.Reader.{BeginsAt}
 use Rattle.form_reader.proofs.Begun.{begins_longer, refused_begins}
 use Rattle.lisp_reading.specs.Reading.{refused}
 use Rattle.plist_state.specs.State.{WorldState}
-use Rattle.prevalence_store.specs.declared.mode.Mode.{Mode}
+use Rattle.session_words.specs.declared.mode.Mode.{Mode}
 use Rattle.prevalence_store.specs.meaning.Acceptance.{read_in, setting_in}
 use Rattle.prevalence_store.specs.calls.Serve.{IsPlace, IsRefusedFrom}
 use Rattle.user_macros.specs.Functions.{Functions}

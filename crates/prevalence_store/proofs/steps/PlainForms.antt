@@ -13,7 +13,7 @@ use Rattle.plist_state.specs.State.{WorldState}
 use Rattle.readtable_core.specs.Tables.{Table}
 use Rattle.user_macros.specs.Functions.{Functions}
 use Rattle.prevalence_store.specs.declared.session.input.Pending.{Pending}
-use Rattle.prevalence_store.specs.declared.mode.Mode.{Mode}
+use Rattle.session_words.specs.declared.mode.Mode.{Mode}
 use Rattle.prevalence_store.specs.meaning.Acceptance.{base_in, form_limits, package_in, setting_in, table_in}
 use Rattle.prevalence_store.specs.declared.session.input.Fed.TheVariants.{Form}
 use Rattle.prevalence_store.specs.declared.session.input.PlacedForm.{PlacedForm}

@@ -6,7 +6,7 @@ use Rattle.plist_state.specs.State.{WorldState}
 use Rattle.prevalence_store.specs.Theorem.{Call, Survives}
 use Rattle.prevalence_store.specs.calls.ExecuteAll.{MeansAllOrNone}
 use Rattle.prevalence_store.specs.calls.Store.{StoreView}
-use Rattle.prevalence_store.specs.declared.mode.Mode.{Mode}
+use Rattle.session_words.specs.declared.mode.Mode.{Mode}
 use Rattle.prevalence_store.specs.meaning.Acceptance.{read_in}
 use Rattle.prevalence_store.specs.meaning.Answers.{Progress, after_forms, last_line}
 use Rattle.user_macros.specs.Functions.{Functions}

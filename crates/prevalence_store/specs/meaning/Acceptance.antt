@@ -12,11 +12,12 @@ use Rattle.lisp_reading.specs.Setting.{Setting, setting_of}
 use Rattle.lisp_reading.specs.Reading.{Outcome as Reading, form, empty, refused, reads}
 use Rattle.lisp_operators.specs.Evaluation.{Evaluation}
 use Rattle.form_eval.specs.Acceptance.{accept_by}
-use Rattle.prevalence_store.specs.declared.mode.Mode.{Mode}
-use Rattle.prevalence_store.specs.declared.mode.Mode.TheVariants.{Current, Rescue}
+use Rattle.session_words.specs.declared.mode.Mode.{Mode}
+use Rattle.session_words.specs.declared.mode.Mode.TheVariants.{Current, Rescue}
 use Rattle.user_macros.specs.Functions.{Functions}
 use Rattle.lisp_object.specs.declared.refusal.TheConstants.{LIMIT}
 use Rattle.std.specs.Prelude.{◌≤◌}
+pub use Rattle.session_words.specs.Kinds.{kind_of, mode_of}
 
 -- What an accepted form gives: its value, the world that it leaves, whether it wrote anything, and the text of its object alone.
 pub record Acceptance : Type 0 where
@@ -100,14 +101,6 @@ accepts_by by functions world mode text = accepted_by by functions world text (r
 
 abbrev pub accepts : Functions → WorldState → Mode → List ℕ → Result Acceptance ℕ
 accepts functions world mode text = accepts_by rules_in_force functions world mode text
-
--- the byte that says in which mode a record is read
-abbrev pub kind_of : Mode → ℕ
-kind_of Current = 0
-kind_of Rescue = 1
-
-abbrev pub mode_of : ℕ → Mode
-mode_of kind = if kind == 0 then Current else Rescue
 
 -- the record of a form that was accepted
 abbrev pub logged : Mode → List ℕ → LogRecord

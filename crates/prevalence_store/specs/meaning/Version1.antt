@@ -10,7 +10,7 @@ use Rattle.plist_state.specs.Sound.{IsSound}
 use Rattle.snapshot_text.specs.Covered.{are_covered}
 use Rattle.world_text.specs.Snapshot.{snapshot_in}
 use Rattle.user_macros.specs.Functions.{Functions}
-use Rattle.prevalence_store.specs.declared.mode.Mode.{Mode}
+use Rattle.session_words.specs.declared.mode.Mode.{Mode}
 use Rattle.prevalence_store.specs.meaning.Acceptance.{Acceptance, Rules, accepts_by, after_by}
 
 abbrev pub rules1 : Rules

@@ -15,7 +15,7 @@ use Rattle.prevalence_store.specs.declared.messages.request.Request.{Request}
 use Rattle.prevalence_store.specs.declared.messages.request.TheConstants.{OLD_NUMBER, QUESTION_WRITES}
 use Rattle.prevalence_store.specs.declared.messages.own.Own.{Own}
 use Rattle.prevalence_store.specs.declared.messages.own.Own.TheVariants.{Clearing, Position}
-use Rattle.prevalence_store.specs.declared.mode.Mode.TheVariants.{Current, Rescue}
+use Rattle.session_words.specs.declared.mode.Mode.TheVariants.{Current, Rescue}
 use Rattle.prevalence_store.specs.meaning.Acceptance.{Acceptance, accepts, logged, read_in}
 use Rattle.prevalence_store.specs.calls.ExecuteAll.{entries_of, left_by, told_of}
 use Rattle.prevalence_store.specs.messages.Position.{own_left, own_text, position, position_property}

@@ -13,7 +13,7 @@ use Rattle.prevalence_store.specs.declared.messages.own.Own.TheVariants.{Positio
 use Rattle.prevalence_store.specs.declared.messages.request.Replies.{Replies}
 use Rattle.prevalence_store.specs.declared.messages.request.Request.{Request}
 use Rattle.prevalence_store.specs.declared.messages.request.TheConstants.{NO_POSITION}
-use Rattle.prevalence_store.specs.declared.mode.Mode.TheVariants.{Rescue}
+use Rattle.session_words.specs.declared.mode.Mode.TheVariants.{Rescue}
 use Rattle.prevalence_store.specs.declared.outcome.Outcome.TheVariants.{Refused}
 use Rattle.prevalence_store.specs.calls.Execute.{DeviceFails, Executes, IsAccepted, SurvivesAs}
 use Rattle.prevalence_store.specs.calls.ExecuteAll.{AllOrNone, LogsAll}

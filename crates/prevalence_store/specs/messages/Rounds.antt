@@ -10,7 +10,7 @@ use Rattle.package_table.specs.Symbols.{are_there}
 use Rattle.plist_state.specs.State.{WorldState}
 use Rattle.prevalence_store.specs.declared.messages.own.Own.{Own}
 use Rattle.prevalence_store.specs.declared.messages.own.Own.TheVariants.{Clearing, Position}
-use Rattle.prevalence_store.specs.declared.mode.Mode.TheVariants.{Rescue}
+use Rattle.session_words.specs.declared.mode.Mode.TheVariants.{Rescue}
 use Rattle.prevalence_store.specs.declared.messages.request.Answer.{Answer}
 use Rattle.prevalence_store.specs.declared.messages.round.Round.{Round as Held}
 use Rattle.prevalence_store.specs.meaning.Acceptance.{after, read_in}

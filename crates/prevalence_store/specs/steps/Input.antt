@@ -11,7 +11,7 @@ use Rattle.prevalence_store.specs.declared.session.input.Pending.{Pending}
 use Rattle.prevalence_store.specs.declared.session.input.Fed.{Fed}
 use Rattle.prevalence_store.specs.declared.session.input.FedPiece.{FedPiece}
 use Rattle.prevalence_store.specs.declared.session.input.Fed.TheVariants.{Nothing, Form, Refused}
-use Rattle.prevalence_store.specs.declared.mode.Mode.{Mode}
+use Rattle.session_words.specs.declared.mode.Mode.{Mode}
 use Rattle.prevalence_store.specs.meaning.Acceptance.{between, form_limits, read_in, setting_in}
 use Rattle.user_macros.specs.Functions.{Functions}
 

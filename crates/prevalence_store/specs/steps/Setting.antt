@@ -9,7 +9,7 @@ use Rattle.form_reader.specs.declared.reader.ReadOutcome.{ReadOutcome}
 use Rattle.form_reader.specs.declared.reader.ReadOutcome.TheVariants.{Form, Empty, Refused}
 use Rattle.lisp_reading.specs.Reading.{form}
 use Rattle.plist_state.specs.State.{WorldState}
-use Rattle.prevalence_store.specs.declared.mode.Mode.{Mode}
+use Rattle.session_words.specs.declared.mode.Mode.{Mode}
 use Rattle.prevalence_store.specs.declared.setting.WholeText.{WholeText}
 use Rattle.prevalence_store.specs.declared.setting.WholeText.TheVariants as whole
 use Rattle.prevalence_store.specs.meaning.Acceptance.{accepts, read_in}

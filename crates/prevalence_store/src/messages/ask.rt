@@ -9,10 +9,10 @@ ghost use Rattle.user_macros.specs.Functions.{are_registered};
 
 use crate::messages::request::QUESTION_WRITES;
 use crate::messages::texts::{text_of_number, text_of_refusal, text_of_value};
-use crate::mode::Mode;
 use crate::setting::{WholeText, read_whole};
 use form_eval::{Evaluated, EvaluationError, ReadForm, question};
 use plist_state::World;
+use session_words::Mode;
 use std::alloc::{AllocError, Global};
 use user_macros::MacroFunctions;
 

@@ -14,8 +14,7 @@ ghost use Rattle.prevalence_store.specs.steps.Standing.{AcknowledgesNone, HandsO
 
 use crate::batch::Batch;
 use crate::failure::Failure;
-use crate::mode::Mode;
-use crate::outcome::{Ended, Ending, Wanted};
+use crate::outcome::{Ended, Ending};
 use crate::recipient::Recipient;
 use crate::session::course::Course;
 use crate::session::input::PlacedForm;
@@ -26,6 +25,7 @@ use disk_trait::Disk;
 use form_eval::ReadForm;
 use lisp_object::refusal::{LOG_FULL, NO_MEMORY, OUTPUT};
 use plist_state::World;
+use session_words::{Mode, Wanted};
 use std::alloc::AllocError;
 use user_macros::MacroFunctions;
 

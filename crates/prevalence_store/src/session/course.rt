@@ -3,8 +3,9 @@ ghost use Rattle.std.specs.Prelude.{◌≡◌, ◌+◌, ◌<◌, ◌≤◌, ◌^
 ghost use Rattle.prevalence_store.specs.steps.Course.{course_of, first_course, pass, pass_all};
 ghost use Rattle.prevalence_store.specs.calls.Serve.{pace_wanted};
 
-use crate::outcome::{Place, Wanted};
+use crate::outcome::Place;
 use crate::session::schedule::Schedule;
+use session_words::Wanted;
 
 /// When the next snapshot is due, how many forms were answered, and how many bytes of the input they took.
 #[derive(Drop)]

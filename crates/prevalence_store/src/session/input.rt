@@ -6,12 +6,12 @@ ghost use Rattle.prevalence_store.specs.meaning.Acceptance.{between, form_limits
 ghost use Rattle.user_macros.specs.Functions.{Functions, are_registered};
 ghost use Rattle.prevalence_store.specs.steps.Input.{AreAllThere, IsPending, IsSoundFed, IsWithin, Feeds, Finishes, FeedsPart};
 
-use crate::mode::Mode;
 use crate::setting::{base_in, package_in, readtable_in};
 use form_eval::ReadForm;
 use form_reader::{Advance, FormReader, Limits, ReadOutcome};
 use plist_state::World;
 use readtable_core::Readtable;
+use session_words::Mode;
 use std::alloc::{AllocError, Global};
 use user_macros::MacroFunctions;
 

@@ -14,8 +14,7 @@ ghost use Rattle.prevalence_store.specs.steps.Serve.{Answers, ComesTo, EndsAt, M
 ghost use Rattle.prevalence_store.specs.steps.Standing.{AcknowledgesNone, HandsOn, StandsAtEnd, StandsInPiece};
 ghost use Rattle.user_macros.specs.Functions.{are_registered};
 
-use crate::mode::Mode;
-use crate::outcome::{Ended, Ending, Wanted};
+use crate::outcome::{Ended, Ending};
 use crate::recipient::Recipient;
 use crate::session::course::Course;
 use crate::session::input::{Fed, FedPiece, Pending};
@@ -23,6 +22,7 @@ use crate::session::together::Grouped;
 use crate::store::Store;
 use disk_trait::Disk;
 use lisp_object::refusal::{INPUT, NO_MEMORY, REOPEN};
+use session_words::{Mode, Wanted};
 use std::alloc::AllocError;
 use std::io;
 use std::io::Read;

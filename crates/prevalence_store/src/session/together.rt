@@ -10,7 +10,7 @@ ghost use Rattle.prevalence_store.specs.steps.Gather.{AnswersGroup, BeginsWhole}
 ghost use Rattle.prevalence_store.specs.steps.Standing.{AcknowledgesNone, HandsOn, StandsAtWhole};
 ghost use Rattle.user_macros.specs.Functions.{are_registered};
 
-use crate::outcome::{Ended, Wanted};
+use crate::outcome::Ended;
 use crate::recipient::Recipient;
 use crate::session::course::Course;
 use crate::session::gather::GroupLimit;
@@ -18,6 +18,7 @@ use crate::session::input::PlacedForm;
 use crate::store::Store;
 use disk_trait::Disk;
 use lisp_object::refusal::{DEVICE, OUTPUT};
+use session_words::Wanted;
 use user_macros::MacroFunctions;
 
 /// What became of a group.

@@ -14,11 +14,11 @@ use crate::messages::own::Own;
 use crate::messages::place::Place;
 use crate::messages::request::{NO_POSITION, Replies, Request};
 use crate::messages::round::Round;
-use crate::mode::Mode;
 use crate::outcome::Outcome;
 use crate::store::Store;
 use disk_trait::Disk;
 use lisp_object::refusal::{NO_MEMORY, REOPEN};
+use session_words::Mode;
 use std::alloc::AllocError;
 use user_macros::MacroFunctions;
 

@@ -6,11 +6,11 @@ ghost use Rattle.prevalence_store.specs.steps.Batch.{IsFormIn};
 
 use crate::batch::Batch;
 use crate::failure::Failure;
-use crate::mode::Mode;
 use crate::session::answer::{Reply, reply_to};
 use crate::store::Store;
 use disk_trait::Disk;
 use form_eval::ReadForm;
+use session_words::Mode;
 use user_macros::MacroFunctions;
 
 impl<D: Disk, R: MacroFunctions> Store<D, R> {

@@ -3,12 +3,12 @@ use Rattle.disk_trait.specs.Disk.{State}
 use Rattle.plist_state.specs.State.{WorldState, initial}
 use Rattle.prevalence_store.specs.calls.Serve.{ServesWanted}
 use Rattle.prevalence_store.specs.calls.Store.{StoreView}
-use Rattle.prevalence_store.specs.declared.mode.Mode.TheVariants.{Current}
+use Rattle.session_words.specs.declared.mode.Mode.TheVariants.{Current}
 use Rattle.prevalence_store.specs.declared.outcome.Ended.{Ended}
 use Rattle.prevalence_store.specs.declared.outcome.Ended.TheVariants.{End}
-use Rattle.prevalence_store.specs.declared.outcome.Wanted.{Wanted}
+use Rattle.session_words.specs.declared.wanted.Wanted.{Wanted}
 use Rattle.user_macros.specs.Functions.{Functions}
-use Rattle.world_forms.specs.declared.export.Content.TheVariants.{World}
+use Rattle.session_words.specs.declared.content.Content.TheVariants.{World}
 use Rattle.world_forms.specs.Forms.{forms}
 use Rattle.whole_export.specs.Sessions.{EndsWith}
 use Rattle.law_tests.proofs.exports.taken_in.Goals as goal

@@ -3,8 +3,8 @@ use Rattle.std.proofs.lemmas.List.{take_all}
 use Rattle.disk_trait.specs.Disk.{State}
 use Rattle.gate_log.specs.Layout.{LogRecord}
 use Rattle.plist_state.specs.State.{WorldState}
-use Rattle.prevalence_store.specs.declared.mode.Mode.{Mode}
-use Rattle.prevalence_store.specs.declared.mode.Mode.TheVariants.{Current}
+use Rattle.session_words.specs.declared.mode.Mode.{Mode}
+use Rattle.session_words.specs.declared.mode.Mode.TheVariants.{Current}
 use Rattle.prevalence_store.specs.meaning.Acceptance.{accepts, after, records_of}
 use Rattle.prevalence_store.specs.calls.Execute.{Stores}
 use Rattle.prevalence_store.specs.calls.Store.{StoreView}

@@ -10,13 +10,13 @@ ghost use Rattle.prevalence_store.specs.steps.Input.{Feeds, IsPending};
 ghost use Rattle.user_macros.specs.Functions.{Functions};
 
 use super::{Pending, PlacedForm};
-use crate::mode::Mode;
 use crate::setting::{base_in, package_in};
 use form_eval::ReadForm;
 use form_reader::Limits;
 use plain_reader::read_plain;
 use plist_state::World;
 use readtable_core::Readtable;
+use session_words::Mode;
 use std::alloc::{AllocError, Global};
 
 impl Pending {

@@ -2,8 +2,8 @@ use Rattle.std.proofs.Common.{◌≡◌, IsTrue, true, false, Bool, ℕ, [], ◌
 use Rattle.std.proofs.lemmas.Result.{IfOk-weaker}
 use Rattle.disk_trait.specs.Disk.{State}
 use Rattle.plist_state.specs.State.{WorldState}
-use Rattle.prevalence_store.specs.declared.mode.Mode.{Mode}
-use Rattle.prevalence_store.specs.declared.mode.Mode.TheVariants.{Current}
+use Rattle.session_words.specs.declared.mode.Mode.{Mode}
+use Rattle.session_words.specs.declared.mode.Mode.TheVariants.{Current}
 use Rattle.prevalence_store.specs.meaning.Acceptance.{records_of}
 use Rattle.prevalence_store.specs.calls.Execute.{Stores}
 use Rattle.user_macros.specs.Functions.{Functions}

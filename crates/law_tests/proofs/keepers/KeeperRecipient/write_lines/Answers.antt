@@ -3,7 +3,7 @@ use Rattle.std.specs.Option.{option_map}
 use Rattle.plist_state.specs.State.{WorldState, initial}
 use Rattle.prevalence_store.specs.calls.Account.{Account, with_forms}
 use Rattle.prevalence_store.specs.calls.Store.{StoreView}
-use Rattle.prevalence_store.specs.declared.mode.Mode.{Mode}
+use Rattle.session_words.specs.declared.mode.Mode.{Mode}
 use Rattle.law_tests.specs.Keepers.{kept_by}
 use Rattle.law_tests.proofs.keepers.KeeperRecipient.write_lines.Goals as goal
 

@@ -6,7 +6,7 @@ use Rattle.std.proofs.lemmas.List.Elements.{All-append, All-cons, All-nil}
 use Rattle.prevalence_store.specs.calls.Execute.{IsProperOutcome}
 use Rattle.prevalence_store.specs.declared.outcome.Outcome.{Outcome}
 use Rattle.prevalence_store.specs.declared.step.Step.{Step}
-use Rattle.prevalence_store.specs.declared.mode.Mode.TheVariants.{Current}
+use Rattle.session_words.specs.declared.mode.Mode.TheVariants.{Current}
 use Rattle.prevalence_store.specs.declared.step.Step.TheVariants.{Form}
 use Rattle.prevalence_store.specs.calls.Run.{TakesSteps}
 use Rattle.prevalence_store.proofs.Surviving.{unchanged_survives}

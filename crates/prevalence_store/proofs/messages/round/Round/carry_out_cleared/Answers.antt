@@ -1,5 +1,5 @@
 use Rattle.std.proofs.Common.{subst, sym, ◌∙◌}
-use Rattle.prevalence_store.specs.declared.mode.Mode.TheVariants as mode
+use Rattle.session_words.specs.declared.mode.Mode.TheVariants as mode
 use Rattle.prevalence_store.specs.meaning.Acceptance.{accepts}
 use Rattle.prevalence_store.specs.messages.Rounds.{IsMade, round_in}
 use Rattle.prevalence_store.proofs.requests.Making.{given_made, given_round}

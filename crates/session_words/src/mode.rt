@@ -1,6 +1,6 @@
 // How the text of a form is read.
 ghost use Rattle.std.specs.Prelude.{◌≡◌};
-ghost use Rattle.prevalence_store.specs.meaning.Acceptance.{kind_of, mode_of};
+ghost use Rattle.session_words.specs.Kinds.{kind_of, mode_of};
 
 /// How a form's text is read: under the world's current readtable, in its current package; or, to get out of a readtable
 /// that has become unusable, under the standard readtable in COMMON-LISP-USER. Evaluation and printing use the world's
@@ -13,7 +13,7 @@ pub enum Mode {
 
 impl Mode {
     /// The byte of the mode in a record.
-    pub(crate) fn kind(self) -> u8
+    pub fn kind(self) -> u8
         ensures { result ≡ kind_of self }
     {
         match self {
@@ -23,7 +23,7 @@ impl Mode {
     }
 
     /// The mode of a record with this byte.
-    pub(crate) fn of_kind(kind: u8) -> Mode
+    pub fn of_kind(kind: u8) -> Mode
         ensures { result ≡ mode_of kind }
     {
         if kind == 0 {
