@@ -30,6 +30,7 @@ use token_scan::characters;
 use user_macros::{Answer, Call, Gathered, MacroFunctions};
 
 mod answer;
+mod same;
 
 /// What a call comes to.
 #[derive(Drop)]

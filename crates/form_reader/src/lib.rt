@@ -17,7 +17,7 @@
 //!   `step/object`: one where an object may begin
 //! - `token`: one byte of a token, and what it comes to; `gather`: one of a text, a line, a block or a number
 //! - `dispatch`: macro characters and sub-characters, and how a call begins; `call`: what a call gives where it ends;
-//!   `call/answer`: which data may be answered
+//!   `call/answer`: which data may be answered; `call/same`: whether a datum is like the one before it
 //! - `value`: what open calls make of what is found
 //! - `end_of_text`: the end of the text
 //! - `laws`: `texts_begin_between_forms`, `what_is_decided_is_answered`, `wider_limits`; the other laws of reading are of

@@ -1,5 +1,5 @@
 //! Which data a function of a user may answer.
-ghost use Rattle.std.specs.Prelude.{◌≡◌, ◌&&◌, ◌+◌, ◌≤◌, nat_le, length, All, IsTrue, IfSome, MatchOption};
+ghost use Rattle.std.specs.Prelude.{◌≡◌, ◌&&◌, ◌+◌, ◌≤◌, nat_le, length, All, IsTrue, IfSome};
 ghost use Rattle.std.specs.List.{list_all, sum_by};
 ghost use Rattle.lisp_object.specs.Ascii.{is_ascii};
 ghost use Rattle.lisp_object.specs.Object.{is_nil, object_depth};
@@ -10,6 +10,7 @@ ghost use Rattle.package_table.specs.Table.{IsPackage};
 ghost use Rattle.package_table.specs.Resolving.{resolution};
 ghost use Rattle.std.specs.FinMap as finite;
 
+use crate::call::same::is_same;
 use lisp_object::{Boxed, Bytes, Datum, Items};
 use package_table::{Packages, Resolved};
 
@@ -18,6 +19,11 @@ const LONGEST_NAME: usize = 4096;
 
 // The largest size of what is answered.
 const LARGEST_ANSWER: u64 = 1_000_000;
+
+// The largest size of what is compared with what stands before it, and how many levels of lists it may have.
+const LARGEST_COMPARED: u64 = 4_096;
+
+const LEVELS_COMPARED: u64 = 16;
 
 /// Whether a datum may be answered that may have this depth: it is proper, its size is at most 1,000,000, and each symbol in
 /// it may be answered. It looks at each part once, and takes no memory.
@@ -118,53 +124,48 @@ fn all_fit(packages: &Packages, room: u64, left: &mut u64, items: &Items<Datum>)
     let items = items.as_slice();
     let mut last = None;
     for item in items {
+        let before = *left;
         if !next_fits(packages, room, left, last, item) {
             return false;
         }
-        last = Some(item);
+        last = Some((item, before - *left));
     }
     true
 }
 
-/// Whether a datum fits that comes after `last`, which does, where so many parts are left.
+/// Whether a datum fits that comes after `last`, which does and has that size, where so many parts are left.
 #[cycle(fitting)]
 fn next_fits(
     packages: &Packages,
     room: u64,
     left: &mut u64,
-    last: Option<&Datum>,
+    last: Option<(&Datum, u64)>,
     datum: &Datum,
 ) -> bool
-    requires { IfSome last (λ d. Fits packages.now.0 room d.now) }
+    requires { IfSome last (λ l. Fits packages.now.0 room l.0.now × (size l.0.now ≡ l.1)) }
     ensures fits { IsTrue result → Fits packages.now.0 room datum.now × (left.new + size datum.now ≡ left.old) }
     ensures others { Fits packages.now.0 room datum.now → size datum.now ≤ left.old → IsTrue result }
 {
-    // A symbol that a vector repeats is looked up once.
-    if is_symbol_again(last, datum) {
-        return atom_fits(left, true);
+    // What a vector repeats is looked at once, if it is small: it is compared in place of that.
+    if let Some((last, size)) = last {
+        if size <= LARGEST_COMPARED && is_same(LEVELS_COMPARED, last, datum) {
+            return parts_fit(left, size);
+        }
     }
     fits(packages, room, left, datum)
 }
 
-/// Whether a datum is the symbol that was last.
-fn is_symbol_again(last: Option<&Datum>, datum: &Datum) -> bool
-    ensures same { IsTrue result → MatchOption last.entry ⊥ (λ d. d.now ≡ datum.now) }
-    ensures size { IsTrue result → size datum.now ≡ 1 }
+/// So many parts less are left; whether they fit.
+#[inline(always)]
+fn parts_fit(left: &mut u64, parts: u64) -> bool
+    ensures fits { IsTrue result → left.new + parts ≡ left.old }
+    ensures others { parts ≤ left.old → IsTrue result }
 {
-    let Some(last) = last else {
+    if *left < parts {
         return false;
-    };
-    let Datum::Symbol {
-        package: last_home,
-        name: last_name,
-    } = last
-    else {
-        return false;
-    };
-    let Datum::Symbol { package, name } = datum else {
-        return false;
-    };
-    package.as_slice() == last_home.as_slice() && name.as_slice() == last_name.as_slice()
+    }
+    *left -= parts;
+    true
 }
 
 #[cycle(fitting)]

@@ -22,7 +22,7 @@ all_fit-loop-item-preserved t c =
         here.1,
         c.loop-item.invariant.left,
       );
-      last = here.0;
+      last = (here.0, omega (arith, here.1));
     }
 
 -- ---- lists

@@ -27,5 +27,5 @@ abbrev pub invariant-all_fit-loop-item : goal.invariant-all_fit-loop-item
 invariant-all_fit-loop-item l = record {
   fit : All (Fits l.packages.0 l.room) (take l.item-index l.items);
   left : l.left + sum_by size (take l.item-index l.items) ≡ l.fn.left;
-  last : IfSome l.last (λ d. Fits l.packages.0 l.room d.now);
+  last : IfSome l.last (λ p. Fits l.packages.0 l.room p.0.now × (size p.0.now ≡ p.1));
 }
