@@ -112,17 +112,19 @@ static void bad_arguments(void) {
 static void long_texts(void) {
     pazturrok_store store = opened("long");
     const size_t limit = 1048576;
-    char *text = malloc(limit + 2);
+    char *text = malloc(limit), *over = malloc(limit + 1);
     pazturrok_outcome outcomes[3];
-    if (!text) return;
-    memset(text, 'x', limit + 2);
-    text[0] = text[limit - 1] = '"';
-    pazturrok_message messages[3] = {{1, text, limit}, {2, text, limit + 1}, {3, text, limit}};
+    if (!text || !over) return;
+    memset(text, 'x', limit);
+    memset(over, 'x', limit + 1);
+    text[0] = text[limit - 1] = over[0] = over[limit] = '"';
+    pazturrok_message messages[3] = {{1, text, limit}, {2, over, limit + 1}, {3, text, limit}};
     EXPECT(pazturrok_do(store, messages, 3, outcomes) == 0 && outcomes[1].number == 23);
     EXPECT(outcomes[2].length == limit && memcmp(outcomes[2].answer, text, limit) == 0 && outcomes[2].answer[limit] == 0);
     EXPECT(memcmp(outcomes[0].answer, text, limit) == 0 && outcomes[0].answer[limit] == 0);
     EXPECT(asks(store, "'|! 31 X|", 0, "|! 31 X|") && asks(store, "'!", 0, "!"));
     free(text);
+    free(over);
     EXPECT(pazturrok_close(store) == 0);
 }
 

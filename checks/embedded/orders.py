@@ -174,6 +174,7 @@ class Course:
 
     def look_at_position(self, again, found):
         """All that messages under way wrote is there with their position, or nothing of them."""
+        again.orders()
         _, position = again.execute(b"(GET '|position| '|position|)")
         position = 0 if position == b"NIL" else int(position)
         allowed = self.messages or [(found, self.position)]

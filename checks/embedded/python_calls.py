@@ -163,7 +163,7 @@ class Embedded(unittest.TestCase):
         with self.assertRaises(ClosedStoreError):
             feed.do("1")
         again = self.feed()
-        self.assertEqual((again.position, again.ask("(GET 'COMMON-LISP-USER::N 'COMMON-LISP-USER::N)")), (position, 5002))
+        self.assertEqual((again.position, again.ask("(COMMON-LISP:GET 'COMMON-LISP-USER::N 'COMMON-LISP-USER::N)")), (position, 5002))
         with self.assertRaises(FaultError):
             self.feed()
 

@@ -1,5 +1,5 @@
 -- Messages and questions whose texts are joined, and what is told of their answers.
-use Rattle.std.specs.Prelude.{ℕ, ◌-◌, Bool, true, false, if◌then◌else◌, List, [], ◌∷◌, take, drop, Option, None, Some}
+use Rattle.std.specs.Prelude.{ℕ, ◌-◌, if◌then◌else◌, List, [], ◌∷◌, take, drop, Option, None, Some}
 use Rattle.pazturrok_c.specs.Engine.{told}
 use Rattle.pazturrok_c.specs.declared.done.RequestHead.{RequestHead}
 use Rattle.prevalence_store.specs.declared.messages.request.Answer.{Answer}
