@@ -87,7 +87,7 @@ fn serve_words<M: MacroFunctions + Drop, F: Write>(
         return run_messages(&folders, macros, words, &mut input, &mut output, faults);
     }
     match way_of(words) {
-        Way::Look => look(rt, macros, words, &mut output, faults),
+        Way::Look => look(rt, &Looking::new(rt), macros, words, &mut output, faults),
         Way::Check => {
             let mut input = Uninterrupted::new(rt.stdin());
             check(rt, macros, words, &mut input, &mut output, faults)
