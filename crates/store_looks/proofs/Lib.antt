@@ -1,1 +1,4 @@
-mod Printing
+pub mod CheckedTexts
+pub mod Looking
+pub mod Printing
+pub mod Refusals

@@ -1,1 +1,4 @@
+pub mod Checked
 pub mod Looks
+pub mod Told
+pub mod Unlooked

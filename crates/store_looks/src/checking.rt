@@ -1,8 +1,17 @@
 // Which forms of a file cannot be read.
-ghost use Rattle.std.specs.Prelude.{◌≡◌, IfOk};
+ghost use Rattle.std.specs.Prelude.{◌≡◌, ◌++◌, decimal, IfErr, IfOk, IfSome, List, OnOk, map};
+ghost use Rattle.std.specs.List.{flat_map};
+ghost use Rattle.command_words.specs.LookLine.{text_of as borrowed_text};
+ghost use Rattle.diagnostics.specs.Refusals.{line_of};
+ghost use Rattle.diagnostics.specs.declared.refusal.Refusal.{Refusal as Refused};
+ghost use Rattle.log_look.specs.declared.sight.Sight.{Sight as Seen};
+ghost use Rattle.plist_state.specs.Sound.{IsSound as IsSoundState};
+ghost use Rattle.world_text.specs.Snapshot.{snapshot};
 ghost use Rattle.store_commands.specs.Status.{IsQuiet};
 ghost use Rattle.store_commands.specs.Told.{TellsFault};
 ghost use Rattle.store_commands.specs.declared.told.Told.{Told};
+ghost use Rattle.store_looks.specs.Checked.{AreRefusalsOf, Checks, EndsSo, FindsIn, IsCheckText, IsRefusalOf, IsTextOf, IsWorldOf, TellsForms, counts_line};
+ghost use Rattle.store_looks.specs.Told.{Has};
 
 use crate::looks::{end_unlooked, opened, sight_of};
 use crate::unlooked::Unlooked;
@@ -10,8 +19,9 @@ use command_words::{Check, checked_in};
 use diagnostics::{Refusal, Spot, Spots, write_out, write_refusal};
 use form_check::{Checked, Under, Unreadable};
 use lisp_object::refusal::{DAMAGED, INPUT, NO_MEMORY, OUTPUT};
+use log_look::Sight;
 use plist_state::{Seed, World};
-use prevalence_store::Place;
+use prevalence_store::{Place, Store};
 use snapshot_text::SnapshotError;
 use std::alloc::{AllocError, Global};
 use std::convert::AsStr;
@@ -21,7 +31,7 @@ use std::io::{ErrorKind, Read, Write};
 use std::path::Path;
 use std::random::RandomSource;
 use std::rt::Files;
-use store_commands::{Status, answer_words, end_with};
+use store_commands::{Looking, Status, answer_words, end_with};
 use user_macros::MacroFunctions;
 
 /// The version of the text of a world as it is written.
@@ -48,6 +58,8 @@ where
     O: Write,
     F: Write,
     requires answers { M.answers macros }
+    ensures checks { Checks M.Meaning.functions (M.functions macros) macros (I.remaining input.old)
+        (O.contents output.old) (O.contents output.new) (map S.text words.now) result }
     ensures told { (told : Told) × TellsFault result told (F.contents faults.old) (F.contents faults.new) }
     ensures quiet { IsQuiet result → faults.new ≡ faults.old }
 {
@@ -77,20 +89,44 @@ where
     I: Read,
     O: Write,
     requires answers { M.answers macros }
+    ensures tells { IfOk result (TellsForms M.Meaning.functions (M.functions macros) macros (I.remaining input.old)
+        (O.contents output.old) (O.contents output.new) asked.entry) }
+    ensures refused { IfErr result (λ _. output.new ≡ output.old) }
 {
     let alloc = rt.alloc();
-    let text = match asked.file {
-        Some(file) => read_file(rt, file)?,
-        None => read_input(alloc, input)?,
-    };
+    let text = text_of(rt, asked.file, input)?;
     let (world, macros) = world_of(rt, macros, asked.store)?;
     let found = check_in(alloc, &world, &macros, text.as_slice())?;
     let lines = lines_of(alloc, text.as_slice(), &found)?;
-    Ok(match write_out(output, lines.as_slice()) {
-        Ok(()) if found.unreadable.is_empty() => Status::Done,
+    let unreadable = found.unreadable.as_slice();
+    let all_are_readable = unreadable.is_empty();
+    Ok(write_lines(output, lines.as_slice(), all_are_readable))
+}
+
+// Writes what is told, and flushes it.
+#[tactic(auto, unfolding(crate::specs::Checked::EndsSo))]
+fn write_lines<O: Write>(output: &mut O, lines: &[u8], all_are_readable: bool) -> Status
+    ensures { EndsSo all_are_readable (O.contents output.old) (O.contents output.new) lines.now result }
+{
+    match write_out(output, lines) {
+        Ok(()) if all_are_readable => Status::Done,
         Ok(()) => Status::FormRefused,
         Err(_) => Status::Fault(OUTPUT),
-    })
+    }
+}
+
+// The bytes of the file, or of the input.
+#[tactic(auto, unfolding(crate::specs::Checked::IsTextOf))]
+fn text_of<R, I>(rt: &R, file: Option<&str>, input: &mut I) -> Result<Vec<u8>, Unlooked>
+where
+    R: Files<File = File> + AllocGlobal,
+    I: Read,
+    ensures { IfOk result (λ text. IsTextOf (borrowed_text file.entry) (I.remaining input.old) text.items) }
+{
+    match file {
+        Some(file) => read_file(rt, file),
+        None => read_input(rt.alloc(), input),
+    }
 }
 
 // The bytes of a file.
@@ -103,7 +139,9 @@ fn read_file<R: Files<File = File> + AllocGlobal>(rt: &R, file: &str) -> Result<
 }
 
 // The bytes of the input.
-fn read_input<I: Read>(alloc: Global, input: &mut I) -> Result<Vec<u8>, Unlooked> {
+fn read_input<I: Read>(alloc: Global, input: &mut I) -> Result<Vec<u8>, Unlooked>
+    ensures { IfOk result (λ text. IfSome (I.remaining input.old) (λ all. text.items ≡ all)) }
+{
     let mut text = Vec::new(alloc);
     match input.read_to_end(&mut text) {
         Ok(_) => Ok(text),
@@ -113,12 +151,14 @@ fn read_input<I: Read>(alloc: Global, input: &mut I) -> Result<Vec<u8>, Unlooked
 }
 
 // The world under which a text is read: that of the store in this folder, or of a new one. The macro functions are given back.
+#[tactic(auto, unfolding(crate::specs::Checked::IsWorldOf))]
 fn world_of<R, M>(rt: &R, macros: M, store: Option<&str>) -> Result<(World, M), Unlooked>
 where
     R: Files<File = File> + RandomSource + AllocGlobal,
     M: MacroFunctions + Drop,
     requires answers { M.answers macros }
-    ensures answers { IfOk result (λ p. M.answers p.1) }
+    ensures macros { IfOk result (λ p. p.1 ≡ macros) }
+    ensures world { IfOk result (λ p. IsWorldOf M.Meaning.functions macros (borrowed_text store.entry) p.0.0) }
 {
     let Ok(seed) = Seed::draw(rt) else {
         return Err(Unlooked::Fault(INPUT));
@@ -135,16 +175,14 @@ where
     R: Files<File = File> + RandomSource + AllocGlobal,
     M: MacroFunctions + Drop,
     requires answers { M.answers macros }
-    ensures answers { IfOk result (λ p. M.answers p.1) }
+    ensures macros { IfOk result (λ p. p.1 ≡ macros) }
+    ensures world { IfOk result (λ p. (sight : Seen) × Has M.Meaning.functions macros (λ had. p.0.0 ≡ had) sight) }
 {
     let alloc = rt.alloc();
-    let sight = sight_of(rt, folder)?;
+    let sight = sight_of(&Looking::new(rt), folder)?;
     let store = opened(alloc, sight, macros, seed)?;
     // the store keeps its world, so a copy is made, by way of its text
-    let text = match store.world() {
-        Some(world) => snapshot_text::write(alloc, world),
-        None => Err(AllocError),
-    };
+    let text = world_text(alloc, &store);
     let (_sight, macros) = store.close();
     match snapshot_text::read(alloc, VERSION, text?.as_slice(), &macros) {
         Ok(world) => Ok((world, macros)),
@@ -153,7 +191,25 @@ where
     }
 }
 
+// The text of the world of an open store.
+fn world_text<M: MacroFunctions>(
+    alloc: Global,
+    store: &Store<Sight, M>,
+) -> Result<Vec<u8>, AllocError>
+    ensures { IfSome store.now.world (λ world. IsSoundState world
+        × IfOk result (λ text. text.items ≡ snapshot world)) }
+{
+    match store.world() {
+        Some(world) => {
+            world.soundness();
+            snapshot_text::write(alloc, world)
+        }
+        None => Err(AllocError),
+    }
+}
+
 // The forms of a text that cannot be read in a world.
+#[tactic(auto, unfolding(crate::specs::Checked::FindsIn))]
 fn check_in<M: MacroFunctions>(
     alloc: Global,
     world: &World,
@@ -161,6 +217,8 @@ fn check_in<M: MacroFunctions>(
     text: &[u8],
 ) -> Result<Checked, AllocError>
     requires answers { M.answers macros.now }
+    ensures { IfOk result (λ found. FindsIn (M.functions macros.now) world.now.0 text.now
+        (found.forms, found.unreadable.items)) }
 {
     world.soundness();
     let under = Under {
@@ -173,23 +231,60 @@ fn check_in<M: MacroFunctions>(
 }
 
 // What is told of a text: a line on each form that cannot be read, and one with how many there are.
-fn lines_of(alloc: Global, text: &[u8], found: &Checked) -> Result<Vec<u8>, AllocError> {
+fn lines_of(alloc: Global, text: &[u8], found: &Checked) -> Result<Vec<u8>, AllocError>
+    ensures { IfOk result (λ lines. IsCheckText (found.now.forms, found.now.unreadable.items) lines.items) }
+{
     let mut lines = Vec::new(alloc);
+    push_refusals(&mut lines, text, found.unreadable.as_slice())?;
+    let unreadable = found.unreadable.len();
+    push_counts(alloc, &mut lines, found.forms, unreadable)?;
+    Ok(lines)
+}
+
+// Adds the line on how many forms there are, and how many of them cannot be read.
+fn push_counts(
+    alloc: Global,
+    lines: &mut Vec<u8>,
+    forms: usize,
+    unreadable: usize,
+) -> Result<(), AllocError>
+    ensures { OnOk result (lines.new.items ≡ lines.old.items ++ counts_line forms unreadable) }
+{
+    lines.extend_from_slice(b"forms ")?;
+    push_number(alloc, lines, forms)?;
+    lines.extend_from_slice(b" unreadable ")?;
+    push_number(alloc, lines, unreadable)?;
+    lines.push(b'\n')?;
+    Ok(())
+}
+
+fn push_number(alloc: Global, lines: &mut Vec<u8>, number: usize) -> Result<(), AllocError>
+    ensures { OnOk result (lines.new.items ≡ lines.old.items ++ decimal number) }
+{
+    let digits = format!(in alloc; "{number}")?;
+    lines.extend_from_slice(digits.as_bytes())
+}
+
+// Adds a line on each form that cannot be read.
+fn push_refusals(
+    lines: &mut Vec<u8>,
+    text: &[u8],
+    unreadable: &[Unreadable],
+) -> Result<(), AllocError>
+    ensures { OnOk result ((refusals : List Refused) × AreRefusalsOf unreadable.now refusals
+        × (lines.new.items ≡ lines.old.items ++ flat_map line_of refusals)) }
+{
     let mut spot = Some(Spot::first());
     let mut passed = 0;
-    for one in &found.unreadable {
+    for one in unreadable {
         let spots = spots_of(text, spot, passed, one);
         let refusal = refusal_of(one, spots);
-        if write_refusal(&mut lines, &refusal).is_err() {
+        let Ok(()) = write_refusal(lines, &refusal) else {
             return Err(AllocError);
-        }
+        };
         (spot, passed) = (spots.map(|spots| spots.at), one.at);
     }
-    let (forms, unreadable) = (found.forms, found.unreadable.len());
-    if writeln!(lines, "forms {forms} unreadable {unreadable}").is_err() {
-        return Err(AllocError);
-    }
-    Ok(lines)
+    Ok(())
 }
 
 // The lines of a form that cannot be read, from a place of the text on.
@@ -199,7 +294,9 @@ fn spots_of(text: &[u8], spot: Option<Spot>, passed: usize, one: &Unreadable) ->
     Some(Spots { start, at })
 }
 
-fn refusal_of(one: &Unreadable, spots: Option<Spots>) -> Refusal {
+fn refusal_of(one: &Unreadable, spots: Option<Spots>) -> Refusal
+    ensures { IsRefusalOf one.now result }
+{
     Refusal {
         number: one.number,
         place: Place {

@@ -1,14 +1,16 @@
 //! The commands that look, and change nothing.
 //!
-//! - `look` looks into the store of a folder: `show`, `info`, `log`, `backup`, and `dump --at N` (module `looks`, over `log_look` and
-//!   `store_reports`; `unlooked` says why nothing is told).
+//! - `look` looks into the store of a folder: `show`, `info`, `log`, `backup`, and `dump --at N` (modules `looks`, `showing` and
+//!   `figures`, over `log_look` and `store_reports`; `unlooked` says why nothing is told).
 //! - `check` tells which forms of a file cannot be read (module `checking`, over `form_check`).
 //!
 //! `dump`, `verify` and `export` with `--existing` only look too: they are `program` of `store_commands` over a `Looking`.
 #![tactic(auto)]
 
 mod checking;
+mod figures;
 mod looks;
+mod showing;
 mod unlooked;
 
 pub use checking::check;

@@ -1,56 +1,75 @@
 // Looks into the store of a folder: what is told of it with no lock and no right to write, also while it is served.
-ghost use Rattle.std.specs.Prelude.{◌≡◌, ◌<◌, ◌-◌, ◌^◌, IfOk, IfErr};
+ghost use Rattle.std.specs.Prelude.{◌≡◌, ◌<◌, ◌-◌, ◌^◌, true, map, IfErr, IfOk, MatchResult};
+ghost use Rattle.command_words.specs.declared.looks.Look.TheVariants as looking;
 ghost use Rattle.store_commands.specs.Status.{IsQuiet};
 ghost use Rattle.store_commands.specs.Told.{TellsFault};
 ghost use Rattle.store_commands.specs.declared.told.Told.{Told};
-ghost use Rattle.store_looks.specs.Looks.{EndsUnlooked, Prints, PrintsText};
+ghost use Rattle.prevalence_store.specs.calls.Open.{IsOpened};
+ghost use Rattle.store_commands.specs.Session.{half_limit};
+ghost use Rattle.store_commands.specs.Texts.{TellsText};
+ghost use Rattle.store_looks.specs.Looks.{EndsUnlooked, Prints};
+ghost use Rattle.store_looks.specs.Told.{BacksUp, Looks, LooksAt, Sees, TellsLog, TellsLook, Unopens, WithholdsLog, WithholdsLook};
+ghost use Rattle.store_looks.specs.Unlooked.{status_of};
+ghost use Rattle.user_macros.specs.Functions.{are_registered};
 
+use crate::figures::info_on;
+use crate::showing::show_on;
 use crate::unlooked::Unlooked;
-use command_words::{Look, Looked, Report, Shown, looked_in};
+use command_words::{Look, Looked, RecordPlace, Records, Report, looked_in};
 use diagnostics::write_out;
 use disk_trait::{Disk, HostError};
-use lisp_object::refusal::{INPUT, NO_MEMORY};
-use log_look::{HostFiles, Sight, cut_after, look_into};
+use lisp_object::refusal::INPUT;
+use log_look::{Sight, cut_after};
 use plist_state::Seed;
 use prevalence_store::Store;
-use std::alloc::{AllocError, Global};
+use std::alloc::Global;
 use std::convert::AsStr;
 use std::fmt::{Display, Write as WriteText};
 use std::fs::File;
-use std::io;
 use std::io::Write;
 use std::random::RandomSource;
 use std::rt::Files;
 use std::time::Clock;
 use store_commands::{
-    HALF_LIMIT, Status, Told, answer_words, end_with, end_with_told, holds_store, report_on,
-    status_of_output,
+    Folders, HALF_LIMIT, Status, TellsCause, Told, answer_words, end_with, end_with_told,
+    open_folder, report_on, status_of_output,
 };
-use store_reports::{
-    BackupError, Layout, LogPart, Selection, ShowError, backup, half_figures, info, log_lines, show,
-};
+use store_reports::{BackupError, LogPart, backup, log_lines};
 use user_macros::MacroFunctions;
 
 /// Looks into the store in a folder, as the words ask (`Way::Look` of `command_words`), and answers how that ended. The first word is the
-/// program's name. No file of the store is locked, made or written, and nothing is read but these.
+/// program's name. The folder is opened by `folders`, of which nothing is locked, made or written.
 ///
-/// What was asked for and is not there, as a package, a record or a free place for a backup, is status 2, with a sentence on `faults`, and
-/// nothing is written to `output` then, nor after a fault but one of the output.
+/// What is told is the text of what was asked for, of the sight that this opening gave (`Looks`). What was asked for and is not there, as a
+/// package, a record or a free place for a backup, is status 2, with a sentence on `faults`, and nothing is written to `output` then, nor
+/// after a fault but one of the output.
 #[tactic(auto, using(crate::proofs::Printing::text_told, crate::proofs::Printing::nothing_told, crate::proofs::Printing::words_told))]
-pub fn look<R, M, S, O, F>(rt: &R, macros: M, words: &[S], output: &mut O, faults: &mut F) -> Status
+pub fn look<R, L, M, S, O, F>(
+    rt: &R,
+    folders: &L,
+    macros: M,
+    words: &[S],
+    output: &mut O,
+    faults: &mut F,
+) -> Status
 where
     R: Files<File = File> + RandomSource + Clock + AllocGlobal,
+    L: Folders<Disk = Sight>,
     M: MacroFunctions + Drop,
     S: AsStr,
     O: Write,
     F: Write,
     requires answers { M.answers macros }
     ensures prints { Prints O.contents output.old output.new result }
+    ensures looks { Looks M.Meaning.functions macros
+        (are_registered M.Meaning.functions (M.functions macros))
+        (Sees ⟦<Sight as TellsCause>⟧.tells (L.opens folders.now))
+        (map S.text words.now) (O.contents output.old) (O.contents output.new) result }
     ensures told { (told : Told) × TellsFault result told (F.contents faults.old) (F.contents faults.new) }
     ensures quiet { IsQuiet result → faults.new ≡ faults.old }
 {
     match looked_in(rt.alloc(), words) {
-        Ok(looked) => match look_at(rt, macros, looked, output) {
+        Ok(looked) => match look_at(rt, folders, macros, looked, output) {
             Ok(status) => end_with(faults, status),
             Err(unlooked) => end_unlooked(faults, unlooked),
         },
@@ -66,6 +85,7 @@ pub(crate) fn end_unlooked<F: Write>(faults: &mut F, unlooked: Unlooked) -> Stat
     ensures told { (told : Told) × TellsFault result told (F.contents faults.old) (F.contents faults.new) }
     ensures quiet { IsQuiet result → faults.new ≡ faults.old }
     ensures refused { EndsUnlooked result }
+    ensures status { result ≡ status_of unlooked }
 {
     match unlooked {
         Unlooked::Fault(number) => end_with(faults, Status::Fault(number)),
@@ -100,88 +120,90 @@ fn tell_error<F: Write, E: Display>(faults: &mut F, error: &E) {
 }
 
 // What the files of a folder hold at one moment, of which one is a half in use.
-pub(crate) fn sight_of<R: Files<File = File> + AllocGlobal>(
-    rt: &R,
+#[tactic(auto, unfolding(crate::specs::Told::Sees))]
+pub(crate) fn sight_of<L: Folders<Disk = Sight>>(
+    folders: &L,
     folder: &str,
 ) -> Result<Sight, HostError>
-    ensures { IfOk result (λ sight. (⟦<Sight as Disk>⟧.state sight).failures < 2 ^ 64 - 1) }
+    ensures room { IfOk result (λ sight. (⟦<Sight as Disk>⟧.state sight).failures ≡ 0) }
+    ensures sees { Sees ⟦<Sight as TellsCause>⟧.tells (L.opens folders.now) folder.now result }
 {
-    let mut sight = look_into(rt, folder)?;
-    // a store in which neither half is open would be begun anew
-    match holds_store(&mut sight) {
-        Ok(true) => usable(sight),
-        Ok(false) => Err(HostError::NoStore),
-        Err(_) => Err(HostError::System(io::ErrorKind::Other.into())),
-    }
-}
-
-// A sight of which calls may fail once more: it counts its failures.
-fn usable(sight: Sight) -> Result<Sight, HostError>
-    ensures { IfOk result (λ usable. (⟦<Sight as Disk>⟧.state usable).failures < 2 ^ 64 - 1) }
-{
-    if sight.failures() == u64::MAX {
-        return Err(HostError::System(io::ErrorKind::Other.into()));
-    }
-    Ok(sight)
+    open_folder(folders, folder, true)
 }
 
 // Tells of the store in a folder what is asked for.
-fn look_at<R, M, O>(
+fn look_at<R, L, M, O>(
     rt: &R,
+    folders: &L,
     macros: M,
     looked: Looked<'_>,
     output: &mut O,
 ) -> Result<Status, Unlooked>
 where
     R: Files<File = File> + RandomSource + Clock + AllocGlobal,
+    L: Folders<Disk = Sight>,
     M: MacroFunctions + Drop,
     O: Write,
     requires answers { M.answers macros }
-    ensures prints { IfOk result (PrintsText (O.contents output.old) (O.contents output.new)) }
     ensures refused { IfErr result (λ _. output.new ≡ output.old) }
+    ensures looks { LooksAt M.Meaning.functions macros
+        (are_registered M.Meaning.functions (M.functions macros))
+        (Sees ⟦<Sight as TellsCause>⟧.tells (L.opens folders.now))
+        looked.entry.folder.now looked.entry.look (O.contents output.old) (O.contents output.new) result }
 {
-    let alloc = rt.alloc();
     let Ok(seed) = Seed::draw(rt) else {
         return Err(Unlooked::Fault(INPUT));
     };
-    let sight = sight_of(rt, looked.folder)?;
+    match sight_of(folders, looked.folder) {
+        Ok(sight) => look_into(rt, sight, macros, seed, looked, output),
+        Err(error) => Err(Unlooked::Host(error)),
+    }
+}
+
+// Tells of what was seen of a store what is asked for.
+fn look_into<R, M, O>(
+    rt: &R,
+    sight: Sight,
+    macros: M,
+    seed: Seed,
+    looked: Looked<'_>,
+    output: &mut O,
+) -> Result<Status, Unlooked>
+where
+    R: Files<File = File> + Clock + AllocGlobal,
+    M: MacroFunctions + Drop,
+    O: Write,
+    requires answers { M.answers macros }
+    requires room { (⟦<Sight as Disk>⟧.state sight).failures < 2 ^ 64 - 1 }
+    ensures refused { IfErr result (λ _. output.new ≡ output.old) }
+    ensures looks { MatchResult result
+        (TellsLook M.Meaning.functions macros (O.contents output.old) (O.contents output.new) looked.entry.look sight)
+        (WithholdsLook M.Meaning.functions macros
+        (are_registered M.Meaning.functions (M.functions macros)) looked.entry.look sight) }
+{
     match looked.look {
-        Look::Dump(place) => {
-            let cut = usable(cut_after(alloc, sight, place.number, place.generation)?)?;
-            dump(alloc, cut, macros, seed, output)
-        }
-        Look::Show(shown) => show_on(alloc, sight, macros, seed, shown, output),
+        Look::Dump(place) => dump(rt.alloc(), sight, macros, seed, place, output),
+        Look::Show(shown) => show_on(rt.alloc(), sight, macros, seed, shown, output),
         Look::Info => info_on(rt, looked.folder, sight, macros, seed, output),
-        Look::Log(records) => {
-            let part = LogPart {
-                from: records.from.number,
-                generation: records.from.generation,
-                with_generation: records.places,
-            };
-            let lines = log_lines(alloc, sight, &part)?;
-            write_told(output, lines.as_slice())
-        }
-        Look::Backup(to) => {
-            back_up(rt, sight, macros, seed, to)?;
-            Ok(Status::Done)
-        }
+        Look::Log(records) => log_on(rt.alloc(), sight, records, output),
+        Look::Backup(to) => back_up(rt, sight, macros, seed, to),
     }
 }
 
 // Writes what is told, and flushes it.
-fn write_told<O: Write>(output: &mut O, text: &[u8]) -> Result<Status, Unlooked>
-    ensures prints { IfOk result (PrintsText (O.contents output.old) (O.contents output.new)) }
-    ensures refused { IfErr result (λ _. output.new ≡ output.old) }
+pub(crate) fn write_told<O: Write>(output: &mut O, text: &[u8]) -> Status
+    ensures { TellsText result (O.contents output.old) (O.contents output.new) text.now }
 {
-    Ok(status_of_output(write_out(output, text)))
+    status_of_output(write_out(output, text))
 }
 
-// Writes the text of the world of a store that was seen.
+// Writes the text of the world of a store that was seen, after so many of its records.
 fn dump<M, O>(
     alloc: Global,
     sight: Sight,
     macros: M,
     seed: Seed,
+    place: RecordPlace,
     output: &mut O,
 ) -> Result<Status, Unlooked>
 where
@@ -189,13 +211,38 @@ where
     O: Write,
     requires answers { M.answers macros }
     requires room { (⟦<Sight as Disk>⟧.state sight).failures < 2 ^ 64 - 1 }
-    ensures prints { IfOk result (PrintsText (O.contents output.old) (O.contents output.new)) }
     ensures refused { IfErr result (λ _. output.new ≡ output.old) }
+    ensures looks { MatchResult result
+        (TellsLook M.Meaning.functions macros (O.contents output.old) (O.contents output.new) (looking.Dump place) sight)
+        (WithholdsLook M.Meaning.functions macros
+        (are_registered M.Meaning.functions (M.functions macros)) (looking.Dump place) sight) }
 {
-    match report_on(alloc, sight, macros, seed, Report::Dump, output) {
+    let cut = cut_after(alloc, sight, place.number, place.generation)?;
+    match report_on(alloc, cut, macros, seed, Report::Dump, output) {
         Ok((status, _sight, _macros)) => Ok(status),
         Err(unopened) => Err(Unlooked::Fault(unopened.number)),
     }
+}
+
+// Writes the lines of records.
+fn log_on<O: Write>(
+    alloc: Global,
+    sight: Sight,
+    records: Records,
+    output: &mut O,
+) -> Result<Status, Unlooked>
+    requires room { (⟦<Sight as Disk>⟧.state sight).failures < 2 ^ 64 - 1 }
+    ensures refused { IfErr result (λ _. output.new ≡ output.old) }
+    ensures lines { IfOk result (TellsLog (O.contents output.old) (O.contents output.new) records sight) }
+    ensures none { IfErr result (WithholdsLog records sight) }
+{
+    let part = LogPart {
+        from: records.from.number,
+        generation: records.from.generation,
+        with_generation: records.places,
+    };
+    let lines = log_lines(alloc, sight, &part)?;
+    Ok(write_told(output, lines.as_slice()))
 }
 
 // The store that was seen, opened in memory.
@@ -208,6 +255,9 @@ pub(crate) fn opened<M: MacroFunctions + Drop>(
     requires answers { M.answers macros }
     requires room { (⟦<Sight as Disk>⟧.state sight).failures < 2 ^ 64 - 1 }
     ensures macros { IfOk result (λ store. M.answers store.macros) }
+    ensures opened { IfOk result (λ store. IsOpened M.Meaning.functions ⟦<Sight as Disk>⟧.state sight macros half_limit store) }
+    ensures refused { IfErr result (Unopens M.Meaning.functions
+        (are_registered M.Meaning.functions (M.functions macros)) sight) }
 {
     match Store::open_with_seed(alloc, sight, macros, HALF_LIMIT, seed) {
         Ok(store) => Ok(store),
@@ -215,101 +265,14 @@ pub(crate) fn opened<M: MacroFunctions + Drop>(
     }
 }
 
-// Shows properties.
-fn show_on<M, O>(
-    alloc: Global,
-    sight: Sight,
-    macros: M,
-    seed: Seed,
-    shown: Shown<'_>,
-    output: &mut O,
-) -> Result<Status, Unlooked>
-where
-    M: MacroFunctions + Drop,
-    O: Write,
-    requires answers { M.answers macros }
-    requires room { (⟦<Sight as Disk>⟧.state sight).failures < 2 ^ 64 - 1 }
-    ensures prints { IfOk result (PrintsText (O.contents output.old) (O.contents output.new)) }
-    ensures refused { IfErr result (λ _. output.new ≡ output.old) }
-{
-    let store = opened(alloc, sight, macros, seed)?;
-    let text = shown_text(alloc, &store, shown);
-    let _ = store.close();
-    write_told(output, text?.as_slice())
-}
-
-// The properties that are asked for.
-fn shown_text<M: MacroFunctions>(
-    alloc: Global,
-    store: &Store<Sight, M>,
-    shown: Shown<'_>,
-) -> Result<Vec<u8>, ShowError> {
-    let Some(world) = store.world() else {
-        return Ok(Vec::new(alloc));
-    };
-    let layout = if shown.forms {
-        Layout::Forms
-    } else {
-        Layout::Lines
-    };
-    let selection = Selection {
-        package: bytes_of(shown.package),
-        indicator: bytes_of(shown.indicator),
-        like: bytes_of(shown.like),
-        layout,
-    };
-    show(alloc, world, &selection)
-}
-
-fn bytes_of(name: Option<&str>) -> Option<&[u8]> {
-    match name {
-        Some(name) => Some(name.as_bytes()),
-        None => None,
-    }
-}
-
-// Tells figures of the store and of its files.
-fn info_on<R, M, O>(
-    rt: &R,
-    folder: &str,
-    sight: Sight,
-    macros: M,
-    seed: Seed,
-    output: &mut O,
-) -> Result<Status, Unlooked>
-where
-    R: Files<File = File> + Clock + AllocGlobal,
-    M: MacroFunctions + Drop,
-    O: Write,
-    requires answers { M.answers macros }
-    requires room { (⟦<Sight as Disk>⟧.state sight).failures < 2 ^ 64 - 1 }
-    ensures prints { IfOk result (PrintsText (O.contents output.old) (O.contents output.new)) }
-    ensures refused { IfErr result (λ _. output.new ≡ output.old) }
-{
-    let alloc = rt.alloc();
-    let files = HostFiles::open(rt, folder)?;
-    let figures = match files.figures(rt) {
-        Ok(figures) => figures,
-        Err(error) => return Err(Unlooked::Host(HostError::from(error))),
-    };
-    let (half, sight) = half_figures(alloc, sight)?;
-    let sight = usable(sight)?;
-    let store = opened(alloc, sight, macros, seed)?;
-    let text = match store.world() {
-        Some(world) => info(alloc, &half, world, &figures),
-        None => Err(AllocError),
-    };
-    let _ = store.close();
-    write_told(output, text?.as_slice())
-}
-
 // Makes a new store of the world that was seen.
-fn back_up<R, M>(rt: &R, sight: Sight, macros: M, seed: Seed, to: &str) -> Result<(), Unlooked>
+fn back_up<R, M>(rt: &R, sight: Sight, macros: M, seed: Seed, to: &str) -> Result<Status, Unlooked>
 where
     R: Files<File = File> + AllocGlobal,
     M: MacroFunctions + Drop,
     requires answers { M.answers macros }
     requires room { (⟦<Sight as Disk>⟧.state sight).failures < 2 ^ 64 - 1 }
+    ensures { IfOk result (λ status. BacksUp M.Meaning.functions macros sight status) }
 {
     let store = opened(rt.alloc(), sight, macros, seed)?;
     let made = match store.world() {
@@ -318,5 +281,5 @@ where
     };
     let _ = store.close();
     made?;
-    Ok(())
+    Ok(Status::Done)
 }

@@ -1,4 +1,9 @@
 // Why nothing is told of a store.
+ghost use Rattle.std.specs.Prelude.{◌≡◌};
+ghost use Rattle.lisp_object.specs.declared.refusal.TheConstants.{NO_MEMORY as memory};
+ghost use Rattle.store_looks.specs.Unlooked.{of_log, of_show};
+ghost use Rattle.store_looks.specs.declared.unlooked.Unlooked.TheVariants as unlooked;
+
 use disk_trait::HostError;
 use lisp_object::refusal::{DAMAGED, DEVICE, NO_MEMORY, VERSION};
 use log_look::LogError;
@@ -24,18 +29,24 @@ pub(crate) enum Unlooked {
 }
 
 impl From<HostError> for Unlooked {
+    ghost from_gives = { λ error e. e ≡ unlooked.Host error };
+
     fn from(error: HostError) -> Unlooked {
         Unlooked::Host(error)
     }
 }
 
 impl From<AllocError> for Unlooked {
+    ghost from_gives = { λ _ e. e ≡ unlooked.Fault memory };
+
     fn from(_error: AllocError) -> Unlooked {
         Unlooked::Fault(NO_MEMORY)
     }
 }
 
 impl From<ShowError> for Unlooked {
+    ghost from_gives = { λ error e. e ≡ of_show error };
+
     fn from(error: ShowError) -> Unlooked {
         match error {
             ShowError::OutOfMemory => Unlooked::Fault(NO_MEMORY),
@@ -45,6 +56,8 @@ impl From<ShowError> for Unlooked {
 }
 
 impl From<LogError> for Unlooked {
+    ghost from_gives = { λ error e. e ≡ of_log error };
+
     fn from(error: LogError) -> Unlooked {
         match error {
             LogError::OutOfMemory => Unlooked::Fault(NO_MEMORY),

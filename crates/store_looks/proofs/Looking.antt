@@ -1,0 +1,231 @@
+-- From what was seen to what a look promises.
+use Rattle.std.proofs.Common.{◌≡◌, ◌∙◌, ℕ, Bool, List, [], Option, Some, Result, Ok, Err, MatchResult, refl, sym, subst, ap, inl, inr, append-nil}
+use Rattle.std.specs.Borrow.{Bor}
+use Rattle.std.specs.Global.{Vec}
+use Rattle.std.specs.Prelude.{IfErr, IfOk, IfSome}
+use Rattle.clap.specs.Words.{Text}
+use Rattle.command_words.specs.declared.looks.Look.{Look}
+use Rattle.command_words.specs.declared.looks.Look.TheVariants.{Backup, Dump, Info, Log, Show}
+use Rattle.disk_trait.specs.declared.host.HostError.{HostError}
+use Rattle.log_look.specs.declared.sight.Sight.{Sight}
+use Rattle.log_look.specs.SeenState.{state_of}
+use Rattle.log_look.specs.declared.host.Figures.{Figures}
+use Rattle.plist_state.specs.State.{WorldState}
+use Rattle.prevalence_store.specs.calls.Open.{IsOpened, IsUnopened}
+use Rattle.prevalence_store.specs.calls.Store.{StoreView}
+use Rattle.command_words.specs.LookLine.{AsksToLook}
+use Rattle.command_words.specs.declared.looks.RecordPlace.{RecordPlace}
+use Rattle.command_words.specs.declared.looks.Records.{Records}
+use Rattle.command_words.specs.declared.looks.Shown.{Shown}
+use Rattle.command_words.specs.declared.words.Report.TheVariants as reports
+use Rattle.lisp_object.specs.declared.refusal.TheConstants.{INPUT, NO_MEMORY}
+use Rattle.log_look.specs.Cut.{IsCut, IsNoPlace, IsUnopened as IsNoLog}
+use Rattle.log_look.specs.declared.error.LogError.{LogError}
+use Rattle.store_commands.specs.Report.{IsReport}
+use Rattle.store_commands.specs.Status.{IsOfWords}
+use Rattle.store_reports.specs.Log.{IsLogText, least}
+use Rattle.store_commands.specs.Session.{half_limit}
+use Rattle.store_commands.specs.Texts.{TellsText}
+use Rattle.store_commands.specs.declared.status.Status.{Status}
+use Rattle.store_commands.specs.declared.status.Status.TheVariants as statuses
+use Rattle.store_looks.specs.Looks.{PrintsText}
+use Rattle.store_looks.specs.Told.{BacksUp, IsSelection, Looks, LooksAt, TellsLog, TellsLook, Unopens, WithholdsFigures, WithholdsLog, WithholdsLook, part_of, status_in}
+use Rattle.store_looks.specs.Unlooked.{of_log, of_show}
+use Rattle.store_reports.specs.Figures.{AreFiguresOf, info_text}
+use Rattle.store_reports.specs.Shown.{IsShown, IsUnshown}
+use Rattle.store_reports.specs.declared.figures.HalfFigures.{HalfFigures}
+use Rattle.store_reports.specs.declared.selection.Selection.{Selection}
+use Rattle.store_reports.specs.declared.showing.ShowError.{ShowError}
+use Rattle.store_looks.specs.declared.unlooked.Unlooked.{Unlooked}
+use Rattle.store_looks.specs.declared.unlooked.Unlooked.TheVariants as unlooked
+use Rattle.user_macros.specs.Functions.{Functions}
+use Rattle.world_text.specs.Snapshot.{snapshot}
+
+-- nothing was written, and that is the text of nothing
+nothing_prints : (held written : Option (List ℕ)) → written ≡ held → PrintsText held written statuses.Done
+nothing_prints held written same = ([], λ had holds. same ∙ holds ∙ ap (λ (l : List ℕ). Some l) (sym (append-nil had)))
+
+module _ (functions : Functions) {R : Type 0} (macros : R) (held written : Option (List ℕ)) where
+  -- each look that tells something writes one text
+  told_prints : (look : Look) (sight : Sight) (status : Status) → TellsLook functions macros held written look sight status → PrintsText held written status
+  unfolding TellsLook BacksUp TellsLog
+  told_prints (Show shown) sight status told = (told.2.text, told.2.tells)
+  told_prints Info sight status told = (told.tells.text, told.tells.tells)
+  told_prints (Log records) sight status told = (told.0, told.2)
+  told_prints (Backup to) sight status told = subst (PrintsText held written) (sym told.0.1) (nothing_prints held written told.1)
+  told_prints (Dump place) sight status told = (snapshot told.2.1.is_opened.world, told.2.1.tells)
+
+  module _ (whole : Bool) (opens : Text → Result Sight HostError → Type 0) (folder : Text) (look : Look) where
+    pub look_prints : (status : Status) → LooksAt functions macros whole opens folder look held written (Ok status) → PrintsText held written status
+    unfolding LooksAt
+    look_prints status (inl is) = absurd (cc)
+    look_prints status (inr (inl not)) = let is : ◌≡◌ {A = Result Status Unlooked} (Ok status) (Err (unlooked.Host not.0)) = not.2 in absurd (cc)
+    look_prints status (inr (inr seen)) = told_prints look seen.0 status seen.2
+
+    -- the folder was not opened
+    pub look_failed : (opened : Result Sight HostError) (error : HostError) → opened ≡ Err error → opens folder opened
+        → LooksAt functions macros whole opens folder look held written (Err (unlooked.Host error))
+    unfolding LooksAt
+    look_failed opened error is given = inr (inl (error, subst (opens folder) is given, refl))
+
+    -- it was
+    pub look_done : (opened : Result Sight HostError) (sight : Sight) (ended : Result Status Unlooked) → opened ≡ Ok sight → opens folder opened
+        → MatchResult ended (TellsLook functions macros held written look sight) (WithholdsLook functions macros whole look sight)
+        → LooksAt functions macros whole opens folder look held written ended
+    unfolding LooksAt
+    look_done opened sight ended is given looks = inr (inr (sight, subst (opens folder) is given, looks))
+
+module _ (functions : Functions) {R : Type 0} (macros : R) (whole : Bool) (held : Option (List ℕ)) (to : Bor (List ℕ)) (sight : Sight) where
+  -- a backup writes nothing to the output
+  backed : (ended : Result Status Unlooked) → IfOk ended (BacksUp functions macros sight)
+      → MatchResult ended (TellsLook functions macros held held (Backup to) sight) (WithholdsLook functions macros whole (Backup to) sight)
+  unfolding TellsLook WithholdsLook
+  backed (Ok status) backs = (backs, refl)
+  backed (Err why) backs = tt
+
+  pub backed_up : (look : Look) → look ≡ Backup to → (ended : Result Status Unlooked) → IfOk ended (BacksUp functions macros sight)
+      → MatchResult ended (TellsLook functions macros held held look sight) (WithholdsLook functions macros whole look sight)
+  backed_up look is ended backs =
+      subst (λ (l : Look). MatchResult ended (TellsLook functions macros held held l sight) (WithholdsLook functions macros whole l sight)) (sym is) (backed ended backs)
+
+-- what is so of the world of an open store
+pub at_world : (P : WorldState → Type 0) (known : Option WorldState) (world : WorldState) → known ≡ Some world → IfSome known P → P world
+at_world P known world is given = subst (λ (o : Option WorldState). IfSome o P) is given
+
+module _ (functions : Functions) {R : Type 0} (macros : R) (store : StoreView Sight R) where
+  module _ (sight : Sight) (opened : IsOpened functions state_of sight macros half_limit store) (shown : Shown) (selection : Selection) (asked : IsSelection shown selection)
+      (result : Result (Vec ℕ) ShowError)
+      (shows : IfSome store.world (λ world. MatchResult result (λ text. IsShown selection world text.items) (IsUnshown selection world))) where
+    showing : MatchResult result (λ text. IsShown selection opened.world text.items) (IsUnshown selection opened.world)
+    showing = at_world (λ world. MatchResult result (λ text. IsShown selection world text.items) (IsUnshown selection world)) store.world opened.world opened.known shows
+
+    -- properties were shown
+    pub show_done : (held written : Option (List ℕ)) (status : Status) (text : Vec ℕ) (lines : List ℕ) → result ≡ Ok text → lines ≡ text.items → TellsText status held written lines
+        → TellsLook functions macros held written (Show shown) sight status
+    unfolding TellsLook
+    show_done held written status text lines is same tells =
+        let told : IsShown selection opened.world text.items =
+        subst (λ (r : Result (Vec ℕ) ShowError). MatchResult r (λ t. IsShown selection opened.world t.items) (IsUnshown selection opened.world)) is showing in
+        (selection, asked, record { opened = store; is_opened = opened; text = lines; is = subst (IsShown selection opened.world) (sym same) told; tells = tells })
+
+    -- none were
+    pub show_failed : (whole : Bool) (error : ShowError) (why : Unlooked) → result ≡ Err error → why ≡ of_show error
+        → WithholdsLook functions macros whole (Show shown) sight why
+    unfolding WithholdsLook
+    show_failed whole error why is given =
+        let not : IsUnshown selection opened.world error =
+        subst (λ (r : Result (Vec ℕ) ShowError). MatchResult r (λ t. IsShown selection opened.world t.items) (IsUnshown selection opened.world)) is showing in
+        inr (selection, asked, (error, record { opened = store; is_opened = opened; is = not }, given))
+
+  -- figures were told of a sight that is as it was
+  pub info_done : (sight same : Sight) (half : HalfFigures) (files : Figures) → AreFiguresOf (state_of sight).reads half → (state_of same).reads ≡ (state_of sight).reads
+      → (opened : IsOpened functions state_of same macros half_limit store) (E : Type 0) (result : Result (Vec ℕ) E) (text : Vec ℕ) (lines : List ℕ) → lines ≡ text.items
+      → IfSome store.world (λ world. IfOk result (λ t. t.items ≡ info_text half world files)) → result ≡ Ok text
+      → (held written : Option (List ℕ)) (status : Status) → TellsText status held written lines → TellsLook functions macros held written Info sight status
+  unfolding TellsLook
+  info_done sight same half files figures reads opened E result text lines equal told is held written status tells =
+      let of_world : IfOk result (λ t. t.items ≡ info_text half opened.world files) =
+      at_world (λ world. IfOk result (λ t. t.items ≡ info_text half world files)) store.world opened.world opened.known told in
+      let text_is : text.items ≡ info_text half opened.world files = subst (λ (r : Result (Vec ℕ) E). IfOk r (λ t. t.items ≡ info_text half opened.world files)) is of_world in
+      record {
+        half = half;
+        figures = figures;
+        files = files;
+        same = same;
+        reads = reads;
+        tells = record { opened = store; is_opened = opened; text = lines; is = equal ∙ text_is; tells = tells };
+      }
+
+-- the lines of records were written, or not
+module _ (sight : Sight) where
+  pub log_done : (records : Records) (text lines : List ℕ) → lines ≡ text → IsLogText (part_of records) (state_of sight).reads text → (held written : Option (List ℕ)) (status : Status)
+      → TellsText status held written lines → TellsLog held written records sight status
+  unfolding TellsLog
+  log_done records text lines same is held written status tells = (lines, subst (IsLogText (part_of records) (state_of sight).reads) (sym same) is, tells)
+
+  pub log_failed : (records : Records) (error : LogError) (why : Unlooked) → IsNoPlace (least records.from.number) records.from.generation error (state_of sight).reads → why ≡ of_log error
+      → WithholdsLog records sight why
+  unfolding WithholdsLog
+  log_failed records error why none is = (error, none, is)
+
+-- the store was not opened
+pub unopens : (functions : Functions) (whole : Bool) (sight : Sight) (number : ℕ) (back : Sight) → IsUnopened functions state_of sight whole half_limit number back → Unopens functions whole sight (unlooked.Fault number)
+unfolding Unopens
+unopens functions whole sight number back refused = (number, back, refused, refl)
+
+module _ (functions : Functions) {R : Type 0} (macros : R) (sight : Sight) where
+  -- the text of a world after so many records was written
+  pub dump_done : (place : RecordPlace) (cut : Sight) → IsCut place.number place.generation (state_of sight).reads (state_of cut).reads
+      → (held written : Option (List ℕ)) (status : Status) (back : Sight) → IsReport functions state_of reports.Dump cut macros held written status back
+      → TellsLook functions macros held written (Dump place) sight status
+  unfolding TellsLook
+  dump_done place cut is held written status back report = (cut, is, (back, report))
+
+  pub dump_unopened : (whole : Bool) (place : RecordPlace) (cut : Sight) → IsCut place.number place.generation (state_of sight).reads (state_of cut).reads
+      → (number : ℕ) (back : Sight) → IsUnopened functions state_of cut whole half_limit number back
+      → WithholdsLook functions macros whole (Dump place) sight (unlooked.Fault number)
+  unfolding WithholdsLook Unopens
+  dump_unopened whole place cut is number back refused = inr (cut, is, (number, back, refused, refl))
+
+  pub dump_failed : (whole : Bool) (place : RecordPlace) (error : LogError) (why : Unlooked) → IsNoPlace place.number place.generation error (state_of sight).reads → why ≡ of_log error
+      → WithholdsLook functions macros whole (Dump place) sight why
+  unfolding WithholdsLook
+  dump_failed whole place error why none is = inl (error, none, is)
+
+  told_log : (whole : Bool) (held written : Option (List ℕ)) (records : Records) (ended : Result Status Unlooked) → IfOk ended (TellsLog held written records sight)
+      → IfErr ended (WithholdsLog records sight)
+      → MatchResult ended (TellsLook functions macros held written (Log records) sight) (WithholdsLook functions macros whole (Log records) sight)
+  unfolding TellsLook WithholdsLook
+  told_log whole held written records (Ok status) done failed = done
+  told_log whole held written records (Err why) done failed = failed
+
+  pub log_told : (whole : Bool) (held written : Option (List ℕ)) (records : Records) (look : Look) → look ≡ Log records → (ended : Result Status Unlooked)
+      → IfOk ended (TellsLog held written records sight) → IfErr ended (WithholdsLog records sight)
+      → MatchResult ended (TellsLook functions macros held written look sight) (WithholdsLook functions macros whole look sight)
+  log_told whole held written records look is ended done failed =
+      subst (λ (l : Look). MatchResult ended (TellsLook functions macros held written l sight) (WithholdsLook functions macros whole l sight)) (sym is)
+      (told_log whole held written records ended done failed)
+
+  pub show_unopened : (whole : Bool) (shown : Shown) (given why : Unlooked) → why ≡ given → Unopens functions whole sight given → WithholdsLook functions macros whole (Show shown) sight why
+  unfolding WithholdsLook
+  show_unopened whole shown given why is not = inl (subst (Unopens functions whole sight) (sym is) not)
+
+  pub backs_up : (store : StoreView Sight R) → IsOpened functions state_of sight macros half_limit store → (status : Status) → status ≡ statuses.Done → BacksUp functions macros sight status
+  unfolding BacksUp
+  backs_up store opened status is = (record { opened = store; is_opened = opened; is = tt }, is)
+
+  module _ (whole : Bool) where
+    -- no figures
+    pub info_unread : (error : HostError) (why : Unlooked) → why ≡ unlooked.Host error → WithholdsLook functions macros whole Info sight why
+    unfolding WithholdsLook WithholdsFigures
+    info_unread error why is = inl (error, is)
+
+    pub info_failed : (error : LogError) (why : Unlooked) → IsNoLog error (state_of sight).reads → why ≡ of_log error → WithholdsLook functions macros whole Info sight why
+    unfolding WithholdsLook WithholdsFigures
+    info_failed error why none is = inr (inl (error, none, is))
+
+    pub info_unopened : (same : Sight) (given why : Unlooked) → why ≡ given → (state_of same).reads ≡ (state_of sight).reads → Unopens functions whole same given
+        → WithholdsLook functions macros whole Info sight why
+    unfolding WithholdsLook WithholdsFigures
+    info_unopened same given why is reads not = inr (inr (same, reads, inl (subst (Unopens functions whole same) (sym is) not)))
+
+    pub info_memory : (why : Unlooked) → why ≡ unlooked.Fault NO_MEMORY → WithholdsLook functions macros whole Info sight why
+    unfolding WithholdsLook WithholdsFigures
+    info_memory why is = inr (inr (sight, refl, inr is))
+
+-- the whole look
+module _ (functions : Functions) {R : Type 0} (macros : R) (whole : Bool) (opens : Text → Result Sight HostError → Type 0) (words : List Text) (held written : Option (List ℕ)) where
+  pub look_of_words : (status : Status) → IsOfWords status → Looks functions macros whole opens words held written status
+  unfolding Looks
+  look_of_words status of_words = inl of_words
+
+  pub look_ended : (folder : Text) (look : Look) → AsksToLook words folder look → (ended : Result Status Unlooked) (status : Status) → status ≡ status_in ended
+      → LooksAt functions macros whole opens folder look held written ended → Looks functions macros whole opens words held written status
+  unfolding Looks
+  look_ended folder look asks ended status is looks = inr (folder, look, asks, (ended, is, looks))
+
+-- no seed was had
+pub look_without_seed : (functions : Functions) {R : Type 0} (macros : R) (whole : Bool) (opens : Text → Result Sight HostError → Type 0) (folder : Text) (look : Look) (held written : Option (List ℕ))
+    → LooksAt functions macros whole opens folder look held written (Err (unlooked.Fault INPUT))
+unfolding LooksAt
+look_without_seed functions macros whole opens folder look held written = inl refl

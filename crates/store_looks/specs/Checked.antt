@@ -1,0 +1,94 @@
+-- What `check` tells of a text.
+use Rattle.std.specs.Prelude.{◌≡◌, ◌==◌, ◌⊎◌, ℕ, Bool, true, false, List, [], ◌∷◌, ◌++◌, length, codes, decimal, IfSome, Option, None, Some, Result, MatchResult}
+use Rattle.std.specs.FinMap as finite
+use Rattle.std.specs.List.{flat_map}
+use Rattle.clap.specs.Words.{Text}
+use Rattle.command_words.specs.CheckLine.{AsksToCheck}
+use Rattle.command_words.specs.LookLine.{text_of}
+use Rattle.command_words.specs.declared.check.Check.{Check}
+use Rattle.diagnostics.specs.Refusals.{line_of}
+use Rattle.diagnostics.specs.Texts.{WritesFront}
+use Rattle.diagnostics.specs.declared.refusal.Refusal.{Refusal}
+use Rattle.form_check.specs.Checking.{Checking, checked, setting_under}
+use Rattle.form_check.specs.declared.checking.Unreadable.{Unreadable}
+use Rattle.lisp_object.specs.declared.refusal.TheConstants.{OUTPUT}
+use Rattle.log_look.specs.declared.sight.Sight.{Sight}
+use Rattle.plist_state.specs.State.{WorldState, initial}
+use Rattle.prevalence_store.specs.calls.Streams.{Writes}
+use Rattle.store_commands.specs.Status.{IsOfWords}
+use Rattle.store_commands.specs.declared.status.Status.{Status}
+use Rattle.store_commands.specs.declared.status.Status.TheVariants as statuses
+use Rattle.store_looks.specs.Told.{Has, status_in}
+use Rattle.store_looks.specs.declared.unlooked.Unlooked.{Unlooked}
+use Rattle.user_macros.specs.Functions.{Functions}
+
+-- ---- the text that is told
+
+-- the line on a form that cannot be read: its number, how many forms come before it, where it begins, and where it is refused
+pub record IsRefusalOf (one : Unreadable) (refusal : Refusal) : Type 0 where
+  pub number : refusal.number ≡ one.number
+  pub place : refusal.place ≡ record { forms = one.forms; start = one.start; at = one.at }
+
+unfoldable pub AreRefusalsOf : List Unreadable → List Refusal → Type 0
+AreRefusalsOf [] [] = Unit {0}
+AreRefusalsOf [] (refusal ∷ refusals) = ⊥
+AreRefusalsOf (one ∷ others) [] = ⊥
+AreRefusalsOf (one ∷ others) (refusal ∷ refusals) = IsRefusalOf one refusal × AreRefusalsOf others refusals
+
+-- the last line
+abbrev pub counts_line : (forms unreadable : ℕ) → List ℕ
+counts_line forms unreadable = codes "forms " ++ decimal forms ++ codes " unreadable " ++ decimal unreadable ++ codes "\n"
+
+pub record IsCheckText (found : Checking) (text : List ℕ) : Type 0 where
+  pub refusals : List Refusal
+  pub are : AreRefusalsOf found.1 refusals
+  pub is : text ≡ flat_map line_of refusals ++ counts_line found.0 (length found.1)
+
+-- it was written, and the status says whether all forms can be read; or a part of it, and the output failed
+unfoldable pub EndsSo : Bool → Option (List ℕ) → Option (List ℕ) → List ℕ → Status → Type 0
+EndsSo all_are_readable held written text statuses.Done = Writes held written text × (all_are_readable ≡ true)
+EndsSo all_are_readable held written text statuses.FormRefused = Writes held written text × (all_are_readable ≡ false)
+EndsSo all_are_readable held written text (statuses.Fault number) = (number ≡ OUTPUT) × WritesFront held written text
+EndsSo all_are_readable held written text statuses.Helped = ⊥
+EndsSo all_are_readable held written text statuses.Unanswered = ⊥
+EndsSo all_are_readable held written text statuses.WordsRefused = ⊥
+EndsSo all_are_readable held written text statuses.LeftOut = ⊥
+
+-- ---- under which world a text is read
+
+-- the forms of a text that cannot be read in a world
+unfoldable pub FindsIn : Functions → WorldState → List ℕ → Checking → Type 0
+FindsIn functions world text found =
+    IfSome (finite.get world.readtables world.current_readtable)
+    (λ table. found ≡ checked (setting_under table world.read_base world.packages world.current_package functions) text)
+
+-- that of a new store, or that which a store in a folder had
+unfoldable pub IsWorldOf : Functions → {R : Type 0} → R → Option Text → WorldState → Type 0
+IsWorldOf functions macros None world = world ≡ initial
+IsWorldOf functions macros (Some folder) world = (sight : Sight) × Has functions macros (λ had. world ≡ had) sight
+
+-- of a file the text that it gave, and else that of the input
+unfoldable pub IsTextOf : Option Text → Option (List ℕ) → List ℕ → Type 0
+IsTextOf None input text = IfSome input (λ all. text ≡ all)
+IsTextOf (Some file) input text = Unit {0}
+
+module _ (functions registered : Functions) {R : Type 0} (macros : R) (input held written : Option (List ℕ)) where
+  -- the text of the file was looked through, and this is told of it
+  pub record TellsForms (asked : Check) (status : Status) : Type 0 where
+    pub text : List ℕ
+    pub text_is : IsTextOf (text_of asked.file) input text
+    pub world : WorldState
+    pub world_is : IsWorldOf functions macros (text_of asked.store) world
+    pub found : Checking
+    pub finds : FindsIn registered world text found
+    pub told : List ℕ
+    pub told_is : IsCheckText found told
+    pub tells : EndsSo (length found.1 == 0) held written told status
+
+  -- the words are refused, or ask for help; or they ask for such a text, and this is told of it, or nothing
+  unfoldable pub Checks : List Text → Status → Type 0
+  Checks words status =
+      IsOfWords status
+      ⊎ ((asked : Check) × AsksToCheck words asked
+      × ((ended : Result Status Unlooked) × (status ≡ status_in ended)
+      × MatchResult ended (TellsForms asked) (λ why. written ≡ held)))
