@@ -93,6 +93,8 @@ SESSIONS = [
     Session("verify", ["verify"], b"", "operators"),
     Session("snapshot", ["snapshot"], b"", "operators"),
     Session("a further snapshot", ["snapshot", "--existing"], b"", "snapshot"),
+    Session("strict", ["run", "--strict"], b"(SETF (GET 'A 'B) 7)\n(SETF (GET 'A 'B) 8)\n(FROB)\n(SETF (GET 'A 'B) 9)\n", None),
+    Session("version 1", ["run", "--snapshot-every", "2"], b"(SETF (GET 'A 'B) 8)\n(SETF (GET 'A 'B) 17)\n(SETF (GET 'A 'B) 18)\n", VERSION_1),
     Session("upgrade", ["upgrade"], b"", VERSION_1),
     Session("export", ["export"], b"", "operators"),
     Session("export of data", ["export", "--data"], b"", "operators"),
@@ -252,5 +254,8 @@ def check_world(room, one, answered, apart=True):
     want(may & set(prefixes), one.session.name, answered, "answered, and the world is that after", prefixes)
     verified = room.run(["verify"])
     want(verified.status == 0, one.session.name, "not verified:", verified)
+    if one.session.words[0] == "upgrade":
+        again = room.run(["upgrade"])
+        want(again == Answer(0, b"version 2\n", b"") and room.run(["dump"]).out == dump.out, one.session.name, "not made whole:", again)
     more = room.run(["run", "--rescue"], ONE_MORE)
     want(more == Answer(0, b"9\n", b""), one.session.name, "one more form:", more)

@@ -14,10 +14,6 @@ ERRORS = (b"AllocError", b"AllocFailed", b"Memory", b"Device")
 MANY = 20_000
 FEW = 2
 
-# Tests of this module take the refusal of each call and make the call again: growths are refused alone, at so many times as many places.
-AGAIN = "growth::"
-MORE = 32
-
 
 def binaries(crates):
     """The tests binaries that the gate left in a folder of crates, of which none may be missing."""
@@ -28,31 +24,26 @@ def binaries(crates):
 
 
 def run(room, paths, most):
-    """At most so many growths of each test, each second one with all that come after it; and more of those that make a call again. Gives
-    how many runs there were, and what came."""
+    """At most so many growths of each test, each second one with all that come after it. Gives how many runs there were, and what came."""
     loaded = library("growth", room)
     kinds = collections.Counter()
     for path in paths:
         for test in tests_of(path):
-            for number, goes_on in places(test, growths(room, path, test, loaded), most):
+            for number, goes_on in places(growths(room, path, test, loaded), most):
                 kinds[outcome(room, path, test, loaded, number, goes_on)] += 1
     return sum(kinds.values()), dict(kinds)
 
 
 def tests_of(path):
-    """The names of the tests of a binary, of which it may not lack those that it is known for."""
+    """The names of the tests of a binary."""
     listed = subprocess.run([path, "--list"], capture_output=True, text=True, check=True).stdout
     found = [line.split(": ")[0] for line in listed.splitlines() if line.endswith(": test")]
     want(found, os.path.basename(path), "has no test")
-    is_known = "program_tests" not in os.path.basename(path) or any(test.startswith(AGAIN) for test in found)
-    want(is_known, os.path.basename(path), "has no test of", AGAIN)
     return found
 
 
-def places(test, total, most):
+def places(total, most):
     """The growths of a test that are refused, and whether all after them are."""
-    if test.startswith(AGAIN):
-        return [(number, False) for number in range(1, total + 1, max(1, total // (most * MORE)))]
     step = max(1, -(-total // (most if total < MANY else min(most, FEW))))
     return [(number, index % 2 == 1) for index, number in enumerate(range(1, total + 1, step))]
 

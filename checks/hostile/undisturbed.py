@@ -86,6 +86,8 @@ WANTED = {
     "verify": (0, b'half A generation 7 records 2\n'),
     "snapshot": (0, b'half B generation 8 records 0\n'),
     "a further snapshot": (0, b'half A generation 9 records 0\n'),
+    "strict": (1, b'7\n8\n! 31 UNKNOWN-OPERATOR\n'),
+    "version 1": (0, b'8\n17\n18\n'),
     "upgrade": (0, b'version 2\n'),
     "export": (0, (
         b'(IN-READTABLE :STANDARD)\n'

@@ -7,11 +7,11 @@ ghost use Rattle.prevalence_store.specs.meaning.Answers.{Progress, after_forms};
 ghost use Rattle.prevalence_store.specs.calls.Streams.{Writes};
 ghost use Rattle.prevalence_store.specs.Theorem.{IsAfterSome, Keeps};
 
-use crate::asked::{asked, session};
-use crate::by_name::ByName;
+use crate::asked::{SixMacros, asked, session};
 use crate::files::{AMPLE, Trouble, crashed, trouble_of};
 use crate::lines::unfaulted;
 use disk_trait::{Crash, Disk, MemoryDisk};
+use fixed_macros::Fixed;
 use prevalence_store::{Ending, Mode, Outcome, Store, Unopened, headline};
 use six_functions::SixFunctions;
 use std::alloc::Global;
@@ -119,7 +119,7 @@ fn left(alloc: Global, kind: Crash) -> Result<MemoryDisk, Trouble> {
 
 /// Nothing where the other disk was opened too. It is an error if it was not.
 fn opened_too(
-    again: Result<Store<MemoryDisk, ByName>, Unopened<MemoryDisk, ByName>>,
+    again: Result<Store<MemoryDisk, SixMacros>, Unopened<MemoryDisk, SixMacros>>,
 ) -> Result<(), Trouble> {
     match again {
         Ok(store) => {
@@ -142,7 +142,7 @@ fn accept_twice(alloc: Global, kind: Crash, first: &[u8], second: &[u8]) -> Resu
         alloc,
         disk,
         crashed,
-        ByName::new(alloc, SixFunctions::new()),
+        Fixed::new(alloc, SixFunctions::new()),
         first,
         second,
     ) {
@@ -160,7 +160,7 @@ fn served_once(alloc: Global, kind: Crash, input: &[u8]) -> Result<Vec<u8>, Trou
     }
     let mut reader = input;
     let mut answers = Vec::new(alloc);
-    let macros = ByName::new(alloc, SixFunctions::new());
+    let macros = Fixed::new(alloc, SixFunctions::new());
     match one_session(alloc, disk, crashed, macros, &mut reader, &mut answers) {
         Some((ending, _, again)) => {
             opened_too(again)?;

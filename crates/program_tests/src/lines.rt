@@ -1,6 +1,7 @@
 //! Lines of the text of calls, and what they tell.
 
 use crate::files::{Trouble, trouble_of};
+use disk_trait::Half;
 use lisp_object::Datum;
 use prevalence_store::{Ended, Ending, Outcome, Place};
 use std::io::Write;
@@ -8,6 +9,26 @@ use std::io::Write;
 /// A line of a word and a number.
 pub fn number_line(text: &mut Vec<u8>, word: &str, number: i128) -> Result<(), Trouble> {
     match writeln!(text, "{word} {number}") {
+        Ok(()) => Ok(()),
+        Err(_) => Err(Trouble::Memory),
+    }
+}
+
+/// The line on the half in use.
+pub fn half_line(
+    text: &mut Vec<u8>,
+    half: Half,
+    generation: u64,
+    records: u64,
+) -> Result<(), Trouble> {
+    let letter = match half {
+        Half::A => "A",
+        Half::B => "B",
+    };
+    match writeln!(
+        text,
+        "half {letter} generation {generation} records {records}"
+    ) {
         Ok(()) => Ok(()),
         Err(_) => Err(Trouble::Memory),
     }
@@ -51,7 +72,7 @@ pub fn unfaulted(ending: Ending) -> Result<(), Trouble> {
 }
 
 /// The line of what a form or a snapshot gave.
-pub fn outcome_line(text: &mut Vec<u8>, outcome: &Outcome) -> Result<(), Trouble> {
+fn outcome_line(text: &mut Vec<u8>, outcome: &Outcome) -> Result<(), Trouble> {
     match outcome {
         Outcome::Accepted(Datum::Integer(number)) => number_line(text, "accepted", *number),
         Outcome::Accepted(_) => Ok(text.extend_from_slice(b"accepted\n")?),

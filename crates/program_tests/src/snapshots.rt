@@ -1,8 +1,7 @@
 //! Snapshots: when a session takes them, what they leave, and steps one after the other.
 
-use crate::asked::{Ask, Serving};
-use crate::files::{Trouble, asked_in_memory, left_after};
-use disk_trait::MemoryDisk;
+use crate::asked::{Ask, Serving, at_once, told};
+use crate::files::{Trouble, left_after};
 use prevalence_store::{Mode, Step};
 use std::alloc::Global;
 use std::test::Fail;
@@ -55,16 +54,11 @@ const CASES: &[Case] = &[
 /// Whether the session of a case does what the case wants.
 fn is_as_wanted(alloc: Global, case: &Case) -> Result<bool, Trouble> {
     let session = Serving {
-        mode: Mode::Current,
         every: case.snapshot_every,
-        most: usize::MAX,
-        input: case.input,
-        reads: u64::MAX,
-        room: usize::MAX,
+        ..at_once(case.input)
     };
     let calls = [Ask::Serve(session), Ask::Half];
-    let (text, _disk) = asked_in_memory(alloc, MemoryDisk::new(alloc), case.limit, &calls)?;
-    Ok(text.as_slice() == case.text)
+    Ok(told(alloc, case.limit, &calls)?.as_slice() == case.text)
 }
 
 const SEVEN: Step<'static> = Step::Form(Mode::Current, b"(SETF (GET 'A 'B) 7)");
@@ -79,8 +73,8 @@ fn run_so(alloc: Global, count: usize, wanted: &[u8], sizes: [usize; 2]) -> Resu
     let Some(steps) = steps.get(..count) else {
         return Ok(false);
     };
-    let found = left_after(alloc, MemoryDisk::new(alloc), 202, &[Ask::Run(steps)])?;
-    Ok(found.text.as_slice() == wanted && [found.files.a.len(), found.files.b.len()] == sizes)
+    let found = left_after(alloc, 202, &[Ask::Run(steps)])?;
+    Ok(found.text.as_slice() == wanted && [found.a.len(), found.b.len()] == sizes)
 }
 
 #[test]

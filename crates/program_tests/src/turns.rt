@@ -1,9 +1,7 @@
 //! A session whose reader or writer fails.
 
 use crate::asked::{Ask, Serving, session, told};
-use crate::files::Trouble;
-use disk_trait::MemoryDisk;
-use prevalence_store::Mode;
+use crate::files::{AMPLE, Trouble};
 use std::alloc::Global;
 use std::test::Fail;
 
@@ -13,18 +11,13 @@ const THREE: &[u8] = b"(SETF (GET 'A 'B) 1)(SETF (GET 'A 'B) 2)(SETF (GET 'A 'B)
 /// that.
 fn broken_at(alloc: Global, reads: u64, room: usize) -> Result<Vec<u8>, Trouble> {
     let broken = Serving {
-        mode: Mode::Current,
         every: 0,
         most: 1,
         input: THREE,
         reads,
         room,
     };
-    told(
-        alloc,
-        MemoryDisk::new(alloc),
-        &[Ask::Serve(broken), session(b"(GET 'A 'B)")],
-    )
+    told(alloc, AMPLE, &[Ask::Serve(broken), session(b"(GET 'A 'B)")])
 }
 
 #[test]

@@ -1,23 +1,9 @@
 //! A session that tells where it ended, and is strict or not.
 
-use crate::asked::{Ask, Serving, asked};
-use crate::files::{AMPLE, Trouble, asked_in_memory, unfailed};
-use disk_trait::{FuseDisk, MemoryDisk};
-use prevalence_store::Mode;
+use crate::asked::{Ask, Serving, at_once, told};
+use crate::files::{AMPLE, Trouble};
 use std::alloc::Global;
 use std::test::Fail;
-
-/// A session of an input that comes in pieces of at most so many bytes.
-fn in_pieces(most: usize, input: &[u8]) -> Serving<'_> {
-    Serving {
-        mode: Mode::Current,
-        every: 0,
-        most,
-        input,
-        reads: u64::MAX,
-        room: usize::MAX,
-    }
-}
 
 const THREE: &[u8] = b"(SETF (GET 'A 'B) 1)(SETF (GET 'A 'B) 2)(SETF (GET 'A 'B) 3)";
 
@@ -60,36 +46,13 @@ const BROKEN: [Broken; 4] = [
 fn is_broken(alloc: Global, row: Broken) -> Result<bool, Trouble> {
     let (every, reads, room, limit, wanted) = row;
     let session = Serving {
-        mode: Mode::Current,
         every,
-        most: usize::MAX,
-        input: THREE,
         reads,
         room,
+        ..at_once(THREE)
     };
     let calls = [Ask::Wanted(true, session), Ask::Half];
-    let (text, _disk) = asked_in_memory(alloc, MemoryDisk::new(alloc), limit, &calls)?;
-    Ok(text.as_slice() == wanted)
-}
-
-/// The text of two strict sessions over a device that passes so many calls.
-fn with_calls(alloc: Global, calls: u64) -> Result<Vec<u8>, Trouble> {
-    let disk = FuseDisk::new(MemoryDisk::new(alloc), calls);
-    let session = Ask::Wanted(true, in_pieces(4_096, THREE));
-    let (text, disk) = asked(alloc, disk, AMPLE, &[session, session])?;
-    let _disk = unfailed(disk.into_inner())?;
-    Ok(text)
-}
-
-/// The same over a device that passes only the calls of the opening and of the first form.
-fn stopped(alloc: Global) -> Result<Vec<u8>, Trouble> {
-    for calls in 0..64 {
-        let text = with_calls(alloc, calls)?;
-        if text.as_slice().starts_with(b"1\n") {
-            return Ok(text);
-        }
-    }
-    Err(Trouble::Endless)
+    Ok(told(alloc, limit, &calls)?.as_slice() == wanted)
 }
 
 #[test]
@@ -97,7 +60,5 @@ fn a_fault_ends_a_strict_session(rt: HostRuntime) -> Result<(), Fail> {
     for (place, row) in BROKEN.into_iter().enumerate() {
         assert!(rt; is_broken(rt.alloc(), row)?, "{place}");
     }
-    let text = stopped(rt.alloc())?;
-    assert!(rt; text.as_slice() == b"1\nstore 60\nstore 61\n".as_slice());
     Ok(())
 }
