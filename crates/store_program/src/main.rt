@@ -99,8 +99,9 @@ fn serve_words<M: MacroFunctions + Drop, F: Write>(
             words,
             output,
         ),
+        Way::Serve if rt.stdin().is_terminal() => serve_at_terminal(rt, macros, words, faults),
         Way::Serve if asks_for_quiet(words) => serve_quietly(rt, macros, words, faults),
-        Way::Serve => serve_input(rt, macros, words, output, faults),
+        Way::Serve => serve_pipe(rt, &Telling::new(rt, rt), macros, words, output),
     }
 }
 
@@ -114,7 +115,7 @@ fn serve_quietly<M: MacroFunctions + Drop, F: Write>(
     requires answers { M.answers macros }
 {
     let mut output = Refusals::new(rt.alloc(), Uninterrupted::new(rt.stdout()));
-    let status = serve_input(rt, macros, words, &mut output, faults);
+    let status = serve_pipe(rt, &Telling::new(rt, rt), macros, words, &mut output);
     match status {
         Status::Helped | Status::WordsRefused => {}
         _ => {
@@ -122,27 +123,6 @@ fn serve_quietly<M: MacroFunctions + Drop, F: Write>(
         }
     }
     status
-}
-
-// The same of a terminal or of another input, with this output.
-fn serve_input<M, O, F>(
-    rt: &HostRuntime,
-    macros: M,
-    words: &[String],
-    output: O,
-    faults: &mut F,
-) -> Status
-where
-    M: MacroFunctions + Drop,
-    O: Write + Drop,
-    F: Write,
-    requires answers { M.answers macros }
-{
-    if rt.stdin().is_terminal() {
-        serve_at_terminal(rt, macros, words, output, faults)
-    } else {
-        serve_pipe(rt, &Telling::new(rt, rt), macros, words, output)
-    }
 }
 
 // The same where standard input is no terminal, and folders are opened by another system. At a terminal standard error has a line on how far
@@ -189,23 +169,18 @@ fn size_of_input(rt: &HostRuntime) -> Option<u64> {
 }
 
 // The same at a terminal, whose prompts go to standard error.
-fn serve_at_terminal<M, O, F>(
+fn serve_at_terminal<M: MacroFunctions + Drop, F: Write>(
     rt: &HostRuntime,
     macros: M,
     words: &[String],
-    output: O,
     faults: &mut F,
 ) -> Status
-where
-    M: MacroFunctions + Drop,
-    O: Write + Drop,
-    F: Write,
     requires answers { M.answers macros }
 {
     let heard = Cell::new(Heard::Nothing);
     let lines = Lines::new(rt.alloc(), Uninterrupted::new(rt.stdin()));
     let mut input = Terminal::new(lines, rt.stderr(), &heard);
-    let mut output = Answers::new(output, &heard);
+    let mut output = Answers::new(Uninterrupted::new(rt.stdout()), &heard);
     let folders = Telling::new(rt, rt);
     program_at_terminal(&folders, macros, words, &mut input, &mut output, faults)
 }

@@ -1,9 +1,9 @@
 //! Marks that nest over each kind of writing call: going back over any number of them, and forward again.
 use super::{answer, put, remove, words_of};
-use package_table::PackageError;
 use package_table::standardized::COMMON_LISP;
-use plist_state::{Symbol, World};
-use snapshot_text::write;
+use package_table::{PackageError, Packages};
+use plist_state::{PropertyList, Symbol, World};
+use readtable_core::Readtable;
 use std::alloc::{AllocError, Global};
 use std::test::Fail;
 
@@ -94,9 +94,94 @@ fn carry_out(world: &mut World, alloc: Global, row: &str) -> Result<bool, Fail> 
     }
 }
 
-// Whether two worlds are the same: there is one text of each.
+// The same lists of a package.
+fn same_package(
+    alloc: Global,
+    a: &Packages,
+    b: &Packages,
+    name: &[u8],
+) -> Result<bool, PackageError> {
+    if a.uses(alloc, name)? != b.uses(alloc, name)? {
+        return Ok(false);
+    }
+    if a.own(alloc, name)? != b.own(alloc, name)? {
+        return Ok(false);
+    }
+    if a.externals(alloc, name)? != b.externals(alloc, name)? {
+        return Ok(false);
+    }
+    Ok(a.imports(alloc, name)? == b.imports(alloc, name)?)
+}
+
+fn same_packages(alloc: Global, a: &Packages, b: &Packages) -> Result<bool, Fail> {
+    let names = a.names(alloc)?;
+    for name in names.as_slice() {
+        if !same_package(alloc, a, b, name.as_slice())? {
+            return Ok(false);
+        }
+    }
+    Ok(b.names(alloc)? == names)
+}
+
+// The same properties in the same order.
+fn same_plist(a: &PropertyList<'_>, b: &PropertyList<'_>) -> bool {
+    if a.len() != b.len() {
+        return false;
+    }
+    for index in 0..a.len() {
+        let (p, q) = (a.at(index), b.at(index));
+        if p.home != q.home || p.name != q.name || p.value != q.value {
+            return false;
+        }
+    }
+    true
+}
+
+// The same symbols have properties, and the same ones.
+fn same_properties(alloc: Global, a: &World, b: &World) -> Result<bool, Fail> {
+    let symbols = a.with_properties(alloc)?;
+    for (home, name) in symbols.as_slice() {
+        let symbol = Symbol::from_bytes(alloc, home.as_slice(), name.as_slice())?;
+        if !same_plist(&a.plist(&symbol), &b.plist(&symbol)) {
+            return Ok(false);
+        }
+    }
+    Ok(b.with_properties(alloc)? == symbols)
+}
+
+fn same_readtable(a: Option<&Readtable>, b: Option<&Readtable>) -> bool {
+    let (Some(a), Some(b)) = (a, b) else {
+        return false;
+    };
+    for c in 0..128 {
+        if !a.same_entry(b, c) {
+            return false;
+        }
+    }
+    a.case() == b.case()
+}
+
+// The same readtables by the same names.
+fn same_readtables(alloc: Global, a: &World, b: &World) -> Result<bool, Fail> {
+    let names = a.readtable_names(alloc)?;
+    for name in names.as_slice() {
+        let name = name.as_slice();
+        if !same_readtable(a.readtable(name), b.readtable(name)) {
+            return Ok(false);
+        }
+    }
+    Ok(b.readtable_names(alloc)? == names)
+}
+
+// Whether all readers give the same.
 fn is_same(alloc: Global, a: &World, b: &World) -> Result<bool, Fail> {
-    Ok(write(alloc, a)? == write(alloc, b)?)
+    Ok(
+        a.current_package() == b.current_package()
+            && a.current_readtable() == b.current_readtable()
+            && same_packages(alloc, a.packages(), b.packages())?
+            && same_properties(alloc, a, b)?
+            && same_readtables(alloc, a, b)?,
+    )
 }
 
 // Carries out the first steps.
