@@ -224,6 +224,7 @@ module _ (functions : Functions) where
   record IsClosed (w : WorldState) (far r : Round) : Type 0 where
     near : Near far (begun (closed r).last (left_after (closed r).wrote w (closed r).left))
     told : (closed r).told ≡ r.told
+    raised : (begun (closed r).last (left_after (closed r).wrote w (closed r).left)).last ≡ (closed r).last
 
   closed_near : (w : WorldState) (last : ℕ) (far r : Round) (wrote : Bool) → r.wrote ≡ wrote → IsTidy w.properties → IsSilent w r → (begun last w).last ≤ r.last → Near far r → IsClosed w far r
   closed_near w last far r true is tidy silent least near = subst (IsClosed w far) (sym (λ i. record r { wrote = is i })) (record {
@@ -234,10 +235,12 @@ module _ (functions : Functions) where
       same = near.same ∙ sym (position_out r.last r.left);
     };
     told = refl;
+    raised = begun_at r.last r.left;
   })
   closed_near w last far r false is tidy silent least near = subst (IsClosed w far) (sym (λ i. record r { wrote = is i })) (record {
     near = record { last = near.last ∙ sym (begun_again last r.last w least); tidy = near.tidy; other_tidy = tidy; same = near.same ∙ silent is };
     told = refl;
+    raised = begun_again last r.last w least;
   })
 
   -- ---- batches
@@ -246,9 +249,16 @@ module _ (functions : Functions) where
   pub record StandsAt (far : Round) (now : Progress) : Type 0 where
     pub told : far.told ≡ now.told
     pub near : Near far (begun now.last now.world)
+    pub raised : (begun now.last now.world).last ≡ now.last
 
   pub stands_first : (last : ℕ) (world : WorldState) → IsTidy world.properties → StandsAt (begun last world) (at_first last world)
-  stands_first last world tidy = record { told = refl; near = near_itself (begun last world) tidy }
+  stands_first last world tidy =
+      let raised = begun_again last (begun last world).last world (omega arith) in
+      record {
+        told = refl;
+        near = subst (λ (n : ℕ). Near (begun last world) (record { told = []; last = n; left = world; entries = []; wrote = false })) (sym raised) (near_itself (begun last world) tidy);
+        raised = raised;
+      }
 
   pub one_stands : (batch : List Request) (far : Round) (now : Progress) → StandsAt far now → StandsAt (each_request functions far batch) (one_batch functions now batch)
   one_stands batch far now stands =
@@ -260,6 +270,7 @@ module _ (functions : Functions) where
       record {
         told = more.here ∙ (λ i. stands.told i ++ sym (done.told ∙ more.there) i);
         near = done.near;
+        raised = done.raised;
       }
 
   pub batches_stand : (batches : List (List Request)) (far : Round) (now : Progress) → StandsAt far now → StandsAt (each_request functions far (all_of batches)) (in_batches functions now batches)
@@ -280,6 +291,6 @@ module _ (functions : Functions) where
         let rounds : each_request functions (begun last world) (all_of batches) ≡ each_request functions (begun last world) (all_of others) = ap (each_request functions (begun last world)) same in
         record {
           told = sym one.told ∙ ap (λ (r : Round). r.told) rounds ∙ other.told;
-          last = sym one.near.last ∙ ap (λ (r : Round). r.last) rounds ∙ other.near.last;
+          last = sym one.raised ∙ sym one.near.last ∙ ap (λ (r : Round). r.last) rounds ∙ other.near.last ∙ other.raised;
           world = sym one.near.same ∙ ap (λ (r : Round). without_position r.left) rounds ∙ other.near.same;
         }

@@ -14,9 +14,9 @@ pub record Progress : Type 0 where
   pub last : ℕ
   pub world : WorldState
 
--- before the first
+-- before the first, after a message of this number, or after that of the position, if it has a greater one
 abbrev pub at_first : ℕ → WorldState → Progress
-at_first last world = record { told = []; last = last; world = world }
+at_first last world = record { told = []; last = (begun last world).last; world = world }
 
 -- A batch more, as `answer_requests` answers it. The number of its last message is the position of the world, if a message wrote.
 abbrev pub with_batch : Progress → Round → Progress
