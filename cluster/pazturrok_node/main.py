@@ -15,7 +15,7 @@ import ssl
 import sys
 
 from .clients import BUFFER, Clients
-from .etcd import Etcd, EtcdError
+from .etcd import Etcd, EtcdError, PutBackError
 from .log import BehindError, Log
 from .names import Name, TakenNameError
 from .node import Appender, Node
@@ -25,6 +25,7 @@ from .tasks import end_all
 from .trim import Trimmer
 
 REFUSED = "node: {}. Nothing was carried out"
+PUT_BACK = "etcd is another one, or was put back to an older state, while this node ran"
 BEHIND = "this store is behind what is left of the log: put a backup of another node's folder in place of this one (pazturrok backup)"
 
 ABOUT = """A replica of a store, by a log in etcd.
@@ -147,6 +148,9 @@ async def carry_out(asked: argparse.Namespace) -> int:
         return await serve(asked, Node(log, replica, program), Name(log, asked.name, replica))
     except (BehindError, RefusedStoreError) as error:
         print(REFUSED.format(BEHIND if isinstance(error, BehindError) else error), file=sys.stderr)
+        return 4
+    except PutBackError:
+        print(f"node: {PUT_BACK}", file=sys.stderr)
         return 4
     except TakenNameError as error:
         print(f"node: {error}", file=sys.stderr)

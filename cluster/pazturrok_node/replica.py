@@ -87,11 +87,15 @@ class Replica:
             is_there = entry is not None or self._log.revision(seen["number"]) > await self._log.trimmed()
             if is_there and (entry is None or mark(entry) != seen["mark"]):
                 raise RefusedStoreError(OTHER_ENTRY.format(seen["number"]))
-        skipped = {number for number in await self._log.skipped() if number <= position}
         if not self._noted:
-            self._write(skipped=sorted(skipped))
-        for number in skipped.difference(self._noted.get("skipped", ())):
-            raise RefusedStoreError(SKIPPED.format(number))
+            self._write(skipped=sorted(number for number in await self._log.skipped() if number <= position))
+        await self.heed_skips(position)
+
+    async def heed_skips(self, position: int) -> None:
+        """RefusedStoreError where all stores skip an entry that this one has carried out, as it has come to this position."""
+        for number in (await self._log.skipped()).difference(self._noted.get("skipped", ())):
+            if number <= position:
+                raise RefusedStoreError(SKIPPED.format(number))
 
     async def begin(self, position: int) -> Identity:
         """Begins the log with this store, which a program has opened at this position, unless it has begun."""
