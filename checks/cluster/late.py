@@ -117,6 +117,73 @@ def waited(folder, program):
         cluster.end()
 
 
+def twice(folder, program):
+    """A name twice at once, on one connection, is one entry, and both have its answer."""
+    cluster = begun(folder, program, nodes=1)
+    try:
+        one = socket.create_connection(cluster.places[0], LONG)
+        one.sendall(b"do same %d\n%s\n" % (len(ADD), ADD) * 3)
+        stream = one.makefile("rb")
+        told = {(stream.readline(), stream.readline()) for _ in range(3)}
+        return [] if len(told) == 1 and value(cluster, 0) == "6" else [f"answers to one name: {told}"]
+    except TimeoutError:
+        return ["a name that comes twice at once has no answer"]
+    finally:
+        cluster.end()
+
+
+# ---- nodes that have to catch up
+
+MANY = 450
+
+
+def caught_up(folder, program):
+    """A node that was away takes what etcd has where it does not tell the past any more, and more than one page of it."""
+    cluster = begun(folder, program, nodes=2)
+    try:
+        cluster.nodes[1].finish()
+        push_many(cluster)
+        cluster.call("/v3/kv/compaction", {"revision": cluster.call("/v3/kv/range", {"key": "AA=="})["header"]["revision"]})
+        cluster.nodes[1].start()
+        return same_lists(cluster)
+    finally:
+        cluster.end()
+
+
+def lagging(folder, program):
+    """A node that lives, and whose store has stopped, is waited for: nothing is deleted that it has not carried out."""
+    cluster = begun(folder, program, nodes=2, keep=0)
+    try:
+        store = cluster.store_process(1)
+        os.kill(store, signal.SIGSTOP)
+        push_many(cluster)
+        for _ in range(4):
+            time.sleep(3)
+            push_many(cluster)
+        os.kill(store, signal.SIGKILL)
+        return same_lists(cluster)
+    finally:
+        cluster.end()
+
+
+def push_many(cluster):
+    """So many forms on one connection, so that a transaction has many of them."""
+    texts = [b"(PUSH %d (GET 'LIST 'KY))" % number for number in range(MANY)]
+    with socket.create_connection(cluster.places[0], LONG) as one:
+        one.sendall(b"".join(b"do %d\n%s\n" % (len(text), text) for text in texts))
+        one.shutdown(socket.SHUT_WR)
+        while one.recv(1 << 16):
+            pass
+
+
+def same_lists(cluster):
+    try:
+        lists = [Client([place]).request(b"read", b"(GET 'LIST 'KY)", LONG)[1] for place in cluster.places]
+    except TimeoutError:
+        return [f"a node does not come back: {cluster.nodes[1].told()[-300:]}"]
+    return [] if lists[0] == lists[1] and lists[0].startswith(f"({MANY - 1} {MANY - 2} ") else ["the lists differ"]
+
+
 # ---- an entry that is skipped
 
 
@@ -167,5 +234,5 @@ def leavers(_folder, _program):
     return [f"{count} tasks go on after their clients"] if count else []
 
 
-LONG_ONES = ("waited", "skipped away")
-PARTS = {"put back": put_back, "anew": anew, "waited": waited, "skipped away": skipped_away, "leavers": leavers}
+LONG_ONES = ("waited", "lagging", "skipped away")
+PARTS = {"put back": put_back, "anew": anew, "waited": waited, "twice": twice, "caught up": caught_up, "lagging": lagging, "skipped away": skipped_away, "leavers": leavers}
