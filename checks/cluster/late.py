@@ -184,6 +184,30 @@ def same_lists(cluster):
     return [] if lists[0] == lists[1] and lists[0].startswith(f"({MANY - 1} {MANY - 2} ") else ["the lists differ"]
 
 
+def newer(folder, program):
+    """A newer program, which tells more of a store, goes on with it."""
+    one = os.path.join(folder, "program")
+    cluster = begun(folder, one_program(one, program, ""), nodes=1)
+    try:
+        cluster.nodes[0].finish()
+        one_program(one, program, '[ "$1" = info ] && echo "a-new-figure 7"')
+        cluster.nodes[0].start()
+        status = cluster.nodes[0].child.wait(3)
+        return [f"status {status}: {cluster.nodes[0].told()[-300:]}"]
+    except subprocess.TimeoutExpired:
+        return [] if value(cluster, 0) == "5" else ["another value"]
+    finally:
+        cluster.end()
+
+
+def one_program(path, program, more):
+    with open(path + ".new", "w", encoding="ascii") as file:
+        file.write(f'#!/bin/sh\n{more}\nexec {program} "$@"\n')
+    os.chmod(path + ".new", 0o755)
+    os.replace(path + ".new", path)
+    return path
+
+
 # ---- an entry that is skipped
 
 
@@ -235,4 +259,7 @@ def leavers(_folder, _program):
 
 
 LONG_ONES = ("waited", "lagging", "skipped away")
-PARTS = {"put back": put_back, "anew": anew, "waited": waited, "twice": twice, "caught up": caught_up, "lagging": lagging, "skipped away": skipped_away, "leavers": leavers}
+PARTS = {
+    "put back": put_back, "anew": anew, "waited": waited, "twice": twice, "caught up": caught_up, "lagging": lagging, "newer": newer,
+    "skipped away": skipped_away, "leavers": leavers,
+}  # fmt: skip
