@@ -115,13 +115,16 @@ class Cluster:
         told = subprocess.run(["pgrep", "-P", str(self.nodes[place].child.pid)], capture_output=True, text=True)
         return int(told.stdout.split()[0]) if told.stdout.split() else None
 
+    def call(self, path, body):
+        """What the first member answers."""
+        with urllib.request.urlopen(self.urls[0] + path, json.dumps(body).encode(), 10) as answer:
+            return json.load(answer)
+
     def keys(self, prefix):
         """What the first member has under the keys that begin so."""
         text = f"pazturrok/store/{prefix}".encode()
         ends = text[:-1] + bytes([text[-1] + 1])
-        body = json.dumps({"key": base64.b64encode(text).decode(), "range_end": base64.b64encode(ends).decode()}).encode()
-        with urllib.request.urlopen(self.urls[0] + "/v3/kv/range", body, 10) as answer:
-            found = json.load(answer).get("kvs", [])
+        found = self.call("/v3/kv/range", {"key": base64.b64encode(text).decode(), "range_end": base64.b64encode(ends).decode()}).get("kvs", [])
         return {base64.b64decode(one["key"])[len(text) :].decode(): base64.b64decode(one.get("value", "")) for one in found}
 
     def end(self):

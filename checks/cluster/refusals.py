@@ -137,7 +137,6 @@ def ahead(folder, program):
         member.start()
         for number in range(20):
             Client(cluster.places[:1]).request(b"do later-%d" % number, ADD)
-        time.sleep(4)
         one.finish()
         member.kill()
         shutil.rmtree(cluster.data(0))

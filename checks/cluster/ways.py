@@ -6,7 +6,7 @@ import subprocess
 import sys
 import time
 
-from cluster import LONG, Client, Process, free_ports
+from cluster import LONG, NODE, Client, Process, free_ports
 from refusals import ADD, begun, value
 from secrets import Secrets
 
@@ -108,4 +108,24 @@ def deaf_node(cluster, folder, words):
         os.remove(node.log)
 
 
-PARTS = {"names": names, "secure": secure}
+# ---- words
+
+WRONG_WORDS = [
+    ["--etcd", "10.0.0.1:2379"], ["--etcd", "member"], ["--etcd", "http://127.0.0.1:2379,"], ["--etcd", "unix:///run/etcd"],
+    ["--etcd-ca", "ca", "--etcd", "http://127.0.0.1:2379"], ["--etcd-cert", "both"], ["--client-ca", "ca"], ["--name", "a/b"], ["--log", ""],
+    ["--listen", "7411"], ["--listen", "localhost:http"], ["--listen", "0.0.0.0:7411"], ["begin"], ["skip", "-1"], [],
+]  # fmt: skip
+
+
+def wrong_words(folder, _program):
+    """Words that are refused, before anything is asked or opened."""
+    faults = []
+    for words in WRONG_WORDS:
+        store = [] if not words or words[0] in ("begin", "skip") else [os.path.join(folder, "store")]
+        told = subprocess.run([sys.executable, NODE, *store, *words], capture_output=True, text=True, timeout=LONG)
+        if told.returncode != 2 or "error: " not in told.stderr or os.path.exists(os.path.join(folder, "store")):
+            faults.append(f"{words}: status {told.returncode}, {told.stderr[-200:]}")
+    return faults
+
+
+PARTS = {"wrong words": wrong_words, "names": names, "secure": secure}

@@ -8,6 +8,7 @@ import uuid
 from collections.abc import Awaitable, Coroutine
 from typing import Any
 
+from .etcd import EtcdError, PutBackError
 from .frames import LIMIT, NoFrameError, answer, read_request
 from .node import Appender, Node
 
@@ -31,16 +32,13 @@ class Clients:
     async def serve(self, reader: asyncio.StreamReader, writer: asyncio.StreamWriter) -> None:
         """Answers the requests of a client, until it goes or sends what is no frame."""
         client = Client(self._node, self._appender, reader, writer)
-        sender = asyncio.ensure_future(client.send())
+        taker = asyncio.ensure_future(client.take())
         try:
-            with contextlib.suppress(NoFrameError, ConnectionError, asyncio.IncompleteReadError, ValueError):
-                await client.take()
-            await client.pending.put(None)
-            await sender
-        except (ConnectionError, asyncio.CancelledError):
-            pass
+            with contextlib.suppress(ConnectionError, asyncio.CancelledError, EtcdError, PutBackError):
+                await client.send()
         finally:
-            sender.cancel()
+            taker.cancel()
+            client.forget()
             writer.close()
 
 
@@ -51,7 +49,12 @@ class Client:
         self._unread = self._unplaced = 0
 
     async def take(self) -> None:
-        """Takes requests, until the client sends no more."""
+        """Takes requests, until the client sends no more, or what is no frame."""
+        with contextlib.suppress(NoFrameError, ConnectionError, asyncio.IncompleteReadError, ValueError):
+            await self._take_all()
+        await self.pending.put(None)
+
+    async def _take_all(self) -> None:
         before: asyncio.Task[bytes] | None = None
         while (request := await read_request(self._reader)) is not None:
             kind, name, text = request
@@ -69,13 +72,14 @@ class Client:
         placed.add_done_callback(lambda _: self._count_placed(len(text)))
         if self._unplaced > UNPLACED:
             await asyncio.wait([placed])
-        return self._answer_to(name, placed)
+        return self._answer_to(placed)
 
     def _count_placed(self, size: int) -> None:
         self._unplaced -= size
 
-    async def _answer_to(self, name: bytes, placed: Awaitable[int]) -> bytes:
-        return self._held(answer(*await self._node.answers.answer_to(name, await placed)))
+    async def _answer_to(self, placed: Awaitable[int]) -> bytes:
+        number = await placed
+        return self._held(answer(number, await self._node.answers.answer_to(number)))
 
     async def _ask(self, kind: str, text: bytes, before: Awaitable[bytes] | None) -> bytes:
         # it sees what the same client has sent before
@@ -97,3 +101,10 @@ class Client:
             self._writer.write(text)
             await self._writer.drain()
             self._unread -= len(text)
+
+    def forget(self) -> None:
+        """Nobody waits for the answers any more. What is to be carried out will be."""
+        while not self.pending.empty():
+            task = self.pending.get_nowait()
+            if task is not None:
+                task.cancel()

@@ -30,6 +30,10 @@ class CompactedError(EtcdError):
     """What was at this revision is not told any more."""
 
 
+class PutBackError(Exception):
+    """etcd has come back with less than it had told of: it is another one, or was put back to an older state."""
+
+
 def encoded(text: bytes) -> str:
     return base64.b64encode(text).decode("ascii")
 
@@ -99,11 +103,14 @@ class Etcd:
         self._silent_since: float | None = None
         self._told = SILENCE
         self._free: list[tuple[int, Connection]] = []
+        self._revision = 0
+        """The greatest that was told. It never falls."""
 
     async def call(self, path: str, body: dict[str, Any]) -> dict[str, Any]:
         """The answer of a call, which is made until a member answers it. So it has to be one that may be made twice."""
         while True:
             at, connection = self._take()
+            before = self._revision
             try:
                 found = await asyncio.wait_for(self._ask(connection, path, body), TIMEOUT)
             except (OSError, asyncio.TimeoutError, asyncio.IncompleteReadError, ValueError) as error:
@@ -118,6 +125,7 @@ class Etcd:
             self._silent_since, self._told = None, SILENCE
             self._free.append((at, connection))
             if "error" not in found:
+                self._look_back(path, found, before)
                 return found
             if "compacted" in found["error"]:
                 raise CompactedError(found["error"])
@@ -125,6 +133,16 @@ class Etcd:
                 raise EtcdError(found["error"])
             self._at = (at + 1) % len(self._urls)
             await asyncio.sleep(PAUSE)
+
+    def _look_back(self, path: str, found: dict[str, Any], before: int) -> None:
+        """PutBackError where a call was answered with a lower revision than one that had ended before it."""
+        if path not in ("/v3/kv/range", "/v3/kv/txn", "/v3/kv/put"):
+            # others tell what one member knows
+            return
+        revision = int(found["header"]["revision"])
+        if revision < before:
+            raise PutBackError
+        self._revision = max(self._revision, revision)
 
     def _tell_silence(self, at: int, error: BaseException) -> None:
         """Tells an operator what keeps this node from etcd, now and then."""

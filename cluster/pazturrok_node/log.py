@@ -93,11 +93,16 @@ class Log:
 
     # Entries
 
-    async def append(self, entries: Sequence[tuple[bytes, bytes]]) -> list[int]:
-        """Puts entries under their names, each unless it is there: the number of each. All names differ."""
+    async def append(self, entries: Sequence[tuple[bytes, bytes]], floor: int) -> list[int] | None:
+        """Puts entries under their names, each unless it is there: the number of each. All names differ.
+
+        None, and nothing is put, where entries after this number are deleted: one of them may have had such a name.
+        """
         puts = [put_once(encoded(self.entries + name), encoded(b"%d\n%s" % (place, text))) for place, (name, text) in enumerate(entries)]
         tail = {"request_put": {"key": encoded(self.tail), "value": encoded(b"%d" % len(entries))}}
-        found = await self.etcd.call("/v3/kv/txn", {"success": [*puts, tail]})
+        found = await self.etcd.call("/v3/kv/txn", {"compare": [self._keeps(self.revision(floor))], "success": [*puts, tail]})
+        if not found.get("succeeded"):
+            return None
         return [self._number_of(place, response["response_txn"], found) for place, response in enumerate(found["responses"][:-1])]
 
     def _number_of(self, place: int, response: dict[str, Any], whole: dict[str, Any]) -> int:
@@ -183,6 +188,11 @@ class Log:
 
     def _trimmed(self, found: dict[str, Any]) -> int:
         return int(decoded(found["kvs"][0]["key"])[len(self._trims) :]) if found.get("kvs") else 0
+
+    def _keeps(self, revision: int) -> dict[str, Any]:
+        """What a transaction compares that is to do nothing once entries of this revision, or of a later one, are deleted."""
+        later = {**among(self._trims), "key": encoded(self._trims + b"%020d" % revision)}
+        return {**later, "target": "CREATE", "result": "EQUAL", "create_revision": "0"}
 
     async def will_trim(self, revision: int) -> None:
         """Entries up to this revision are about to be deleted: never again is a lower one told."""

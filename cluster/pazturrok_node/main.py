@@ -15,7 +15,7 @@ import ssl
 import sys
 
 from .clients import BUFFER, Clients
-from .etcd import Etcd, EtcdError
+from .etcd import Etcd, EtcdError, PutBackError
 from .log import BehindError, Log
 from .names import Name, TakenNameError
 from .node import Appender, Node
@@ -24,7 +24,8 @@ from .replica import RefusedStoreError, Replica
 from .tasks import end_all
 from .trim import Trimmer
 
-REFUSED = "node: {}. Nothing was carried out"
+REFUSED = "node: {}. Nothing more is carried out"
+PUT_BACK = "etcd is another one, or was put back to an older state, while this node ran"
 BEHIND = "this store is behind what is left of the log: put a backup of another node's folder in place of this one (pazturrok backup)"
 
 ABOUT = """A replica of a store, by a log in etcd.
@@ -59,11 +60,22 @@ def words() -> argparse.Namespace:
     for word in (asked.log, asked.name):
         if not re.fullmatch(r"[A-Za-z0-9._-]{1,100}", word):
             parser.error(f"{word!r} is no name")
+    look_at_members(parser, asked)
+    if "/" not in asked.listen and not re.fullmatch(r".*:[0-9]{1,5}", asked.listen):
+        parser.error(f"{asked.listen!r} is no HOST:PORT, and no path with a slash")
     if asked.client_ca and not asked.cert:
         parser.error("--client-ca wants --cert")
     if "/" not in asked.listen and not asked.cert and not asked.open and not is_loopback(asked.listen):
         parser.error(f"{asked.listen} is beyond this machine: give --cert, or --open where the network is your own")
     return asked
+
+
+def look_at_members(parser: argparse.ArgumentParser, asked: argparse.Namespace) -> None:
+    for url in asked.etcd.split(","):
+        if not re.fullmatch(r"https?://[^/?#@]+/?", url):
+            parser.error(f"{url!r} is no member of etcd: http://HOST:PORT, or https://HOST:PORT")
+        if (asked.etcd_ca or asked.etcd_cert) and not url.startswith("https:"):
+            parser.error(f"--etcd-ca and --etcd-cert want https, and {url} has none")
 
 
 def is_loopback(place: str) -> bool:
@@ -74,7 +86,7 @@ def is_loopback(place: str) -> bool:
 
 
 def context_for_etcd(asked: argparse.Namespace) -> ssl.SSLContext | None:
-    if not asked.etcd_ca:
+    if "https:" not in asked.etcd:
         return None
     context = ssl.create_default_context(cafile=asked.etcd_ca)
     if asked.etcd_cert:
@@ -135,10 +147,10 @@ async def serve(asked: argparse.Namespace, node: Node, name: Name) -> int:
 
 async def carry_out(asked: argparse.Namespace) -> int:
     order, thing = asked.order
-    log = Log(Etcd(asked.etcd.split(","), context_for_etcd(asked)), asked.log)
     further = ["--snapshot-every", asked.snapshot_every] if asked.snapshot_every else []
     program = [asked.program, "run", thing, "--messages", *further]
     try:
+        log = Log(Etcd(asked.etcd.split(","), context_for_etcd(asked)), asked.log)
         if order == "skip":
             return await skip(log, int(thing))
         replica = Replica(log, asked.program, thing)
@@ -147,6 +159,9 @@ async def carry_out(asked: argparse.Namespace) -> int:
         return await serve(asked, Node(log, replica, program), Name(log, asked.name, replica))
     except (BehindError, RefusedStoreError) as error:
         print(REFUSED.format(BEHIND if isinstance(error, BehindError) else error), file=sys.stderr)
+        return 4
+    except PutBackError:
+        print(f"node: {PUT_BACK}", file=sys.stderr)
         return 4
     except TakenNameError as error:
         print(f"node: {error}", file=sys.stderr)

@@ -7,6 +7,7 @@ import collections
 import contextlib
 import sys
 from collections.abc import Callable, Sequence
+from typing import NamedTuple
 
 from .answers import LOST, Answers
 from .child import Child
@@ -112,6 +113,7 @@ class Node:
     async def end(self) -> None:
         """Writes down how the store was left."""
         if self.is_admitted.is_set() and self._child is None:
+            self.note()
             await self._replica.ended()
 
     def note(self) -> None:
@@ -119,11 +121,15 @@ class Node:
         if self._last:
             self._replica.saw(self._last)
 
+    async def heed_skips(self) -> None:
+        """RefusedStoreError where the other stores skip what this one has carried out."""
+        await self._replica.heed_skips(self.position)
+
     async def _settle(self, position: int) -> None:
         """The store has carried out the entries up to this number: nobody has the answers that were not read."""
         for entry in self._sent:
             if entry.number <= position:
-                self.answers.resolve(entry, LOST)
+                self.answers.resolve(entry.number, LOST)
         self._sent.clear()
         self.lasting = max(self.lasting, position)
         await self._move(position)
@@ -172,7 +178,7 @@ class Node:
                     raise NoFrameError(f"an answer to {number}, and not to {self._last.number}")
                 if self._last.text == MARK and text == b"0":
                     self.lasting = number
-                self.answers.resolve(self._last, SKIPPED if number in self._skipped else text)
+                self.answers.resolve(number, SKIPPED if number in self._skipped else text)
                 await self._move(number)
 
     async def _move(self, position: int) -> None:
@@ -190,48 +196,75 @@ class Node:
             self._moved.notify_all()
 
 
+class Unplaced(NamedTuple):
+    """A request that is no entry yet, and how far its node had come when it came."""
+
+    name: bytes
+    text: bytes
+    position: int
+    placed: asyncio.Future[int]
+
+
 class Appender:
     """Puts what clients send into the log: all that came while a transaction was under way is one more."""
 
     def __init__(self, node: Node) -> None:
         self._node = node
-        self._waiting: collections.deque[tuple[bytes, bytes, asyncio.Future[int]]] = collections.deque()
+        self._waiting: collections.deque[Unplaced] = collections.deque()
         self._some = asyncio.Event()
+        self._first = 0
+        """The position of the store as it was opened, before any of them came."""
 
     def append(self, name: bytes, text: bytes) -> asyncio.Future[int]:
-        """Puts an entry into the log, once, however often it is tried, and after those of earlier calls: what will have its number."""
+        """Puts an entry into the log, once, however often it is tried, and after those of earlier calls: what will have its number.
+
+        It is cancelled where the entry has waited for so long that one of its name may be deleted already.
+        """
         placed: asyncio.Future[int] = asyncio.get_running_loop().create_future()
-        self._waiting.append((name, text, placed))
+        self._waiting.append(Unplaced(name, text, self._node.position, placed))
         self._some.set()
         return placed
 
     async def run(self) -> None:
         """Puts them, for ever."""
         await self._node.is_admitted.wait()
+        self._first = self._node.position
         while True:
             await self._some.wait()
-            some = self._take()
-            numbers = await self._put([(name, text) for name, text, _ in some])
-            for (_, _, placed), number in zip(some, numbers):
-                if not placed.done():
-                    placed.set_result(number)
+            some, numbers = self._take(), None
+            while some and (numbers := await self._put(some)) is None:
+                some = await self._leave(some)
+            for one, number in zip(some, numbers or ()):
+                if not one.placed.done():
+                    one.placed.set_result(number)
 
-    async def _put(self, entries: Sequence[tuple[bytes, bytes]]) -> list[int]:
+    async def _leave(self, some: Sequence[Unplaced]) -> list[Unplaced]:
+        """Lets go of those that came before entries which are deleted now: the client may have sent them to another node since."""
+        trimmed = await self._node.log.trimmed()
+        stay = [one for one in some if self._node.log.revision(max(one.position, self._first)) > trimmed]
+        for one in some:
+            if one not in stay:
+                one.placed.cancel()
+        print(f"node: {len(some) - len(stay)} requests waited for longer than entries are kept, and are left", file=sys.stderr, flush=True)
+        return stay
+
+    async def _put(self, some: Sequence[Unplaced]) -> list[int] | None:
+        floor = max(min(one.position for one in some), self._first)
         while True:
             try:
-                return await self._node.log.append(entries)
+                return await self._node.log.append([(one.name, one.text) for one in some], floor)
             except EtcdError as error:
                 # as where it is full: they wait until an operator has made room
                 print(f"node: etcd takes no entries: {error}", file=sys.stderr, flush=True)
                 await asyncio.sleep(1)
 
-    def _take(self) -> list[tuple[bytes, bytes, asyncio.Future[int]]]:
+    def _take(self) -> list[Unplaced]:
         """The first ones that wait, of different names, as many as one transaction may have."""
-        some: list[tuple[bytes, bytes, asyncio.Future[int]]] = []
+        some: list[Unplaced] = []
         size, names = 0, set()
         while self._waiting and len(some) < AT_ONCE:
-            name, text, _ = self._waiting[0]
-            size += len(text)
+            name = self._waiting[0].name
+            size += len(self._waiting[0].text)
             if name in names or (some and size > MOST_BYTES):
                 break
             names.add(name)

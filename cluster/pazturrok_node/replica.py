@@ -20,6 +20,9 @@ NOTES = "replica"
 RECORD = b" rescue (SETF (GET '|position| '|position|) "
 """What stands in the last record of a store that was fed nothing but messages."""
 
+FIGURES = ("half", "generation", "records", "bytes", "half-a-bytes", "half-b-bytes")
+"""What `info` tells of the files. A newer program may tell more."""
+
 NO_LOG = "etcd has no log of this name, and this store is of one, at {}: begin one anew with the store that has come farthest (pazturrok-node begin)"
 OTHER_WORLD = "the log begins with another world than that of this store: start all of them from copies of one store"
 OTHER_LOG = "this store is of another log, at {}"
@@ -55,7 +58,7 @@ class Replica:
             last = lines[-1] if lines else last
         self._is_foreign = last != b"" and RECORD not in last
         ended = self._noted.get("ended")
-        self._is_changed = ended is not None and await self._figures() != ended
+        self._is_changed = ended is not None and await self._figures() != figures_of(ended.split("; "))
 
     async def admit(self, position: int) -> None:
         """A program has opened the store, at this position: RefusedStoreError where that is none of the log."""
@@ -87,11 +90,15 @@ class Replica:
             is_there = entry is not None or self._log.revision(seen["number"]) > await self._log.trimmed()
             if is_there and (entry is None or mark(entry) != seen["mark"]):
                 raise RefusedStoreError(OTHER_ENTRY.format(seen["number"]))
-        skipped = {number for number in await self._log.skipped() if number <= position}
         if not self._noted:
-            self._write(skipped=sorted(skipped))
-        for number in skipped.difference(self._noted.get("skipped", ())):
-            raise RefusedStoreError(SKIPPED.format(number))
+            self._write(skipped=sorted(number for number in await self._log.skipped() if number <= position))
+        await self.heed_skips(position)
+
+    async def heed_skips(self, position: int) -> None:
+        """RefusedStoreError where all stores skip an entry that this one has carried out, as it has come to this position."""
+        for number in (await self._log.skipped()).difference(self._noted.get("skipped", ())):
+            if number <= position:
+                raise RefusedStoreError(SKIPPED.format(number))
 
     async def begin(self, position: int) -> Identity:
         """Begins the log with this store, which a program has opened at this position, unless it has begun."""
@@ -151,8 +158,11 @@ class Replica:
 
     async def _figures(self) -> str:
         text = b"".join([piece async for piece in self._told("info")])
-        # how long ago a file was written is no figure of it
-        return "; ".join(line for line in text.decode("ascii", "replace").split("\n") if "-age" not in line)
+        return figures_of(text.decode("ascii", "replace").split("\n"))
+
+
+def figures_of(lines: list[str]) -> str:
+    return "; ".join(line for line in lines if line.partition(" ")[0] in FIGURES)
 
 
 def mark(entry: Entry) -> str:

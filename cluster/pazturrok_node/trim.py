@@ -64,6 +64,7 @@ class Trimmer:
                     answered = self._node.position
                     self._node.note()
                 await self._name.hold()
+                await self._node.heed_skips()
                 await self._report()
                 if await self._is_holder():
                     await self._trim()
@@ -89,7 +90,7 @@ class Trimmer:
 
     async def _trim(self) -> None:
         await self._mark()
-        least = min(told["lasting"] for told in (await self._reports.all()).values())
+        least = min((told["lasting"] for told in (await self._reports.all()).values()), default=0)
         self._trimmed = self._trimmed or await self._log.trimmed()
         # what comes after a position may have its revision, so that one stays
         upto = self._log.revision(min(least, self._position_before(time.monotonic() - self._keep))) - 1

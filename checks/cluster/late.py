@@ -1,0 +1,265 @@
+"""What comes late, or again: etcd is put back while nodes run, a request waits longer than entries are kept, a name is used anew, an entry is
+skipped while a node is away, clients go and leave what they asked for. Each part gives what is wrong."""
+import asyncio
+import os
+import shutil
+import signal
+import socket
+import subprocess
+import sys
+import threading
+import time
+
+from cluster import LONG, Client
+from refusals import ADD, LOOK, begun, stuck_at, value
+
+sys.path.append(os.path.join(os.path.dirname(os.path.abspath(__file__)), "..", "..", "cluster"))
+
+
+def add(cluster, place, name):
+    return Client(cluster.places[place : place + 1]).request(b"do " + name, ADD)[1]
+
+
+def ended(node, words):
+    """What is wrong with a node that should end by itself, with these words."""
+    try:
+        status = node.child.wait(LONG)
+    except subprocess.TimeoutExpired:
+        return [f"a node goes on, and should say: {words}"]
+    return [] if status == 4 and words in node.told() else [f"status {status}: {node.told()[-300:]}"]
+
+
+# ---- etcd
+
+
+def put_back(folder, program):
+    """etcd is put back to an older state, and emptied, while a node runs: it ends, and answers nothing of what came then."""
+    faults = []
+    for is_old in (True, False):
+        room = os.path.join(folder, "old" if is_old else "empty")
+        os.mkdir(room)
+        faults += put_back_to(begun(room, program, nodes=1), is_old)
+    return faults
+
+
+def put_back_to(cluster, is_old):
+    member, node, old = cluster.members[0], cluster.nodes[0], cluster.data(0) + "-old"
+    try:
+        member.kill()
+        shutil.copytree(cluster.data(0), old)
+        member.start()
+        for number in range(20):
+            add(cluster, 0, b"later-%d" % number)
+        member.kill()
+        shutil.rmtree(cluster.data(0))
+        if is_old:
+            shutil.move(old, cluster.data(0))
+        member.start()
+        try:
+            told = Client(cluster.places, patience=LONG).once(b"do new", ADD)
+            return [f"an entry of another log was answered: {told}"]
+        except (OSError, ValueError):
+            return ended(node, "was put back")
+    finally:
+        cluster.end()
+
+
+# ---- names
+
+
+def trimmed(cluster, place, after):
+    """Adds until entries up to those of now are deleted."""
+    deadline = time.monotonic() + LONG
+    while not any(int(name) > after for name in cluster.keys("trims/")) and time.monotonic() < deadline:
+        Client(cluster.places[place : place + 1]).request(b"do", b"(PUSH 1 (GET 'LIST 'KY))")
+        time.sleep(0.2)
+
+
+def revision(cluster, number):
+    return number % (1 << 48) // 128
+
+
+def anew(folder, program):
+    """A name that is used again after its entry was deleted is another entry, with an answer of its own."""
+    cluster = begun(folder, program, nodes=1, keep=0)
+    try:
+        number, told = Client(cluster.places).request(b"do again", ADD)
+        trimmed(cluster, 0, revision(cluster, number))
+        later, answer = Client(cluster.places).request(b"do again", ADD)
+        return [] if (told, answer) == ("6", "7") and later > number else [f"answers to one name: {number} {told}, {later} {answer}"]
+    finally:
+        cluster.end()
+
+
+def waited(folder, program):
+    """A request waits at a node that etcd does not hear, and is sent again to another one. When its entry is deleted, the first is heard again."""
+    cluster = begun(folder, program, members=3, nodes=2, keep=5)
+    try:
+        cluster.nodes[0].finish()
+        words = cluster.nodes[0].words
+        words[words.index("--etcd") + 1] = cluster.urls[0]
+        cluster.nodes[0].start()
+        faults = [] if value(cluster, 0) == "5" else ["another value"]
+        cluster.members[0].signal(signal.SIGSTOP)
+        waiting = socket.create_connection(cluster.places[0])
+        waiting.sendall(b"do once %d\n%s\n" % (len(ADD), ADD))
+        time.sleep(1)
+        number, told = Client(cluster.places[1:]).request(b"do once", ADD)
+        faults += [] if told == "6" else [f"the answer is {told}"]
+        time.sleep(18)
+        cluster.urls.reverse()
+        trimmed(cluster, 1, revision(cluster, number))
+        cluster.members[0].signal(signal.SIGCONT)
+        time.sleep(6)
+        given = value(cluster, 1)
+        return faults + ([] if given == "6" else [f"one request was carried out again: {given}"])
+    finally:
+        cluster.end()
+
+
+def twice(folder, program):
+    """A name twice at once, on one connection, is one entry, and both have its answer."""
+    cluster = begun(folder, program, nodes=1)
+    try:
+        one = socket.create_connection(cluster.places[0], LONG)
+        one.sendall(b"do same %d\n%s\n" % (len(ADD), ADD) * 3)
+        stream = one.makefile("rb")
+        told = {(stream.readline(), stream.readline()) for _ in range(3)}
+        return [] if len(told) == 1 and value(cluster, 0) == "6" else [f"answers to one name: {told}"]
+    except TimeoutError:
+        return ["a name that comes twice at once has no answer"]
+    finally:
+        cluster.end()
+
+
+# ---- nodes that have to catch up
+
+MANY = 450
+
+
+def caught_up(folder, program):
+    """A node that was away takes what etcd has where it does not tell the past any more, and more than one page of it."""
+    cluster = begun(folder, program, nodes=2)
+    try:
+        cluster.nodes[1].finish()
+        push_many(cluster)
+        cluster.call("/v3/kv/compaction", {"revision": cluster.call("/v3/kv/range", {"key": "AA=="})["header"]["revision"]})
+        cluster.nodes[1].start()
+        return same_lists(cluster)
+    finally:
+        cluster.end()
+
+
+def lagging(folder, program):
+    """A node that lives, and whose store has stopped, is waited for: nothing is deleted that it has not carried out."""
+    cluster = begun(folder, program, nodes=2, keep=0)
+    try:
+        store = cluster.store_process(1)
+        os.kill(store, signal.SIGSTOP)
+        push_many(cluster)
+        for _ in range(4):
+            time.sleep(3)
+            push_many(cluster)
+        os.kill(store, signal.SIGKILL)
+        return same_lists(cluster)
+    finally:
+        cluster.end()
+
+
+def push_many(cluster):
+    """So many forms on one connection, so that a transaction has many of them."""
+    texts = [b"(PUSH %d (GET 'LIST 'KY))" % number for number in range(MANY)]
+    with socket.create_connection(cluster.places[0], LONG) as one:
+        one.sendall(b"".join(b"do %d\n%s\n" % (len(text), text) for text in texts))
+        one.shutdown(socket.SHUT_WR)
+        while one.recv(1 << 16):
+            pass
+
+
+def same_lists(cluster):
+    try:
+        lists = [Client([place]).request(b"read", b"(GET 'LIST 'KY)", LONG)[1] for place in cluster.places]
+    except TimeoutError:
+        return [f"a node does not come back: {cluster.nodes[1].told()[-300:]}"]
+    return [] if lists[0] == lists[1] and lists[0].startswith(f"({MANY - 1} {MANY - 2} ") else ["the lists differ"]
+
+
+def newer(folder, program):
+    """A newer program, which tells more of a store, goes on with it."""
+    one = os.path.join(folder, "program")
+    cluster = begun(folder, one_program(one, program, ""), nodes=1)
+    try:
+        cluster.nodes[0].finish()
+        one_program(one, program, '[ "$1" = info ] && echo "a-new-figure 7"')
+        cluster.nodes[0].start()
+        status = cluster.nodes[0].child.wait(3)
+        return [f"status {status}: {cluster.nodes[0].told()[-300:]}"]
+    except subprocess.TimeoutExpired:
+        return [] if value(cluster, 0) == "5" else ["another value"]
+    finally:
+        cluster.end()
+
+
+def one_program(path, program, more):
+    with open(path + ".new", "w", encoding="ascii") as file:
+        file.write(f'#!/bin/sh\n{more}\nexec {program} "$@"\n')
+    os.chmod(path + ".new", 0o755)
+    os.replace(path + ".new", path)
+    return path
+
+
+# ---- an entry that is skipped
+
+
+def skipped_away(folder, program):
+    """An entry that one node has carried out is skipped while that one is away: it ends when it is back."""
+    small = os.path.join(folder, "small")
+    with open(small, "w", encoding="ascii") as file:
+        file.write(f'#!/bin/sh\ncase "$2" in *store-0) ;; *) ulimit -v 200000; export FAKE_MEMORY=refused;; esac\nexec {program} "$@"\n')
+    os.chmod(small, 0o755)
+    cluster = begun(folder, small, nodes=2)
+    try:
+        Client(cluster.places).request(b"do large", b"#999999(A)")
+        cluster.nodes[0].signal(signal.SIGSTOP)
+        time.sleep(17)
+        number = stuck_at(cluster)
+        status, told = cluster.order("skip", str(number))
+        if status:
+            return [f"skip {number}: {told}"]
+        cluster.nodes[0].signal(signal.SIGCONT)
+        return ended(cluster.nodes[0], "may have carried it out")
+    finally:
+        cluster.end()
+
+
+# ---- clients that go
+
+
+def leavers(_folder, _program):
+    """Clients that ask much, read nothing and go leave no task behind."""
+    from pazturrok_node.clients import Clients
+
+    class Slow:
+        async def ask(self, text):
+            return text * 10_000
+
+    async def left():
+        server = await asyncio.start_server(Clients(Slow(), None).serve, "127.0.0.1", 0)
+        for _ in range(5):
+            _, writer = await asyncio.open_connection(*server.sockets[0].getsockname())
+            writer.write(b"ask 5\n(FOO)\n" * 3000)
+            await asyncio.sleep(0.2)
+            writer.transport.abort()
+        await asyncio.sleep(2)
+        server.close()
+        return len(asyncio.all_tasks()) - 1
+
+    count = asyncio.run(left())
+    return [f"{count} tasks go on after their clients"] if count else []
+
+
+LONG_ONES = ("waited", "lagging", "skipped away")
+PARTS = {
+    "put back": put_back, "anew": anew, "waited": waited, "twice": twice, "caught up": caught_up, "lagging": lagging, "newer": newer,
+    "skipped away": skipped_away, "leavers": leavers,
+}  # fmt: skip
