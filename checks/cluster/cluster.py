@@ -147,8 +147,14 @@ class Cluster:
             print(f"--- {one.log}", *one.told().split("\n")[-15:], sep="\n")
 
     def run(self, place, command, *options, text=""):
-        """What a command tells of a store that no node serves."""
-        told = subprocess.run([self.program, command, self.store(place), *options], input=text, capture_output=True, text=True, timeout=LONG)
+        """What a command tells of a store that no node serves. The program of a node that was killed holds its store for a moment more."""
+        words = [self.program, command, self.store(place), *options]
+        until = time.monotonic() + LONG
+        while True:
+            told = subprocess.run(words, input=text, capture_output=True, text=True, timeout=LONG)
+            if "locked by another process" not in told.stderr or time.monotonic() > until:
+                break
+            time.sleep(0.1)
         assert told.returncode == 0, told.stderr
         return told.stdout
 
