@@ -18,6 +18,7 @@
 //! - proofs/KeepingForms.antt: a relation that holds of each change holds of a form.
 //! - proofs/NumberedForms.antt: a form is refused under a number of evaluation.
 //! - proofs/WithoutBase.antt: what a form gives where `*READ-BASE*` is no variable.
+//! - proofs/Induction.antt: one induction over the value of a form, in which what holds of each step holds of it (`every_value`).
 #![tactic(auto)]
 
 mod control;

@@ -10,10 +10,10 @@
 //!
 //! The readtables, and so the law of a whole export, are in whole_export.
 //!
-//! The lemmas in `proofs` are of this crate alone:
+//! Lemmas in `proofs`, which whole_export cites too:
 //!
 //! - `PartsRead`, `Symbols`: what is read of the parts of a form; `PropertyText`, `PackageText`, `Current`: of the forms
-//! - `There`, `One`, `All`, `PackageForms`: the forms as transactions
+//! - `There`, `One`, `All`, `PackageForms`, `NewPackages`: the forms as transactions
 //! - `OneForm`, `Front`: a form in a text; `Lines`, `OnTheWay`, `PackageLines`, `Data`: all of them
 #![tactic(auto)]
 

@@ -13,6 +13,7 @@
 //!
 //! - proofs/Accepted.antt: what holds of a form as one transaction: it is silent, sound, covered, or refused under
 //!   a number of evaluation.
+//! - proofs/KnownSymbols.antt: symbols that are there are interned by changing nothing.
 #![tactic(auto)]
 
 mod application;

@@ -37,6 +37,7 @@
 //! - proofs/Fittings.antt, proofs/Homes.antt: the symbols of a form fit sound packages; homes are ASCII.
 //! - proofs/Numbers.antt: a text is refused under a number of reading alone.
 //! - proofs/Registered.antt: of the registered functions, reading asks only for the names.
+//! - proofs/Deciding.antt: where the attempt begins that decides a text.
 #![tactic(auto)]
 
 mod call;

@@ -55,6 +55,7 @@
 //!   `at_symbol`, `keeps_same`, `keeps_both`).
 //! - proofs/Seen.antt: a tree by names, read as a finite map (`as_map-insert`, `as_map-remove`, `keys-read`,
 //!   `entries-as_map` and their like).
+//! - proofs/Puts.antt: an entry that is put in place of another (`insert_twice`).
 #![tactic(auto)]
 
 mod conflicts;

@@ -53,6 +53,13 @@
 //! - `step`, `outcome`, `open_fault`: the words of the calls, with `Mode` and `Wanted` of session_words. `failure`: why a form is not accepted.
 //! - `laws`: the headline, openings in a row, that an image means one world, that files of version 1 mean what they meant, and
 //!   which numbers refuse a form.
+//!
+//! # Laws for the crates above
+//!
+//! - proofs/Surviving.antt: what calls survive, and how that joins (`one_world`, `still`).
+//! - proofs/calls/StreamLemmas.antt: known bytes of readers and writers. proofs/meaning/Replaying.antt: the replay of records.
+//! - proofs/requests/Positions.antt: the position as a property (`position_put`, `position_out`). proofs/steps/Grouping.antt: forms
+//!   that are taken together.
 #![tactic(auto)]
 
 mod batch;

@@ -20,6 +20,10 @@
 //! - proofs/PartFinds.antt, proofs/PartMakes.antt, proofs/PartSteps.antt: packages that are a part of others, while they are made.
 //! - proofs/PartSame.antt, proofs/AllPackages.antt: where all is made, the packages are the same.
 //! - proofs/PropertyParts.antt: property lists, made one after the other.
+//! - proofs/Begins.antt, proofs/KeysSoFar.antt: packages that are begun, and keys of which no two are one.
+//! - proofs/EntryParts.antt, proofs/MacroParts.antt, proofs/ReadtableParts.antt, proofs/TableParts.antt, proofs/NamedTables.antt:
+//!   readtables, made entry by entry and one after the other.
+//! - proofs/Filling.antt, proofs/ReadRows.antt: lists that are made place by place, and data that are read item by item.
 #![tactic(auto)]
 
 mod error;

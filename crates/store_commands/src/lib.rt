@@ -13,6 +13,10 @@
 //! - `folders` has what opens the files of a folder, and the disk that they are; `looking` opens what they hold at one moment in their
 //!   place, for reports on a store that may be served meanwhile. `existing_stores_are_open` (module `laws`): with
 //!   `--existing` one of both files of an honest disk is a half in use.
+//!
+//! # For proofs above
+//!
+//! - proofs/Reports.antt: from what is written of an open store to what the commands promise.
 #![tactic(auto)]
 
 mod answers;

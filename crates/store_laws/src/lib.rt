@@ -16,7 +16,7 @@
 //!   so (`specs/Messages.antt`)
 //! - `version_1_opens`: a store that is opened on files of version 1 has the world that they meant to version 1
 //!
-//! The lemmas in `proofs` are of this crate alone: `Events`, `Handings`, `MessagesDone`, `Outcomes`, `WholeCalls`.
+//! Lemmas in `proofs`, of which crates above cite `Outcomes`: `Events`, `Handings`, `MessagesDone`, `Outcomes`, `WholeCalls`.
 #![tactic(auto)]
 
 mod batch;

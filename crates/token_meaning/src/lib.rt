@@ -23,6 +23,7 @@
 //!
 //! - `proofs/Spelled.antt`: `digits_given`, `decimal_given`, `ratio_given`, `float_given`; `rational_of_digits`,
 //!   `rational_of_ratio`
+//! - `proofs/NumberFronts.antt`: `no_number`, `begins_number`: what does not begin as a number is none
 //! - `proofs/Forms.antt`: `found`, `rational_found`
 //! - `proofs/Parts.antt`: `cut_with`, `cut_without`, `cut_past`, `cut_parts`
 //! - `proofs/Patterns.antt`: `unmarked`, `marked`, `keyword_given`, `external_given`, `internal_given`, `one_refused`,

@@ -25,6 +25,8 @@
 //! - proofs/PackageEntries.antt: the lists of the names of a package say what is at each name.
 //! - proofs/Versions.antt: the third object of a state, by version.
 //! - proofs/Ascii.antt: the names of sound packages are of characters.
+//! - proofs/Characters.antt, proofs/Marked.antt: what holds of each of the 128 characters, and the marks of an atom that is one
+//!   token.
 #![tactic(auto)]
 
 mod laws;
