@@ -7,11 +7,10 @@ import signal
 import socket
 import subprocess
 import sys
-import threading
 import time
 
 from cluster import LONG, Client
-from refusals import ADD, LOOK, begun, stuck_at, value
+from refusals import ADD, begun, stuck_at, value
 
 sys.path.append(os.path.join(os.path.dirname(os.path.abspath(__file__)), "..", "..", "cluster"))
 
