@@ -6,6 +6,7 @@ pub mod Seen
 pub mod Branches
 pub mod Sequences
 pub mod Lists
+pub mod QuotedKeys
 pub mod RowForms
 pub mod Rows
 pub mod WorldRows

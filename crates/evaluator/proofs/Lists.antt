@@ -12,7 +12,6 @@ use Rattle.lisp_operators.specs.declared.evaluated.Evaluated.{Evaluated}
 use Rattle.lisp_operators.specs.Evaluated.{Answers, done}
 use Rattle.lisp_operators.specs.Evaluation.{also, and_then}
 use Rattle.lisp_operators.specs.Properties.{list}
-use Rattle.evaluator.specs.Value.{values}
 use Rattle.evaluator.specs.Gathered.{all_done, arguments_of, followed, list_value}
 use Rattle.evaluator.proofs.Steps.{followed_start, followed_at_end}
 use Rattle.evaluator.proofs.Forms.{arguments_from}

@@ -11,6 +11,7 @@ ghost use Rattle.evaluator.specs.Gathered.{followed, subforms, gathered, sequenc
 ghost use Rattle.evaluator.specs.Wanted.{seen};
 
 use crate::control::{after, atom, nothing, quoted};
+use crate::direct::{get_directly, literal_assignment, quoted_property, set_directly};
 use crate::operation::{Operation, operation_of};
 use crate::perform::perform;
 use crate::place::check_place;
@@ -118,6 +119,14 @@ fn act(
         Operation::Progn => sequence(alloc, world, names, items, task.wanted),
         Operation::If => chosen(alloc, world, names, items, task.wanted),
         Operation::InPackage => seen(packages::enter(alloc, world, &items[1]), task.wanted),
+        Operation::Get => match quoted_property(items) {
+            Some(property) => get_directly(alloc, world, property, task.wanted),
+            None => ordinary(alloc, world, names, task, items),
+        },
+        Operation::Setf => match literal_assignment(items) {
+            Some(assignment) => set_directly(alloc, world, assignment, task.wanted),
+            None => ordinary(alloc, world, names, task, items),
+        },
         Operation::MakeList => seen(listed(alloc, world, names, items), task.wanted),
         _ => ordinary(alloc, world, names, task, items),
     }

@@ -1,5 +1,5 @@
 -- What each call answers.
-use Rattle.std.proofs.Common.{◌≡◌, ◌≤◌, ◌+◌, ◌-◌, [], ◌∷◌, ◌++◌, ◌||◌, true, false, All, drop, map, length, refl, sym, ap, subst, ◌∙◌, arith, rules}
+use Rattle.std.proofs.Common.{◌≡◌, ◌+◌, ◌-◌, [], ◌∷◌, ◌++◌, ◌||◌, true, false, All, drop, map, length, refl, sym, ap, subst, ◌∙◌, arith}
 use Rattle.lisp_object.specs.Object.{Object, nil, list_of}
 use Rattle.plist_state.specs.Sound.{IsValue}
 use Rattle.lisp_operators.specs.Evaluation.{Done, gives, also}
@@ -16,22 +16,30 @@ use Rattle.evaluator.proofs.Seen.{seen_value, seen_also, refused_seen, refused_s
 use Rattle.evaluator.proofs.Sequences.{sequence_step, sequence_stops, sequence_last, no_forms, also_refused, also_also}
 use Rattle.evaluator.specs.Value.{value}
 use Rattle.lisp_operators.specs.Properties.{list}
+use Rattle.plist_state.specs.Shown.{symbol_named}
+use Rattle.evaluator.specs.declared.operation.Operation.TheVariants.{Get}
+use Rattle.evaluator.proofs.QuotedKeys.{get_of_key}
 use Rattle.evaluator.proofs.Lists.{list_stops, list_given}
 use Rattle.lisp_operators.specs.Evaluated.{IsArgument, Answers, done}
 use Rattle.evaluator.proofs.Steps.{value_dotted, items_arguments, good_value, followed_step, followed_stops, followed_at_end, argument_grown, all_more}
 use Rattle.evaluator.proofs.Places.{some_items}
-use Rattle.evaluator.proofs.Forms.{head_form, head_refused, ordinary_left, place_first, place_given, push_no_place, push_refused, push_given, same_item, subforms_given, performed}
+use Rattle.evaluator.proofs.Forms.{head_form, head_refused, place_first, place_given, push_no_place, push_refused, push_given, same_item, subforms_given, performed}
 use Rattle.evaluator.proofs.Branches.{choice_refused, choice_true, choice_none, choice_other}
 use Rattle.evaluator.proofs.evaluation.+evaluation.Goals as goal
 
-pub act-ordinary-requires : goal.act-ordinary-requires
-act-ordinary-requires t c = (
-  search rules,
-  (
-    ordinary_left c.args.task.operation c.in_default.not-Quote c.in_default.not-Progn c.in_default.not-If c.in_default.not-InPackage,
-    (c.requires.counted, (c.requires.names, c.requires.items)),
-  ),
-)
+pub act-set_directly-requires : goal.act-set_directly-requires
+act-set_directly-requires t c = c.in-Some-literal_assignment.ensures.storable c.args.world.now.0.packages c.requires.items
+
+pub act-returns-in-Some-clause-gives : goal.act-returns-in-Some-clause-gives
+act-returns-in-Some-clause-gives t c =
+    let names = c.args.names.now in
+    let s = c.args.world.now.0 in
+    let p = c.in-Some.property in
+    subst (λ o. Answers done c.get_directly.result s (seen c.args.task.wanted o))
+    (sym (ap (λ o. operation_value names o (arguments_of (map object_of c.args.items.now)) s) c.in-Get.is
+    ∙ ap (λ a. operation_value names Get a s) c.in-Some.ensures
+    ∙ get_of_key names s (symbol_named p.symbol) (symbol_named p.indicator)))
+    c.get_directly.ensures.gives
 
 pub any_form-returns-then-is_some-clause-gives : goal.any_form-returns-then-is_some-clause-gives
 any_form-returns-then-is_some-clause-gives t c =
