@@ -1,7 +1,7 @@
 -- What the evaluator's calls answer, of the forms that they are handed.
 --     symbol_form, constant_form, uninterned_form      atoms
 --     head_at, arguments_proper, arguments_count, head_form, head_refused      a list by its head
---     quote_left, ordinary_is, place_refused, gathered_refused, performed      operators
+--     ordinary_left, ordinary_is, place_refused, gathered_refused, performed      operators
 --     plain_gathered, arguments_from, place_given, place_first, before_given      what operators take
 --     choice_refused, choice_true, choice_none, choice_other      IF
 use Rattle.std.proofs.Common.{◌≡◌, ◌<◌, ◌≤◌, ◌-◌, ℕ, Bool, true, false, cond, not, ◌&&◌, suc, zero, List, [], ◌∷◌, ◌++◌, Result, Ok, Err, Option, Some, None, map, length, drop, get_or, refl, sym, ap, subst, ◌∙◌, arith}
@@ -83,32 +83,32 @@ head_refused names s t items xs x (Refused code) same some is head =
 head_refused names s t items xs x OutOfMemory same some is head = tt
 
 -- ---- operators
-pub quote_left : (operation : Operation) → is_ordinary operation ≡ false → (operation ≡ If → ⊥) → (operation ≡ Progn → ⊥) → (operation ≡ InPackage → ⊥) → operation ≡ Quote
-quote_left Quote e f p g = refl
-quote_left Progn e f p g = absurd (p refl)
-quote_left If e f p g = absurd (f refl)
-quote_left MakeList e f p g = absurd (false≢true (sym e))
-quote_left Get e f p g = absurd (false≢true (sym e))
-quote_left Setf e f p g = absurd (false≢true (sym e))
-quote_left Remprop e f p g = absurd (false≢true (sym e))
-quote_left SymbolPlist e f p g = absurd (false≢true (sym e))
-quote_left Incf e f p g = absurd (false≢true (sym e))
-quote_left Push e f p g = absurd (false≢true (sym e))
-quote_left MakePackage e f p g = absurd (false≢true (sym e))
-quote_left InPackage e f p g = absurd (g refl)
-quote_left Export e f p g = absurd (false≢true (sym e))
-quote_left Import e f p g = absurd (false≢true (sym e))
-quote_left UsePackage e f p g = absurd (false≢true (sym e))
-quote_left Intern e f p g = absurd (false≢true (sym e))
-quote_left CopyReadtable e f p g = absurd (false≢true (sym e))
-quote_left InReadtable e f p g = absurd (false≢true (sym e))
-quote_left SetSyntaxFromChar e f p g = absurd (false≢true (sym e))
-quote_left SetMacroCharacter e f p g = absurd (false≢true (sym e))
-quote_left GetMacroCharacter e f p g = absurd (false≢true (sym e))
-quote_left MakeDispatchMacroCharacter e f p g = absurd (false≢true (sym e))
-quote_left SetDispatchMacroCharacter e f p g = absurd (false≢true (sym e))
-quote_left GetDispatchMacroCharacter e f p g = absurd (false≢true (sym e))
-quote_left ReadtableCase e f p g = absurd (false≢true (sym e))
+pub ordinary_left : (operation : Operation) → (operation ≡ Quote → ⊥) → (operation ≡ Progn → ⊥) → (operation ≡ If → ⊥) → (operation ≡ InPackage → ⊥) → is_ordinary operation ≡ true
+ordinary_left Quote q p f g = absurd (q refl)
+ordinary_left Progn q p f g = absurd (p refl)
+ordinary_left If q p f g = absurd (f refl)
+ordinary_left MakeList q p f g = refl
+ordinary_left Get q p f g = refl
+ordinary_left Setf q p f g = refl
+ordinary_left Remprop q p f g = refl
+ordinary_left SymbolPlist q p f g = refl
+ordinary_left Incf q p f g = refl
+ordinary_left Push q p f g = refl
+ordinary_left MakePackage q p f g = refl
+ordinary_left InPackage q p f g = absurd (g refl)
+ordinary_left Export q p f g = refl
+ordinary_left Import q p f g = refl
+ordinary_left UsePackage q p f g = refl
+ordinary_left Intern q p f g = refl
+ordinary_left CopyReadtable q p f g = refl
+ordinary_left InReadtable q p f g = refl
+ordinary_left SetSyntaxFromChar q p f g = refl
+ordinary_left SetMacroCharacter q p f g = refl
+ordinary_left GetMacroCharacter q p f g = refl
+ordinary_left MakeDispatchMacroCharacter q p f g = refl
+ordinary_left SetDispatchMacroCharacter q p f g = refl
+ordinary_left GetDispatchMacroCharacter q p f g = refl
+ordinary_left ReadtableCase q p f g = refl
 
 any_place : (names : List Name) (s : WorldState) (arguments : Object) → action_value s (action_of names Setf) arguments (parts names s arguments)
     ≡ unless (refusal_of_place Setf arguments) (and_then (gathered names s Setf arguments) (function_of names Setf (place_of Setf arguments)))

@@ -5,6 +5,8 @@ pub mod Forms
 pub mod Seen
 pub mod Branches
 pub mod Sequences
+pub mod Lists
+pub mod QuotedKeys
 pub mod RowForms
 pub mod Rows
 pub mod WorldRows

@@ -17,6 +17,7 @@ use Rattle.evaluator.specs.declared.operation.Operation.TheVariants.{Setf, Incf,
 use Rattle.evaluator.specs.declared.place.Place.{Place}
 use Rattle.evaluator.specs.declared.place.Place.TheVariants.{Property, Case, ReadBase}
 use Rattle.lisp_operators.specs.Evaluation.{Evaluation, gives, also, and_then}
+use Rattle.lisp_operators.specs.Properties.{list}
 use Rattle.evaluator.specs.declared.wanted.Wanted.{Wanted}
 use Rattle.evaluator.specs.declared.wanted.Task.{Task}
 use Rattle.evaluator.specs.Wanted.{seen}
@@ -65,6 +66,10 @@ Operates names task items old new result =
 -- the value of forms one after the other: that of the last
 abbrev pub sequence_value : List Name → WorldState → Object → Evaluation Object
 sequence_value names s forms = and_then (values names s forms) (λ xs later. gives (last xs) later)
+
+-- the list of the values of forms
+abbrev pub list_value : List Name → WorldState → Object → Evaluation Object
+list_value names s forms = and_then (values names s forms) list
 
 abbrev pub HasValue : Object → Result Evaluated EvaluationError → Type 0
 HasValue x result = (s : WorldState) → Answers done result s (gives x s)

@@ -3,3 +3,4 @@ pub mod Value
 pub mod Operations
 pub mod Gathered
 pub mod Wanted
+pub mod Direct

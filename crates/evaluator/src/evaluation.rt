@@ -2,16 +2,16 @@
 ghost use Rattle.std.specs.Prelude.{◌≡◌, ◌<◌, ◌≤◌, true, length, drop, IfOk};
 ghost use Rattle.lisp_object.specs.Object.{list_of};
 ghost use Rattle.lisp_object.specs.Datum.{object_of};
-ghost use Rattle.evaluator.specs.Value.{value, values_at_place, values_before_place, choice};
-ghost use Rattle.lisp_operators.specs.Effects.{Leaves};
+ghost use Rattle.evaluator.specs.Value.{values_at_place, values_before_place, choice};
 ghost use Rattle.lisp_operators.specs.Readtables.{AreFunctionNames};
 ghost use Rattle.lisp_operators.specs.Evaluated.{IsArgument, KeepsArguments, Answers, done, IsProperValue, AreArgumentsOf, objects};
-ghost use Rattle.evaluator.specs.Gathered.{all_done, arguments_in, Evaluates, EvaluatesFor, Operates};
+ghost use Rattle.evaluator.specs.Gathered.{all_done, arguments_in, EvaluatesFor, Operates};
 ghost use Rattle.evaluator.specs.Operations.{IsCounted, is_ordinary};
-ghost use Rattle.evaluator.specs.Gathered.{followed, subforms, gathered, sequence_value};
+ghost use Rattle.evaluator.specs.Gathered.{followed, subforms, gathered, sequence_value, list_value};
 ghost use Rattle.evaluator.specs.Wanted.{seen};
 
 use crate::control::{after, atom, nothing, quoted};
+use crate::direct::{get_directly, literal_assignment, quoted_property, set_directly};
 use crate::operation::{Operation, operation_of};
 use crate::perform::perform;
 use crate::place::check_place;
@@ -20,51 +20,14 @@ use crate::wanted::{Task, Wanted, seen};
 use lisp_object::refusal::{ARGUMENT_KIND, NOT_A_FORM};
 use lisp_object::{Datum, Items};
 use lisp_operators::EvaluationError::Refused;
-use lisp_operators::{Evaluated, EvaluationError, either, kinds, packages, values};
+use lisp_operators::{Evaluated, EvaluationError, ListBuilder, either, kinds, packages};
 use plist_state::World;
 use readtable_core::FnName;
 use std::alloc::Global;
 
-/// The value of a form. Where it is refused, or memory runs out, what was carried out before stays, and the marks are as they
-/// were.
-pub fn evaluate(
-    alloc: Global,
-    world: &mut World,
-    names: &[FnName],
-    form: &Datum,
-) -> Result<Evaluated, EvaluationError>
-    requires names { AreFunctionNames names.now }
-    requires form { IsArgument world.old.0.packages form.now }
-    ensures gives { Evaluates names.now (object_of form.now) world.old.0 world.new.0 result }
-    ensures value { IfOk result (λ e. IsArgument world.new.0.packages e.value) }
-    ensures kept { IfOk result (λ _. KeepsArguments world.old.0.packages world.new.0.packages) }
-    ensures marked { world.new.1 ≡ world.old.1 }
-{
-    evaluate_for(alloc, world, names, form, Wanted::Value)
-}
-
-/// What a form does, as `evaluate` does it, where its value is not asked for. Gives whether anything was written. Where it is
-/// refused, or memory runs out, what was carried out before stays, and the marks are as they were.
-pub fn apply(
-    alloc: Global,
-    world: &mut World,
-    names: &[FnName],
-    form: &Datum,
-) -> Result<bool, EvaluationError>
-    requires names { AreFunctionNames names.now }
-    requires form { IsArgument world.old.0.packages form.now }
-    ensures gives { Leaves result world.new.0 (value names.now world.old.0 (object_of form.now)) }
-    ensures marked { world.new.1 ≡ world.old.1 }
-{
-    match evaluate_for(alloc, world, names, form, Wanted::Nothing) {
-        Ok(evaluated) => Ok(evaluated.wrote),
-        Err(error) => Err(error),
-    }
-}
-
-// The value of a form, or what stands for it where less is asked.
+/// The value of a form, or what stands for it where less is asked.
 #[cycle(evaluation)]
-fn evaluate_for(
+pub(crate) fn evaluate_for(
     alloc: Global,
     world: &mut World,
     names: &[FnName],
@@ -151,14 +114,21 @@ fn act(
     ensures proper { IfOk result IsProperValue }
     ensures marked { world.new.1 ≡ world.old.1 }
 {
-    if task.operation.is_ordinary() {
-        return ordinary(alloc, world, names, task, items);
-    }
     match task.operation {
-        Operation::If => chosen(alloc, world, names, items, task.wanted),
+        Operation::Quote => seen(quoted(alloc, items), task.wanted),
         Operation::Progn => sequence(alloc, world, names, items, task.wanted),
+        Operation::If => chosen(alloc, world, names, items, task.wanted),
         Operation::InPackage => seen(packages::enter(alloc, world, &items[1]), task.wanted),
-        _ => seen(quoted(alloc, items), task.wanted),
+        Operation::Get => match quoted_property(items) {
+            Some(property) => get_directly(alloc, world, property, task.wanted),
+            None => ordinary(alloc, world, names, task, items),
+        },
+        Operation::Setf => match literal_assignment(items) {
+            Some(assignment) => set_directly(alloc, world, assignment, task.wanted),
+            None => ordinary(alloc, world, names, task, items),
+        },
+        Operation::MakeList => seen(listed(alloc, world, names, items), task.wanted),
+        _ => ordinary(alloc, world, names, task, items),
     }
 }
 
@@ -322,6 +292,35 @@ fn extended(
         values = values.with(evaluated)?;
     }
     Ok(values)
+}
+
+// LIST: the list of the values of these forms (standard 14.2, `list`). Of values that are too large together none is held.
+#[cycle(evaluation)]
+fn listed(
+    alloc: Global,
+    world: &mut World,
+    names: &[FnName],
+    items: &[Datum],
+) -> Result<Evaluated, EvaluationError>
+    requires counted { 1 ≤ length items.now }
+    requires names { AreFunctionNames names.now }
+    requires items { AreArgumentsOf world.old items.now }
+    ensures gives { Answers done result world.new.0
+        (list_value names.now world.old.0 (arguments_in items.now)) }
+    ensures proper { IfOk result IsProperValue }
+    ensures marked { world.new.1 ≡ world.old.1 }
+{
+    let mut values = ListBuilder::new(alloc);
+    let mut wrote = false;
+    for i in 1..items.len() {
+        let evaluated = match evaluate_for(alloc, world, names, &items[i], Wanted::Value) {
+            Ok(evaluated) => evaluated,
+            Err(error) => return Err(error),
+        };
+        wrote = either(wrote, evaluated.wrote);
+        values = values.with(evaluated.value)?;
+    }
+    after(wrote, values.list(alloc))
 }
 
 // PROGN: the last of the values of these forms (standard 5.3, `progn`). The values before it are not made.

@@ -5,9 +5,10 @@
 //! `World` exactly what the definition says. Where the form is refused, or memory runs out, what was carried out before stays,
 //! and no clause says more of the world then but that its marks are as they were: the crate `form_eval` takes it back.
 //!
-//! - `evaluation`: the value of a form, by recursion on it, and what a form does, where its value is not asked for (`apply`);
-//!   `wanted`: what is asked of a value, and what stands for it. Of PROGN all values but the last are not made, and of IF's
-//!   test it is only asked whether it is true
+//! - `calls`: the value of a form (`evaluate`), and what a form does, where its value is not asked for (`apply`)
+//! - `evaluation`: the value of a form, by recursion on it; `wanted`: what is asked of a value, and what stands for it. Of PROGN
+//!   all values but the last are not made, and of IF's test it is only asked whether it is true
+//! - `direct`: GET of two quoted symbols, and SETF of such a property to a literal, from the form as it stands
 //! - `operation`: what is at its head; `place`: the places of SETF, INCF and PUSH; `control`: the operators of control, and
 //!   atoms; `perform`, `effects`: what an operator makes of the values of its arguments; `values`: these values
 //!
@@ -21,7 +22,9 @@
 //! - proofs/Induction.antt: one induction over the value of a form, in which what holds of each step holds of it (`every_value`).
 #![tactic(auto)]
 
+mod calls;
 mod control;
+mod direct;
 mod effects;
 mod evaluation;
 pub mod laws;
@@ -31,4 +34,4 @@ mod place;
 mod values;
 mod wanted;
 
-pub use evaluation::{apply, evaluate};
+pub use calls::{apply, evaluate};

@@ -3,7 +3,7 @@ ghost use Rattle.std.specs.Prelude.{◌≡◌, ◌+◌, true, bytes_eq, List, op
 ghost use Rattle.lisp_object.specs.Datum.{object_of};
 ghost use Rattle.package_table.specs.Table.{Name};
 ghost use Rattle.evaluator.specs.Operators.{operator_named, counts};
-ghost use Rattle.evaluator.specs.Operations.{least, most, operator, IsCounted, is_ordinary, among, operators_on_data, operators_on_packages, operators_on_readtables};
+ghost use Rattle.evaluator.specs.Operations.{least, most, operator, IsCounted, among, operators_on_data, operators_on_packages, operators_on_readtables};
 ghost use Rattle.evaluator.specs.Gathered.{IsHead};
 ghost use Rattle.lisp_operators.specs.Evaluated.{IsProper};
 
@@ -121,16 +121,6 @@ impl Operation {
             | Operation::SetMacroCharacter
             | Operation::SetDispatchMacroCharacter => Some(4),
         }
-    }
-
-    /// Whether it gives a function of the values of its arguments.
-    pub(crate) fn is_ordinary(self) -> bool
-        ensures { result ≡ is_ordinary self }
-    {
-        !matches!(
-            self,
-            Operation::Quote | Operation::Progn | Operation::If | Operation::InPackage
-        )
     }
 
     /// Whether it takes so many arguments.

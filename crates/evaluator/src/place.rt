@@ -53,9 +53,9 @@ fn accessor(place: &Datum) -> Option<(&Datum, usize)>
     }
 }
 
-// Whether it is the symbol of COMMON-LISP with this name.
+/// Whether it is the symbol of COMMON-LISP with this name.
 #[tactic(auto, using(crate::proofs::Places::standard_by_parts))]
-fn is_standard(datum: &Datum, name: &[u8]) -> bool
+pub(crate) fn is_standard(datum: &Datum, name: &[u8]) -> bool
     requires { IsProper datum.now }
     ensures { result ≡ is_standard name.now (object_of datum.now) }
 {

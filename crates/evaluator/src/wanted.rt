@@ -10,6 +10,7 @@ ghost use Rattle.evaluator.specs.Wanted.{stand_in, seen};
 use crate::operation::Operation;
 use lisp_object::Datum;
 use lisp_operators::{Evaluated, EvaluationError, kinds};
+use std::alloc::{AllocError, Global};
 
 /// What is asked of the value of a form.
 #[derive(Clone, Copy, Debug, PartialEq, Eq)]
@@ -45,6 +46,25 @@ fn stand_in(value: Datum, wanted: Wanted) -> Datum
             }
         }
         Wanted::Nothing => Datum::Integer(1),
+    }
+}
+
+/// A copy of a value, or what stands for it: no more is copied than is asked for.
+pub(crate) fn shown(alloc: Global, value: &Datum, wanted: Wanted) -> Result<Datum, AllocError>
+    requires { IsProper value.now }
+    ensures object { IfOk result (λ d. object_of d ≡ stand_in wanted (object_of value.now)) }
+    ensures proper { IfOk result IsProper }
+{
+    match wanted {
+        Wanted::Value => value.copy(alloc),
+        Wanted::Truth => {
+            if kinds::is_true(value) {
+                Ok(Datum::Integer(1))
+            } else {
+                value.copy(alloc)
+            }
+        }
+        Wanted::Nothing => Ok(Datum::Integer(1)),
     }
 }
 

@@ -25,3 +25,4 @@ pub mod Covering
 pub mod SameBase
 pub mod Pushes
 pub mod ListSizes
+pub mod ListBuilding

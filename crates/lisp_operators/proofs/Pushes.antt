@@ -1,4 +1,5 @@
 -- PUSH before a list that is moved.
+--     within_depth      how deep an item is
 --     before_depth, before_size      how deep and how large a list is with a value more in front
 --     list_within      how deep a property is
 --     pair_held      a property that is a pair
@@ -18,6 +19,9 @@ use Rattle.lisp_operators.specs.Evaluation.{Evaluation}
 use Rattle.lisp_operators.specs.Properties.{built}
 use Rattle.lisp_operators.proofs.SoundProperties.{property_value}
 use Rattle.lisp_operators.proofs.Storable.{nil_value}
+
+pub within_depth : (d : ℕ) → nat_lt 99 (min d (2 ^ 64 - 1)) ≡ nat_lt 99 d
+within_depth d = grind (arith, nat_tests)
 
 one_deeper : (x y : ℕ) → y + 1 ≤ 100 → nat_lt 99 (min x (2 ^ 64 - 1)) ≡ nat_lt 100 (max x y + 1)
 one_deeper x y within = grind (arith, nat_tests, within)

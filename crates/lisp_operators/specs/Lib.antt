@@ -8,3 +8,4 @@ pub mod Packages
 pub mod Readtables
 pub mod ReadBase
 pub mod Effects
+pub mod ListBuilder

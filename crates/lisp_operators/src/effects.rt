@@ -67,7 +67,7 @@ fn put_before(
     let Some(list) = world.get(symbol, indicator) else {
         unreachable!()
     };
-    if values::is_too_deep_before(&value) {
+    if values::is_too_deep_within(&value) {
         return Err(Refused(VALUE_TOO_DEEP));
     }
     if values::is_too_large_before(&value, list) {

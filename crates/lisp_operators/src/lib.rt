@@ -9,7 +9,7 @@
 //!   of a property, where their values are not asked for
 //! - `error`, `evaluated`: what an operator gives, `EvaluationError` and `Evaluated`
 //! - `arguments`, `owned_arguments`, `kinds`, `lists`, `values`: so many arguments, what each stands for, lists of them, and
-//!   values that are built; `changes`: changes of the packages, one after the other
+//!   values that are built; `list_builder`: a list that is built of one value after the other; `changes`: changes of the packages, one after the other
 //!
 //! # Laws for the crates above
 //!
@@ -34,6 +34,7 @@ pub mod effects;
 mod error;
 mod evaluated;
 pub mod kinds;
+mod list_builder;
 mod lists;
 mod owned_arguments;
 pub mod package_lists;
@@ -46,3 +47,4 @@ pub mod values;
 
 pub use error::EvaluationError;
 pub use evaluated::{Evaluated, either};
+pub use list_builder::ListBuilder;

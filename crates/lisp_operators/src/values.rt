@@ -23,8 +23,8 @@ const MOST_LEVELS: u64 = 100;
 // The most levels of an item of a list that is built.
 const MOST_LEVELS_WITHIN: u64 = 99;
 
-// The largest size of a value that is built.
-const LARGEST_SIZE: u64 = 1_000_000;
+/// The largest size of a value that is built.
+pub(crate) const LARGEST_SIZE: u64 = 1_000_000;
 
 /// The symbol of this home and name, of bytes below 128.
 pub(crate) fn symbol(alloc: Global, home: &[u8], name: &[u8]) -> Result<Datum, AllocError>
@@ -87,14 +87,15 @@ pub(crate) fn is_too_large(value: &Datum) -> bool
     value.size() > LARGEST_SIZE
 }
 
-/// Whether a list with an item more in front has more levels than one that is built may have. The list itself has not.
-#[tactic(auto, using(crate::proofs::Pushes::before_depth))]
-pub(crate) fn is_too_deep_before(first: &Datum) -> bool
-    requires { IsProper first.now }
-    ensures { (list : Object) → holds_pair (Some list) ≡ true → object_depth list ≤ 100
-        → result ≡ nat_lt 100 (object_depth (pair (object_of first.now) list)) }
+/// Whether a value has more levels than an item of a list that is built may have.
+#[tactic(auto, using(crate::proofs::Pushes::within_depth, crate::proofs::Pushes::before_depth))]
+pub(crate) fn is_too_deep_within(item: &Datum) -> bool
+    requires { IsProper item.now }
+    ensures value { result ≡ nat_lt 99 (object_depth (object_of item.now)) }
+    ensures before { (list : Object) → holds_pair (Some list) ≡ true → object_depth list ≤ 100
+        → result ≡ nat_lt 100 (object_depth (pair (object_of item.now) list)) }
 {
-    first.depth() > MOST_LEVELS_WITHIN
+    item.depth() > MOST_LEVELS_WITHIN
 }
 
 /// Whether a list with an item more in front is larger than one that is built may be.

@@ -1,5 +1,5 @@
 -- Property lists by the symbols of their numbers.
---     symbol_numbered, number_is      the symbol that a number is of
+--     number_by, symbol_numbered, number_is      the symbol that a number is of
 --     number_grown, symbol_kept, number_stays      packages in which no symbol is lost and each keeps its number
 --     value_named, value_unnamed      the value beside an indicator
 --     with_named, without_named      a change of the list by numbers is that of the list by symbols
@@ -60,6 +60,10 @@ module _ {K L : Type 0} (same : K → K → Bool) (other : L → L → Bool) (f 
 
 -- ---- the number of a symbol
 module _ (s : Numbered) where
+  -- of the same symbol
+  pub number_by : (i : ℕ) {x y : Symbol} → y ≡ x → number_of s y.0 y.1 ≡ Some i → number_of s x.0 x.1 ≡ Some i
+  number_by i same is = subst (λ (z : Symbol). number_of s z.0 z.1 ≡ Some i) same is
+
   number_has : (x : Symbol) (i : ℕ) → has_number s i x ≡ true → number_of s x.0 x.1 ≡ Some i
   number_has x i has =
       elim (number_of s x.0 x.1) as (λ o. option_map_or (same_number i) o false ≡ true → o ≡ Some i) [

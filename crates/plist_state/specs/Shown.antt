@@ -13,6 +13,7 @@ use Rattle.readtable_core.specs.Tables as readtable
 use Rattle.package_table.specs.Table.{Name}
 use Rattle.package_table.specs.Shown.{as_map}
 use Rattle.plist_state.specs.declared.symbol.Symbol.{Symbol}
+use Rattle.plist_state.specs.declared.symbol.BorrowedSymbol.{BorrowedSymbol}
 use Rattle.plist_state.specs.declared.property.Property.{Property}
 use Rattle.plist_state.specs.declared.property.NumberedProperty.{NumberedProperty}
 use Rattle.plist_state.specs.declared.stored.Stored.{Stored}
@@ -22,6 +23,9 @@ use Rattle.plist_state.specs.State.{Readtables, first_readtables, first_rest}
 
 abbrev pub symbol_of : Symbol → properties.Symbol
 symbol_of s = (s.home.items, s.name.items)
+
+abbrev pub symbol_named : BorrowedSymbol → properties.Symbol
+symbol_named s = (s.home.now, s.name.now)
 
 abbrev pub property_of : Property → properties.Symbol × Object
 property_of p = ((p.home.now, p.name.now), object_of p.value.now)

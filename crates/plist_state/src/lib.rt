@@ -25,7 +25,7 @@
 //! - `marks`: `mark`, `mark_count`, `back_to`, `settle`, over `journal` (notes under marks) and `undo` (notes undone)
 //! - `note`: what is noted of a change
 //! - `numbers`: the number of a symbol, as `rows` takes it
-//! - `symbol`, `property`, `property_list`: `Symbol`, `Property`, `PropertyList`
+//! - `symbol`, `property`, `property_list`: `Symbol`, `BorrowedSymbol`, `Property`, `PropertyList`
 //! - `error`: `ReadtableError`
 //! - `stored`: what a world keeps besides its packages, over `rows` (property lists by number; `row_index`: the indexes of
 //!   long ones) and `tables` (readtables by name; `copies`: those that are copied)
@@ -37,7 +37,7 @@
 //!   `with_list`
 //! - specs/Changes.antt: what each call makes of a state; specs/Pushed.antt: `pushed`, `with_pushed`, `holds_pair`
 //! - specs/Sound.antt: what holds of each state; specs/Readers.antt: the lists that a world gives
-//! - specs/Shown.antt: `symbol_of`, `property_of`; specs/Refused.antt: `number_of`; specs/Codes.antt: `state_code`
+//! - specs/Shown.antt: `symbol_of`, `symbol_named`, `property_of`; specs/Refused.antt: `number_of`; specs/Codes.antt: `state_code`
 //!
 //! # Laws for the crates above
 //!
@@ -76,6 +76,6 @@ pub use error::ReadtableError;
 pub use package_table::Seed;
 pub use property::Property;
 pub use property_list::PropertyList;
-pub use symbol::Symbol;
+pub use symbol::{BorrowedSymbol, Symbol};
 pub use tables::{MAX_READTABLES, STANDARD, USER};
 pub use world::World;

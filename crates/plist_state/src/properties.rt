@@ -3,11 +3,11 @@ ghost use Rattle.std.specs.Prelude.{◌≡◌, true, is_some, IfOk, OnOk, OnErr}
 ghost use Rattle.lisp_object.specs.Datum.{object_of, is_proper};
 ghost use Rattle.plist_state.specs.Changes.{property, with_property, without_property};
 ghost use Rattle.plist_state.specs.Pushed.{holds_pair, pushed, with_pushed};
-ghost use Rattle.plist_state.specs.Shown.{symbol_of};
+ghost use Rattle.plist_state.specs.Shown.{symbol_of, symbol_named};
 ghost use Rattle.plist_state.specs.Sound.{IsSymbol, IsValue};
 
 use crate::numbers::number;
-use crate::{Symbol, World, stored};
+use crate::{BorrowedSymbol, Symbol, World, stored};
 use lisp_object::Datum;
 use std::alloc::AllocError;
 
@@ -29,9 +29,27 @@ impl World {
             ≡ (with_property self.old.0 (symbol_of symbol.now) (symbol_of indicator) (object_of value), self.old.1)) }
         ensures err { OnErr result (self.new ≡ self.old) }
     {
+        self.put_at(symbol.borrowed(), indicator.borrowed(), value)
+    }
+
+    /// The same of symbols by borrow: no name is copied.
+    pub fn put_at(
+        &mut self,
+        symbol: BorrowedSymbol<'_>,
+        indicator: BorrowedSymbol<'_>,
+        value: Datum,
+    ) -> Result<(), AllocError>
+        requires symbol { IsSymbol self.old.0.packages (symbol_named symbol) }
+        requires indicator { IsSymbol self.old.0.packages (symbol_named indicator) }
+        requires proper { is_proper value ≡ true }
+        requires value { IsValue self.old.0.packages (object_of value) }
+        ensures ok { OnOk result (self.new
+            ≡ (with_property self.old.0 (symbol_named symbol.entry) (symbol_named indicator.entry) (object_of value), self.old.1)) }
+        ensures err { OnErr result (self.new ≡ self.old) }
+    {
         self.packages.numbering();
         let owner = number(&self.packages, symbol);
-        let indicator = number(&self.packages, &indicator);
+        let indicator = number(&self.packages, indicator);
         stored::put(
             self.alloc,
             &mut self.stored,
@@ -63,8 +81,8 @@ impl World {
         ensures err { OnErr result (self.new ≡ self.old) }
     {
         self.packages.numbering();
-        let owner = number(&self.packages, symbol);
-        let indicator = number(&self.packages, indicator);
+        let owner = number(&self.packages, symbol.borrowed());
+        let indicator = number(&self.packages, indicator.borrowed());
         stored::push(
             self.alloc,
             &mut self.stored,
@@ -89,7 +107,7 @@ impl World {
         ensures err { OnErr result (self.new ≡ self.old) }
     {
         self.packages.numbering();
-        let owner = number(&self.packages, symbol);
+        let owner = number(&self.packages, symbol.borrowed());
         let Some(indicator) = self.packages.number_of(indicator.home(), indicator.name()) else {
             return Ok(false);
         };

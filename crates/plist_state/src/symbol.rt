@@ -1,6 +1,6 @@
-//! Interned symbols, as a world keeps them.
+//! Interned symbols, owned and borrowed.
 ghost use Rattle.std.specs.Prelude.{◌≡◌, IfOk};
-ghost use Rattle.plist_state.specs.Shown.{symbol_of};
+ghost use Rattle.plist_state.specs.Shown.{symbol_of, symbol_named};
 
 use std::alloc::{AllocError, Global};
 
@@ -22,6 +22,16 @@ impl Symbol {
         Ok(Symbol { home, name })
     }
 
+    /// The same symbol, by borrow.
+    pub fn borrowed(&self) -> BorrowedSymbol<'_>
+        ensures { symbol_named result ≡ symbol_of self.now }
+    {
+        BorrowedSymbol {
+            home: self.home(),
+            name: self.name(),
+        }
+    }
+
     /// The name of its home package.
     pub fn home(&self) -> &[u8]
         ensures { result.now ≡ (symbol_of self.now).0 }
@@ -35,4 +45,11 @@ impl Symbol {
     {
         &self.name
     }
+}
+
+/// An interned symbol by the name of its home package and its own name, where they stand.
+#[derive(Clone, Copy, Debug)]
+pub struct BorrowedSymbol<'a> {
+    pub home: &'a [u8],
+    pub name: &'a [u8],
 }

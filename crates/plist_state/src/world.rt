@@ -4,13 +4,13 @@ ghost use Rattle.std.specs.Option.{option_map};
 ghost use Rattle.std.specs.FinMap as finite;
 ghost use Rattle.lisp_object.specs.Datum.{object_of, is_proper};
 ghost use Rattle.plist_state.specs.Changes.{plist, property};
-ghost use Rattle.plist_state.specs.Shown.{symbol_of};
+ghost use Rattle.plist_state.specs.Shown.{symbol_of, symbol_named};
 ghost use Rattle.plist_state.specs.Sound.{IsSoundWorld};
 ghost use Rattle.plist_state.specs.State.{initial};
 
 use crate::note::Note;
 use crate::stored::{Stored, first_stored};
-use crate::{PropertyList, Symbol, rows, tables};
+use crate::{BorrowedSymbol, PropertyList, Symbol, rows, tables};
 use lisp_object::Datum;
 use package_table::{Packages, Seed};
 use readtable_core::Readtable;
@@ -118,11 +118,24 @@ impl World {
             ≡ property self.now.0 (symbol_of symbol.now) (symbol_of indicator.now) }
         ensures proper { IfSome result (λ d. is_proper d.now ≡ true) }
     {
+        self.get_at(symbol.borrowed(), indicator.borrowed())
+    }
+
+    /// The same of symbols by borrow: no name is copied. Takes no memory.
+    pub fn get_at(
+        &self,
+        symbol: BorrowedSymbol<'_>,
+        indicator: BorrowedSymbol<'_>,
+    ) -> Option<&Datum>
+        ensures value { option_map (λ d. object_of d.now) result
+            ≡ property self.now.0 (symbol_named symbol.entry) (symbol_named indicator.entry) }
+        ensures proper { IfSome result (λ d. is_proper d.now ≡ true) }
+    {
         self.packages.numbering();
-        let Some(owner) = self.packages.number_of(symbol.home(), symbol.name()) else {
+        let Some(owner) = self.packages.number_of(symbol.home, symbol.name) else {
             return None;
         };
-        let Some(indicator) = self.packages.number_of(indicator.home(), indicator.name()) else {
+        let Some(indicator) = self.packages.number_of(indicator.home, indicator.name) else {
             return None;
         };
         let stored = &self.stored;

@@ -1,5 +1,5 @@
 -- What each call answers.
-use Rattle.std.proofs.Common.{◌≡◌, ◌≤◌, ◌+◌, ◌-◌, [], ◌∷◌, ◌||◌, true, All, drop, map, length, refl, sym, ap, subst, ◌∙◌, arith}
+use Rattle.std.proofs.Common.{◌≡◌, ◌+◌, ◌-◌, [], ◌∷◌, ◌++◌, ◌||◌, true, false, All, drop, map, length, refl, sym, ap, subst, ◌∙◌, arith}
 use Rattle.lisp_object.specs.Object.{Object, nil, list_of}
 use Rattle.plist_state.specs.Sound.{IsValue}
 use Rattle.lisp_operators.specs.Evaluation.{Done, gives, also}
@@ -8,7 +8,6 @@ use Rattle.lisp_object.proofs.Objects.{object_of-Symbol}
 use Rattle.std.proofs.lemmas.List.{map-append}
 use Rattle.lisp_object.specs.declared.datum.Datum.TheViews.{sized-List, the_lemmas}
 use Rattle.lisp_object.proofs.datum.Datum.TheLaws.{the_size}
-use Rattle.evaluator.specs.declared.operation.Operation.TheVariants.{Quote}
 use Rattle.lisp_operators.specs.Kinds.{is_pair}
 use Rattle.evaluator.specs.Gathered.{arguments_of, operation_value, followed, subforms, sequence_value}
 use Rattle.evaluator.specs.declared.wanted.Wanted.TheVariants.{Value, Nothing}
@@ -16,33 +15,31 @@ use Rattle.evaluator.specs.Wanted.{seen}
 use Rattle.evaluator.proofs.Seen.{seen_value, seen_also, refused_seen, refused_so, evaluated_so, stand_in_value}
 use Rattle.evaluator.proofs.Sequences.{sequence_step, sequence_stops, sequence_last, no_forms, also_refused, also_also}
 use Rattle.evaluator.specs.Value.{value}
-use Rattle.evaluator.specs.Operations.{least}
+use Rattle.lisp_operators.specs.Properties.{list}
+use Rattle.plist_state.specs.Shown.{symbol_named}
+use Rattle.evaluator.specs.declared.operation.Operation.TheVariants.{Get}
+use Rattle.evaluator.proofs.QuotedKeys.{get_of_key}
+use Rattle.evaluator.proofs.Lists.{list_stops, list_given}
 use Rattle.lisp_operators.specs.Evaluated.{IsArgument, Answers, done}
 use Rattle.evaluator.proofs.Steps.{value_dotted, items_arguments, good_value, followed_step, followed_stops, followed_at_end, argument_grown, all_more}
 use Rattle.evaluator.proofs.Places.{some_items}
-use Rattle.evaluator.proofs.Forms.{head_form, head_refused, quote_left, place_first, place_given, push_no_place, push_refused, push_given, same_item, subforms_given, performed}
+use Rattle.evaluator.proofs.Forms.{head_form, head_refused, place_first, place_given, push_no_place, push_refused, push_given, same_item, subforms_given, performed}
 use Rattle.evaluator.proofs.Branches.{choice_refused, choice_true, choice_none, choice_other}
 use Rattle.evaluator.proofs.evaluation.+evaluation.Goals as goal
 
-pub act-quoted-requires : goal.act-quoted-requires
-act-quoted-requires t c =
-    let quote : c.args.task.operation ≡ Quote = quote_left c.args.task.operation (sym c.is_ordinary.ensures ∙ c.if-is_ordinary.false) c.in_default.not-If c.in_default.not-Progn c.in_default.not-InPackage in
-    record {
-      counted = subst (λ o. least o + 1 ≤ length c.args.items.now) quote c.requires.counted.0;
-      proper = λ k d h. (c.requires.items k d h).proper;
-    }
+pub act-set_directly-requires : goal.act-set_directly-requires
+act-set_directly-requires t c = c.in-Some-literal_assignment.ensures.storable c.args.world.now.0.packages c.requires.items
 
-pub act-returns-in_default : goal.act-returns-in_default
-act-returns-in_default t c =
-    let quote : c.args.task.operation ≡ Quote = quote_left c.args.task.operation (sym c.is_ordinary.ensures ∙ c.if-is_ordinary.false) c.in_default.not-If c.in_default.not-Progn c.in_default.not-InPackage in
-    let arguments = arguments_of (map object_of c.args.items.now) in
+pub act-returns-in-Some-clause-gives : goal.act-returns-in-Some-clause-gives
+act-returns-in-Some-clause-gives t c =
+    let names = c.args.names.now in
     let s = c.args.world.now.0 in
-    record {
-      gives = c.seen-in_default.ensures.gives s (operation_value c.args.names.now c.args.task.operation arguments s)
-          (subst (λ o. Answers done c.quoted.result s (operation_value c.args.names.now o arguments s)) (sym quote) (c.quoted.ensures.gives s));
-      proper = c.seen-in_default.ensures.proper;
-      marked = refl;
-    }
+    let p = c.in-Some.property in
+    subst (λ o. Answers done c.get_directly.result s (seen c.args.task.wanted o))
+    (sym (ap (λ o. operation_value names o (arguments_of (map object_of c.args.items.now)) s) c.in-Get.is
+    ∙ ap (λ a. operation_value names Get a s) c.in-Some.ensures
+    ∙ get_of_key names s (symbol_named p.symbol) (symbol_named p.indicator)))
+    c.get_directly.ensures.gives
 
 pub any_form-returns-then-is_some-clause-gives : goal.any_form-returns-then-is_some-clause-gives
 any_form-returns-then-is_some-clause-gives t c =
@@ -233,3 +230,38 @@ pub ordinary-returns-in-Ok-gathered-clause-gives : goal.ordinary-returns-in-Ok-g
 ordinary-returns-in-Ok-gathered-clause-gives t c =
     performed c.args.task.wanted c.args.names.now c.args.task.operation c.in-Ok.place c.args.world.now.0 c.gathered.new.world.0 c.perform.new.world.0 (arguments_of (map object_of c.args.items.now)) c.in-Ok-gathered.values c.perform.result
     c.requires.ordinary c.in-Ok.ensures.refusal c.in-Ok.ensures.value c.in-Ok-gathered.ensures.gives c.perform.ensures.gives
+
+pub listed-returns-in-Err-clause-gives : goal.listed-returns-in-Err-clause-gives
+listed-returns-in-Err-clause-gives t c =
+    let so = c.loop-i.invariant.listed in
+    list_stops c.args.names.now c.args.world.now.0 c.evaluate_for.new.world.0 c.args.items.now c.in-Err.error
+    (followed_stops c.args.names.now so.0 c.loop-i.wrote c.loop-i.world.0 c.evaluate_for.new.world.0 c.evaluate_for.new.world.0 c.args.items.now c.loop-i.i c.index-items-i.result c.in-Err.error
+    (followed c.args.names.now [] false c.args.world.now.0 (list_of (map object_of (drop 1 c.args.items.now)))) so.2 c.loop-i-test.true c.index-items-i.is
+    (refused_so Value c.in-Err.error c.evaluate_for.new.world.0 c.evaluate_for.new.world.0 (value c.args.names.now c.loop-i.world.0 (object_of c.index-items-i.result)) c.in-Err.ensures.gives))
+
+pub listed-loop-i-preserved : goal.listed-loop-i-preserved
+listed-loop-i-preserved t c =
+    let so = c.loop-i.invariant.listed in
+    record {
+      listed = (
+        so.0 ++ object_of c.in-Ok.evaluated.value ∷ [],
+        c.in_ok-values.ensures so.0 so.1,
+        so.2
+            ∙ followed_step c.args.names.now so.0 c.loop-i.wrote c.loop-i.world.0 c.args.items.now c.loop-i.i c.index-items-i.result (object_of c.in-Ok.evaluated.value) c.evaluate_for.new.world.0 c.in-Ok.evaluated.wrote
+            c.loop-i-test.true c.index-items-i.is (sym (seen_value (value c.args.names.now c.loop-i.world.0 (object_of c.index-items-i.result))) ∙ c.in-Ok.ensures.gives)
+            ∙ ap (λ w. followed c.args.names.now (so.0 ++ object_of c.in-Ok.evaluated.value ∷ []) w c.evaluate_for.new.world.0 (list_of (map object_of (drop (c.loop-i.i + 1) c.args.items.now)))) (sym c.either-wrote.ensures),
+      );
+      forms = λ k d h. c.in-Ok.ensures.kept _ (c.loop-i.invariant.forms k d h);
+      marked = c.in-Ok.ensures.marked ∙ c.loop-i.invariant.marked;
+    }
+
+pub listed-returns-clause-gives : goal.listed-returns-clause-gives
+listed-returns-clause-gives t c =
+    let so = c.loop-i.invariant.listed in
+    list_given c.args.names.now c.args.world.now.0 c.loop-i.world.0 c.args.items.now so.0 c.loop-i.wrote c.loop-i.i c.after.result so.2 (omega arith)
+    (c.after.ensures.gives c.loop-i.world.0 (list so.0 c.loop-i.world.0) ((c.list.ensures so.0 so.1).0 c.loop-i.world.0))
+
+pub listed-returns-clause-proper : goal.listed-returns-clause-proper
+listed-returns-clause-proper t c =
+    let so = c.loop-i.invariant.listed in
+    c.after.ensures.proper (c.list.ensures so.0 so.1).1

@@ -1,7 +1,8 @@
-use Rattle.std.proofs.Common.{◌≡◌, All, map, drop}
-use Rattle.lisp_object.specs.Object.{list_of}
+use Rattle.std.proofs.Common.{◌≡◌, false, List, [], All, map, drop}
+use Rattle.lisp_object.specs.Object.{Object, list_of}
 use Rattle.lisp_object.specs.Datum.{object_of}
 use Rattle.lisp_operators.specs.Evaluation.{also}
+use Rattle.lisp_operators.specs.ListBuilder.{HoldsList}
 use Rattle.evaluator.specs.Gathered.{followed, arguments_of, sequence_value}
 use Rattle.lisp_operators.specs.Evaluated.{IsArgument, KeepsArguments}
 use Rattle.evaluator.proofs.evaluation.+evaluation.Given as goal
@@ -20,6 +21,14 @@ abbrev pub invariant-sequence-loop-i : goal.invariant-sequence-loop-i
 invariant-sequence-loop-i l = record {
   same : sequence_value l.names l.fn.world.0 (arguments_of (map object_of l.items))
       ≡ also l.wrote (sequence_value l.names l.world.0 (list_of (map object_of (drop l.i l.items))));
+  forms : All (IsArgument l.world.0.packages) l.items;
+  marked : l.world.1 ≡ l.fn.world.1;
+}
+
+abbrev pub invariant-listed-loop-i : goal.invariant-listed-loop-i
+invariant-listed-loop-i l = record {
+  listed : (xs : List Object) × HoldsList xs l.values
+      × (followed l.names [] false l.fn.world.0 (list_of (map object_of (drop 1 l.items))) ≡ followed l.names xs l.wrote l.world.0 (list_of (map object_of (drop l.i l.items))));
   forms : All (IsArgument l.world.0.packages) l.items;
   marked : l.world.1 ≡ l.fn.world.1;
 }

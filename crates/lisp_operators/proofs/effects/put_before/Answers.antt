@@ -26,21 +26,21 @@ push-requires-clause-value c =
     let v = object_of c.args.value in
     let list = object_of c.in-Some.list.now in
     let within = list_within s x i list c.soundness.ensures.present c.in-Some.ensures.value in
-    let deep : c.is_too_deep_before.result ≡ nat_lt 100 (object_depth (pushed v (property s x i))) =
-    c.is_too_deep_before.ensures list (ap holds_pair c.in-Some.ensures.value ∙ c.requires.list) within ∙ ap (λ o. nat_lt 100 (object_depth (pushed v o))) c.in-Some.ensures.value in
-    pushed_value s x i v (pushed v (property s x i)) c.soundness.ensures.present c.requires.value.value refl (sym deep ∙ c.if-is_too_deep_before.false)
+    let deep : c.is_too_deep_within.result ≡ nat_lt 100 (object_depth (pushed v (property s x i))) =
+    c.is_too_deep_within.ensures.before list (ap holds_pair c.in-Some.ensures.value ∙ c.requires.list) within ∙ ap (λ o. nat_lt 100 (object_depth (pushed v o))) c.in-Some.ensures.value in
+    pushed_value s x i v (pushed v (property s x i)) c.soundness.ensures.present c.requires.value.value refl (sym deep ∙ c.if-is_too_deep_within.false)
 
-pub returns-then-is_too_deep_before-clause-gives : goal.returns-then-is_too_deep_before-clause-gives
-returns-then-is_too_deep_before-clause-gives c =
+pub returns-then-is_too_deep_within-clause-gives : goal.returns-then-is_too_deep_within-clause-gives
+returns-then-is_too_deep_within-clause-gives c =
     let s = c.args.world.now.0 in
     let x = symbol_of c.args.symbol.now in
     let i = symbol_of c.args.indicator.now in
     let v = object_of c.args.value in
     let list = object_of c.in-Some.list.now in
     let within = list_within s x i list c.soundness.ensures.present c.in-Some.ensures.value in
-    let deep : c.is_too_deep_before.result ≡ nat_lt 100 (object_depth (pushed v (property s x i))) =
-    c.is_too_deep_before.ensures list (ap holds_pair c.in-Some.ensures.value ∙ c.requires.list) within ∙ ap (λ o. nat_lt 100 (object_depth (pushed v o))) c.in-Some.ensures.value in
-    too_deep (pushed v (property s x i)) (writes (pushed v (property s x i)) (with_pushed s x i v)) (sym deep ∙ c.if-is_too_deep_before.true)
+    let deep : c.is_too_deep_within.result ≡ nat_lt 100 (object_depth (pushed v (property s x i))) =
+    c.is_too_deep_within.ensures.before list (ap holds_pair c.in-Some.ensures.value ∙ c.requires.list) within ∙ ap (λ o. nat_lt 100 (object_depth (pushed v o))) c.in-Some.ensures.value in
+    too_deep (pushed v (property s x i)) (writes (pushed v (property s x i)) (with_pushed s x i v)) (sym deep ∙ c.if-is_too_deep_within.true)
 
 pub returns-then-is_too_large_before-clause-gives : goal.returns-then-is_too_large_before-clause-gives
 returns-then-is_too_large_before-clause-gives c =
@@ -50,11 +50,11 @@ returns-then-is_too_large_before-clause-gives c =
     let v = object_of c.args.value in
     let list = object_of c.in-Some.list.now in
     let within = list_within s x i list c.soundness.ensures.present c.in-Some.ensures.value in
-    let deep : c.is_too_deep_before.result ≡ nat_lt 100 (object_depth (pushed v (property s x i))) =
-    c.is_too_deep_before.ensures list (ap holds_pair c.in-Some.ensures.value ∙ c.requires.list) within ∙ ap (λ o. nat_lt 100 (object_depth (pushed v o))) c.in-Some.ensures.value in
+    let deep : c.is_too_deep_within.result ≡ nat_lt 100 (object_depth (pushed v (property s x i))) =
+    c.is_too_deep_within.ensures.before list (ap holds_pair c.in-Some.ensures.value ∙ c.requires.list) within ∙ ap (λ o. nat_lt 100 (object_depth (pushed v o))) c.in-Some.ensures.value in
     let large : c.is_too_large_before.result ≡ nat_lt 1000000 (object_size (pushed v (property s x i))) =
     c.is_too_large_before.ensures ∙ ap (λ o. nat_lt 1000000 (object_size (pushed v o))) c.in-Some.ensures.value in
-    too_large (pushed v (property s x i)) (writes (pushed v (property s x i)) (with_pushed s x i v)) (sym deep ∙ c.if-is_too_deep_before.false) (sym large ∙ c.if-is_too_large_before.true)
+    too_large (pushed v (property s x i)) (writes (pushed v (property s x i)) (with_pushed s x i v)) (sym deep ∙ c.if-is_too_deep_within.false) (sym large ∙ c.if-is_too_large_before.true)
 
 pub returns-clause-gives : goal.returns-clause-gives
 returns-clause-gives c =
@@ -64,9 +64,9 @@ returns-clause-gives c =
     let v = object_of c.args.value in
     let list = object_of c.in-Some.list.now in
     let within = list_within s x i list c.soundness.ensures.present c.in-Some.ensures.value in
-    let deep : c.is_too_deep_before.result ≡ nat_lt 100 (object_depth (pushed v (property s x i))) =
-    c.is_too_deep_before.ensures list (ap holds_pair c.in-Some.ensures.value ∙ c.requires.list) within ∙ ap (λ o. nat_lt 100 (object_depth (pushed v o))) c.in-Some.ensures.value in
+    let deep : c.is_too_deep_within.result ≡ nat_lt 100 (object_depth (pushed v (property s x i))) =
+    c.is_too_deep_within.ensures.before list (ap holds_pair c.in-Some.ensures.value ∙ c.requires.list) within ∙ ap (λ o. nat_lt 100 (object_depth (pushed v o))) c.in-Some.ensures.value in
     let large : c.is_too_large_before.result ≡ nat_lt 1000000 (object_size (pushed v (property s x i))) =
     c.is_too_large_before.ensures ∙ ap (λ o. nat_lt 1000000 (object_size (pushed v o))) c.in-Some.ensures.value in
-    ap effect (built_up (pushed v (property s x i)) (writes (pushed v (property s x i)) (with_pushed s x i v)) (sym deep ∙ c.if-is_too_deep_before.false) (sym large ∙ c.if-is_too_large_before.false))
+    ap effect (built_up (pushed v (property s x i)) (writes (pushed v (property s x i)) (with_pushed s x i v)) (sym deep ∙ c.if-is_too_deep_within.false) (sym large ∙ c.if-is_too_large_before.false))
     ∙ ap (λ (w : Worlds). Ok (w.0, true)) (sym c.in_ok-push.ensures.ok)

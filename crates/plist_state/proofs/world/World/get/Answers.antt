@@ -1,35 +1,6 @@
-use Rattle.std.proofs.Common.{◌≡◌, Some, None, sym, ap, ◌∙◌}
-use Rattle.package_table.specs.Table.{symbol_count}
-use Rattle.package_table.specs.Numbers.{numbered, number_of}
-use Rattle.plist_state.specs.Properties as properties
-use Rattle.plist_state.specs.Properties.{value_at}
-use Rattle.plist_state.specs.Shown.{symbol_of}
-use Rattle.plist_state.proofs.InState.{none_seen, property_seen, no_property}
+use Rattle.std.proofs.Common.{◌∙◌}
+use Rattle.plist_state.specs.Changes.{property}
 use Rattle.plist_state.proofs.world.World.get.Goals as goal
 
 pub returns-clause-value : goal.returns-clause-value
-returns-clause-value c =
-    let x : properties.Symbol = symbol_of c.args.symbol.now in
-    let i : properties.Symbol = symbol_of c.args.indicator.now in
-    let s = numbered c.self.inside.packages in
-    let owner : number_of s x.0 x.1 ≡ Some c.in-Some.owner = (λ k. number_of s (sym c.home.ensures k) (sym c.name.ensures k)) ∙ sym c.in-Some.ensures in
-    let indicator : number_of s i.0 i.1 ≡ Some c.in-Some-number_of.indicator = (λ k. number_of s (sym c.home-2.ensures k) (sym c.name-2.ensures k)) ∙ sym c.in-Some-number_of.ensures in
-    c.value.ensures.value
-    ∙ property_seen c.self.inside c.self.invariant c.args.self.now c.self.view_is x i (symbol_count s.0) c.numbering.ensures c.in-Some.owner c.in-Some-number_of.indicator owner indicator
-
-pub returns-in_default-clause-value : goal.returns-in_default-clause-value
-returns-in_default-clause-value c =
-    let x : properties.Symbol = symbol_of c.args.symbol.now in
-    let i : properties.Symbol = symbol_of c.args.indicator.now in
-    let s = numbered c.self.inside.packages in
-    let is : number_of s x.0 x.1 ≡ None = (λ k. number_of s (sym c.home.ensures k) (sym c.name.ensures k)) ∙ sym c.in_default.ensures in
-    ap (λ ps. value_at ps i) (none_seen c.self.inside c.args.self.now c.self.view_is x is)
-
-pub returns-in_default-number_of-clause-value : goal.returns-in_default-number_of-clause-value
-returns-in_default-number_of-clause-value c =
-    let x : properties.Symbol = symbol_of c.args.symbol.now in
-    let i : properties.Symbol = symbol_of c.args.indicator.now in
-    let s = numbered c.self.inside.packages in
-    let owner : number_of s x.0 x.1 ≡ Some c.in-Some.owner = (λ k. number_of s (sym c.home.ensures k) (sym c.name.ensures k)) ∙ sym c.in-Some.ensures in
-    let none : number_of s i.0 i.1 ≡ None = (λ k. number_of s (sym c.home-2.ensures k) (sym c.name-2.ensures k)) ∙ sym c.in_default-number_of.ensures in
-    sym (no_property c.self.inside c.self.invariant c.args.self.now c.self.view_is x i c.in-Some.owner owner none)
+returns-clause-value c = c.get_at.ensures.value ∙ (λ k. property c.args.self.now.0 (c.borrowed.ensures k) (c.borrowed-2.ensures k))

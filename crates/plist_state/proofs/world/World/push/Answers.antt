@@ -16,27 +16,33 @@ use Rattle.plist_state.proofs.KeptWorld.{kept_rest}
 use Rattle.plist_state.proofs.Listed.{owned_put}
 use Rattle.plist_state.proofs.Lists.{all_with}
 use Rattle.plist_state.proofs.Marking.{kept_continued}
-use Rattle.plist_state.proofs.Named.{number_is}
+use Rattle.plist_state.proofs.Named.{number_by, number_is}
 use Rattle.plist_state.proofs.Pushed.{pushed_named}
 use Rattle.plist_state.proofs.Notes.{fits_now}
 use Rattle.plist_state.proofs.Soundness.{sound_put}
 use Rattle.plist_state.proofs.world.World.push.Goals as goal
 
 pub number-owner-requires : goal.number-owner-requires
-number-owner-requires c = subst (λ (w : Worlds). IsSymbol w.0.packages (symbol_of c.args.symbol.now)) (sym c.self.view_is) c.requires.symbol
+number-owner-requires c =
+    subst (IsSymbol c.self.inside.packages.0) (sym c.borrowed.ensures) (subst (λ (w : Worlds). IsSymbol w.0.packages (symbol_of c.args.symbol.now)) (sym c.self.view_is) c.requires.symbol)
 
 pub number-indicator-requires : goal.number-indicator-requires
-number-indicator-requires c = subst (λ (w : Worlds). IsSymbol w.0.packages (symbol_of c.args.indicator.now)) (sym c.self.view_is) c.requires.indicator
+number-indicator-requires c =
+    subst (IsSymbol c.self.inside.packages.0) (sym c.borrowed-2.ensures) (subst (λ (w : Worlds). IsSymbol w.0.packages (symbol_of c.args.indicator.now)) (sym c.self.view_is) c.requires.indicator)
 
 pub push-requires-clause-list : goal.push-requires-clause-list
 push-requires-clause-list c =
+    let owner_is = number_by (numbered c.self.inside.packages) c.number-owner.result c.borrowed.ensures c.number-owner.ensures in
+    let indicator_is = number_by (numbered c.self.inside.packages) c.number-indicator.result c.borrowed-2.ensures c.number-indicator.ensures in
     let s = numbered c.self.inside.packages in
     ap holds_pair (property_seen c.self.inside c.self.invariant c.args.self.now c.self.view_is (symbol_of c.args.symbol.now) (symbol_of c.args.indicator.now) (symbol_count s.0) c.numbering.ensures
-    c.number-owner.result c.number-indicator.result c.number-owner.ensures c.number-indicator.ensures)
+    c.number-owner.result c.number-indicator.result owner_is indicator_is)
     ∙ c.requires.list
 
 pub invariant_of-self : goal.invariant_of-self
 invariant_of-self c =
+    let owner_is = number_by (numbered c.self.inside.packages) c.number-owner.result c.borrowed.ensures c.number-owner.ensures in
+    let indicator_is = number_by (numbered c.self.inside.packages) c.number-indicator.result c.borrowed-2.ensures c.number-indicator.ensures in
     let a = c.self.inside in
     let s = numbered a.packages in
     let r : NumberedRest = rest_of a.stored in
@@ -51,23 +57,25 @@ invariant_of-self c =
     let at_home : IsSymbol s.0 x = subst (λ (w : Worlds). IsSymbol w.0.packages x) (sym c.self.view_is) c.requires.symbol in
     let indicator : IsSymbol s.0 i = subst (λ (w : Worlds). IsSymbol w.0.packages i) (sym c.self.view_is) c.requires.indicator in
     let value : IsValue s.0 (pushed v (property (state_in s r) x i)) = subst (λ (w : Worlds). IsValue w.0.packages (pushed v (property w.0 x i))) (sym c.self.view_is) c.requires.value in
-    let numbers = all_with same_number (λ p. IsNumber s p.0) row j (pushed v (value_by same_number row j)) (number_is s (symbol_count s.0) c.numbering.ensures i j c.number-indicator.ensures) (λ p k. k) (c.self.invariant.owned.indicators n) in
+    let numbers = all_with same_number (λ p. IsNumber s p.0) row j (pushed v (value_by same_number row j)) (number_is s (symbol_count s.0) c.numbering.ensures i j indicator_is) (λ p k. k) (c.self.invariant.owned.indicators n) in
     let same : named s (with_pushed_by same_number row j v) ≡ with_pushed_by same_symbol (named s row) i v =
-    pushed_named s (symbol_count s.0) c.numbering.ensures i j c.number-indicator.ensures row (c.self.invariant.owned.indicators n) v in
+    pushed_named s (symbol_count s.0) c.numbering.ensures i j indicator_is row (c.self.invariant.owned.indicators n) v in
     record {
       values = c.push.ensures.wider.values c.self.invariant.values;
       indexed = c.push.ensures.indexed;
       owned = kept_rest c.push.result (λ q. IsOwned s q.properties) r made u c.push.ensures.ok c.push.ensures.err c.self.invariant.owned
-          (owned_put s (symbol_count s.0) c.numbering.ensures r.properties x n _ c.number-owner.ensures numbers c.self.invariant.owned);
+          (owned_put s (symbol_count s.0) c.numbering.ensures r.properties x n _ owner_is numbers c.self.invariant.owned);
       marked = kept_continued a.packages.1.marked (marks_of a.marks.items) r a.stored.properties.entries c.self.invariant.marked (marks_of c.push.new.marks.items) u c.push.new.stored.properties.entries
           c.push.ensures.marked (fits_now a.stored.properties.entries r refl) c.push.ensures.wider;
       sound = kept_rest c.push.result (λ q. IsSound (state_in s q)) r made u c.push.ensures.ok c.push.ensures.err c.self.invariant.sound
-          (subst IsSound (sym (state_listed s (symbol_count s.0) c.numbering.ensures x n c.number-owner.ensures r (λ ps. with_pushed_by same_number ps j v) (λ ps. with_pushed_by same_symbol ps i v) same))
+          (subst IsSound (sym (state_listed s (symbol_count s.0) c.numbering.ensures x n owner_is r (λ ps. with_pushed_by same_number ps j v) (λ ps. with_pushed_by same_symbol ps i v) same))
           (sound_put (state_in s r) x i (pushed v (property (state_in s r) x i)) c.self.invariant.sound at_home indicator value));
     }
 
 pub returns-clause-ok : goal.returns-clause-ok
 returns-clause-ok c =
+    let owner_is = number_by (numbered c.self.inside.packages) c.number-owner.result c.borrowed.ensures c.number-owner.ensures in
+    let indicator_is = number_by (numbered c.self.inside.packages) c.number-indicator.result c.borrowed-2.ensures c.number-indicator.ensures in
     let a = c.self.inside in
     let s = numbered a.packages in
     let i = symbol_of c.args.indicator.now in
@@ -75,9 +83,9 @@ returns-clause-ok c =
     let j = c.number-indicator.result in
     let v = object_of c.args.first in
     world_listed c.push.result a.packages (marks_of a.marks.items) (marks_of c.push.new.marks.items) (rest_of a.stored) (rest_of c.push.new.stored) c.push.ensures.marked.same
-    c.args.self.now c.self.view_is (symbol_count s.0) c.numbering.ensures (symbol_of c.args.symbol.now) n c.number-owner.ensures
+    c.args.self.now c.self.view_is (symbol_count s.0) c.numbering.ensures (symbol_of c.args.symbol.now) n owner_is
     (λ ps. with_pushed_by same_number ps j v) (λ ps. with_pushed_by same_symbol ps i v)
-    (pushed_named s (symbol_count s.0) c.numbering.ensures i j c.number-indicator.ensures (row_of (rest_of a.stored).properties n) (c.self.invariant.owned.indicators n) v)
+    (pushed_named s (symbol_count s.0) c.numbering.ensures i j indicator_is (row_of (rest_of a.stored).properties n) (c.self.invariant.owned.indicators n) v)
     c.push.ensures.ok
 
 pub returns-clause-err : goal.returns-clause-err

@@ -17,33 +17,37 @@ use Rattle.plist_state.proofs.KeptWorld.{kept_rest}
 use Rattle.plist_state.proofs.Listed.{owned_put}
 use Rattle.plist_state.proofs.Lists.{all_without}
 use Rattle.plist_state.proofs.Marking.{kept_continued}
-use Rattle.plist_state.proofs.Named.{without_named}
+use Rattle.plist_state.proofs.Named.{number_by, without_named}
 use Rattle.plist_state.proofs.Notes.{fits_now}
 use Rattle.plist_state.proofs.Soundness.{sound_removed}
 use Rattle.plist_state.proofs.world.World.remove.Goals as goal
 
 pub number-owner-requires : goal.number-owner-requires
-number-owner-requires c = subst (λ (w : Worlds). IsSymbol w.0.packages (symbol_of c.args.symbol.now)) (sym c.self.view_is) c.requires
+number-owner-requires c =
+    subst (IsSymbol c.self.inside.packages.0) (sym c.borrowed.ensures) (subst (λ (w : Worlds). IsSymbol w.0.packages (symbol_of c.args.symbol.now)) (sym c.self.view_is) c.requires)
 
 pub returns-in_default-clause-ok : goal.returns-in_default-clause-ok
 returns-in_default-clause-ok c =
+    let owner_is = number_by (numbered c.self.inside.packages) c.number-owner.result c.borrowed.ensures c.number-owner.ensures in
     let x : properties.Symbol = symbol_of c.args.symbol.now in
     let i : properties.Symbol = symbol_of c.args.indicator.now in
     let s = numbered c.self.inside.packages in
     let none : number_of s i.0 i.1 ≡ None = (λ k. number_of s (sym c.home.ensures k) (sym c.name.ensures k)) ∙ sym c.in_default.ensures in
-    let absent : property c.args.self.now.0 x i ≡ None = no_property c.self.inside c.self.invariant c.args.self.now c.self.view_is x i c.number-owner.result c.number-owner.ensures none in
+    let absent : property c.args.self.now.0 x i ≡ None = no_property c.self.inside c.self.invariant c.args.self.now c.self.view_is x i c.number-owner.result owner_is none in
     sym (property_out c.self.inside c.self.invariant c.args.self.now c.self.view_is x i absent)
 
 pub returns-in_default-clause-had : goal.returns-in_default-clause-had
 returns-in_default-clause-had c =
+    let owner_is = number_by (numbered c.self.inside.packages) c.number-owner.result c.borrowed.ensures c.number-owner.ensures in
     let x : properties.Symbol = symbol_of c.args.symbol.now in
     let i : properties.Symbol = symbol_of c.args.indicator.now in
     let s = numbered c.self.inside.packages in
     let none : number_of s i.0 i.1 ≡ None = (λ k. number_of s (sym c.home.ensures k) (sym c.name.ensures k)) ∙ sym c.in_default.ensures in
-    sym (ap is_some (no_property c.self.inside c.self.invariant c.args.self.now c.self.view_is x i c.number-owner.result c.number-owner.ensures none))
+    sym (ap is_some (no_property c.self.inside c.self.invariant c.args.self.now c.self.view_is x i c.number-owner.result owner_is none))
 
 pub invariant_of-self : goal.invariant_of-self
 invariant_of-self c =
+    let owner_is = number_by (numbered c.self.inside.packages) c.number-owner.result c.borrowed.ensures c.number-owner.ensures in
     let a = c.self.inside in
     let s = numbered a.packages in
     let r : NumberedRest = rest_of a.stored in
@@ -62,17 +66,18 @@ invariant_of-self c =
       values = c.remove.ensures.wider.values c.self.invariant.values;
       indexed = c.remove.ensures.indexed;
       owned = kept_rest c.remove.result (λ q. IsOwned s q.properties) r made u c.remove.ensures.ok c.remove.ensures.err c.self.invariant.owned
-          (owned_put s (symbol_count s.0) c.numbering.ensures r.properties x n _ c.number-owner.ensures
+          (owned_put s (symbol_count s.0) c.numbering.ensures r.properties x n _ owner_is
           (all_without same_number (λ p. IsNumber s p.0) row j (c.self.invariant.owned.indicators n)) c.self.invariant.owned);
       marked = kept_continued a.packages.1.marked (marks_of a.marks.items) r a.stored.properties.entries c.self.invariant.marked (marks_of c.remove.new.marks.items) u c.remove.new.stored.properties.entries
           c.remove.ensures.marked (fits_now a.stored.properties.entries r refl) c.remove.ensures.wider;
       sound = kept_rest c.remove.result (λ q. IsSound (state_in s q)) r made u c.remove.ensures.ok c.remove.ensures.err c.self.invariant.sound
-          (subst IsSound (sym (state_listed s (symbol_count s.0) c.numbering.ensures x n c.number-owner.ensures r (λ ps. without_value_by same_number ps j) (λ ps. without_value ps i) same))
+          (subst IsSound (sym (state_listed s (symbol_count s.0) c.numbering.ensures x n owner_is r (λ ps. without_value_by same_number ps j) (λ ps. without_value ps i) same))
           (sound_removed (state_in s r) x i c.self.invariant.sound at_home));
     }
 
 pub returns-clause-ok : goal.returns-clause-ok
 returns-clause-ok c =
+    let owner_is = number_by (numbered c.self.inside.packages) c.number-owner.result c.borrowed.ensures c.number-owner.ensures in
     let a = c.self.inside in
     let s = numbered a.packages in
     let i : properties.Symbol = symbol_of c.args.indicator.now in
@@ -80,7 +85,7 @@ returns-clause-ok c =
     let j = c.in-Some.indicator in
     let is : number_of s i.0 i.1 ≡ Some j = (λ k. number_of s (sym c.home.ensures k) (sym c.name.ensures k)) ∙ sym c.in-Some.ensures in
     world_listed c.remove.result a.packages (marks_of a.marks.items) (marks_of c.remove.new.marks.items) (rest_of a.stored) (rest_of c.remove.new.stored) c.remove.ensures.marked.same
-    c.args.self.now c.self.view_is (symbol_count s.0) c.numbering.ensures (symbol_of c.args.symbol.now) n c.number-owner.ensures
+    c.args.self.now c.self.view_is (symbol_count s.0) c.numbering.ensures (symbol_of c.args.symbol.now) n owner_is
     (λ ps. without_value_by same_number ps j) (λ ps. without_value ps i)
     (without_named s (symbol_count s.0) c.numbering.ensures i j is (row_of (rest_of a.stored).properties n) (c.self.invariant.owned.indicators n))
     c.remove.ensures.ok
@@ -93,20 +98,22 @@ returns-clause-err c =
 
 pub returns-clause-had : goal.returns-clause-had
 returns-clause-had c =
+    let owner_is = number_by (numbered c.self.inside.packages) c.number-owner.result c.borrowed.ensures c.number-owner.ensures in
     let x : properties.Symbol = symbol_of c.args.symbol.now in
     let i : properties.Symbol = symbol_of c.args.indicator.now in
     let s = numbered c.self.inside.packages in
     let is : number_of s i.0 i.1 ≡ Some c.in-Some.indicator = (λ k. number_of s (sym c.home.ensures k) (sym c.name.ensures k)) ∙ sym c.in-Some.ensures in
     subst (λ (o : Option Object). IfOk c.remove.result (λ had. had ≡ is_some o))
-    (property_seen c.self.inside c.self.invariant c.args.self.now c.self.view_is x i (symbol_count s.0) c.numbering.ensures c.number-owner.result c.in-Some.indicator c.number-owner.ensures is)
+    (property_seen c.self.inside c.self.invariant c.args.self.now c.self.view_is x i (symbol_count s.0) c.numbering.ensures c.number-owner.result c.in-Some.indicator owner_is is)
     c.remove.ensures.had
 
 pub returns-clause-absent : goal.returns-clause-absent
 returns-clause-absent c =
+    let owner_is = number_by (numbered c.self.inside.packages) c.number-owner.result c.borrowed.ensures c.number-owner.ensures in
     let x : properties.Symbol = symbol_of c.args.symbol.now in
     let i : properties.Symbol = symbol_of c.args.indicator.now in
     let s = numbered c.self.inside.packages in
     let is : number_of s i.0 i.1 ≡ Some c.in-Some.indicator = (λ k. number_of s (sym c.home.ensures k) (sym c.name.ensures k)) ∙ sym c.in-Some.ensures in
     subst (λ (o : Option Object). OnErr c.remove.result (is_some o ≡ true))
-    (property_seen c.self.inside c.self.invariant c.args.self.now c.self.view_is x i (symbol_count s.0) c.numbering.ensures c.number-owner.result c.in-Some.indicator c.number-owner.ensures is)
+    (property_seen c.self.inside c.self.invariant c.args.self.now c.self.view_is x i (symbol_count s.0) c.numbering.ensures c.number-owner.result c.in-Some.indicator owner_is is)
     c.remove.ensures.absent

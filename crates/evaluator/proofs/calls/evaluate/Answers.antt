@@ -3,7 +3,7 @@ use Rattle.lisp_object.specs.Datum.{object_of}
 use Rattle.lisp_operators.specs.Evaluated.{Answers, done}
 use Rattle.evaluator.specs.Value.{value}
 use Rattle.evaluator.proofs.Seen.{seen_value}
-use Rattle.evaluator.proofs.evaluation.evaluate.Goals as goal
+use Rattle.evaluator.proofs.calls.evaluate.Goals as goal
 
 pub returns-clause-gives : goal.returns-clause-gives
 returns-clause-gives c =

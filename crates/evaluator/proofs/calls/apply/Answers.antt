@@ -2,7 +2,7 @@ use Rattle.lisp_object.specs.Datum.{object_of}
 use Rattle.lisp_operators.specs.Evaluated.{done}
 use Rattle.evaluator.specs.Value.{value}
 use Rattle.evaluator.proofs.Seen.{leaves_so, stops_so}
-use Rattle.evaluator.proofs.evaluation.apply.Goals as goal
+use Rattle.evaluator.proofs.calls.apply.Goals as goal
 
 pub returns-in-Ok-clause-gives : goal.returns-in-Ok-clause-gives
 returns-in-Ok-clause-gives c =
