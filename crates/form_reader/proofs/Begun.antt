@@ -23,8 +23,6 @@ use Rattle.form_reader.specs.declared.state.State.{State}
 use Rattle.form_reader.specs.declared.state.State.TheVariants.{Object as AtObject}
 use Rattle.form_reader.specs.declared.step.Change.{Change}
 use Rattle.form_reader.specs.declared.step.Change.TheVariants.{Goes, Form as ChangeForm, Refused as ChangeRefused}
-use Rattle.form_reader.specs.declared.step.in_place.InPlace.{InPlace}
-use Rattle.form_reader.specs.declared.step.in_place.InPlace.TheVariants.{Passed as IsPassed}
 use Rattle.std.specs.declared.alloc.AllocError.{AllocError}
 use Rattle.form_reader.specs.Step.{is_space, outcome_of, start_of, verdict_of, ChangesTo, BeginsAnew, EndsBefore, Starts}
 use Rattle.form_reader.specs.State.{state_gives}
@@ -183,28 +181,12 @@ new_begun setting reader new after =
     between_begun setting reader [] after (record { at = new.at; stack = new.stack; state = new.state })
     (λ cs. first_decides setting cs ∙ (λ i. start_of setting (sym new.start i) (state_gives setting (sym new.stack i) AtObject (sym new.at i) cs)))
 
--- a byte that is not discarded where nothing is open
-pub other_byte : (setting : Setting) (c : ℕ) → is_space setting [] AtObject 0 c ≡ false → 0 < setting.limits.text → is_whitespace setting.table c ≡ false
-other_byte setting c is some = sym (plain (is_whitespace setting.table c)) ∙ ap (λ (b : Bool). b && (is_whitespace setting.table c && true)) (sym (lt-ltb 0 setting.limits.text some)) ∙ is
-  where
-    plain : (b : Bool) → (true && (b && true)) ≡ b
-    plain true = refl
-    plain false = refl
+-- whitespace is discarded where nothing is open, and no other byte
+pub space_there : (setting : Setting) (c : ℕ) → is_whitespace setting.table c ≡ true → 0 < setting.limits.text → is_space setting c ≡ true
+space_there setting c e some = ap (λ (b : Bool). b && is_whitespace setting.table c) (lt-ltb 0 setting.limits.text some) ∙ e
 
--- where a reader is between forms, a byte that is not passed over is not discarded
-pub other_there : (setting : Setting) (reader : FormReader) (state : State) (byte : ℕ) (result : Result InPlace AllocError) → reader.state ≡ Open state
-    → (reader.stack ≡ [] → is_space setting reader.stack state reader.at byte ≡ true → result ≡ Ok IsPassed) → (result ≡ Ok IsPassed → ⊥)
-    → IsBetween reader → 0 < setting.limits.text → is_whitespace setting.table byte ≡ false
-other_there setting reader state byte result is passes never between some = by (is_whitespace setting.table byte) refl
-  where
-    here : state ≡ AtObject
-    here = let same : Open state ≡ Open AtObject = sym is ∙ between.state in cc
-
-    by : (b : Bool) → is_whitespace setting.table byte ≡ b → is_whitespace setting.table byte ≡ false
-    by false e = e
-    by true e =
-        absurd (never (passes between.stack ((λ i. is_space setting (between.stack i) (here i) (between.at i) byte)
-        ∙ ap (λ (b : Bool). b && (is_whitespace setting.table byte && true)) (lt-ltb 0 setting.limits.text some) ∙ ap (λ (b : Bool). true && (b && true)) e)))
+other_byte : (setting : Setting) (c : ℕ) → is_space setting c ≡ false → 0 < setting.limits.text → is_whitespace setting.table c ≡ false
+other_byte setting c is some = ap (λ (b : Bool). b && is_whitespace setting.table c) (sym (lt-ltb 0 setting.limits.text some)) ∙ is
 
 module _ (setting : Setting) (old : FormReader) (state : State) (bytes : List ℕ) (byte : ℕ) (after : IsAfterIn setting old (Open state) bytes) (has : HasBegun setting old bytes)
     (is_open : old.state ≡ Open state) where
@@ -212,8 +194,16 @@ module _ (setting : Setting) (old : FormReader) (state : State) (bytes : List �
   abbrev IsOther : Type 0
   IsOther = IsBetween old → 0 < setting.limits.text → is_whitespace setting.table byte ≡ false
 
+  -- it is that, where it is not passed over
+  other_than : (change : Change) → (IsBetween old → is_space setting byte ≡ true → change ≡ Goes (old.start + 1) 0 AtObject) → (change ≡ Goes (old.start + 1) 0 AtObject → ⊥) → IsOther
+  other_than change passes never between some = by (is_whitespace setting.table byte) refl
+    where
+      by : (b : Bool) → is_whitespace setting.table byte ≡ b → is_whitespace setting.table byte ≡ false
+      by false e = e
+      by true e = absurd (never (passes between (space_there setting byte e some)))
+
   -- what was open is open still
-  pub stays_begun : IsOther → BeginsAt setting (bytes ++ byte ∷ []) (begun old)
+  stays_begun : IsOther → BeginsAt setting (bytes ++ byte ∷ []) (begun old)
   stays_begun other =
       begins_more setting bytes (byte ∷ []) (begun old) has.begins
       (λ c cs here is some.
@@ -236,30 +226,13 @@ module _ (setting : Setting) (old : FormReader) (state : State) (bytes : List �
   pub decides_on : (cs : List ℕ) → decided_from setting ((bytes ++ byte ∷ []) ++ cs) ≡ start_of setting old.start (state_gives setting old.stack state old.at (byte ∷ cs))
   decides_on cs = ap (decided_from setting) (append_assoc bytes (byte ∷ []) cs) ∙ has.decides state is_open (byte ∷ cs)
 
-  -- it goes on where it is
-  pub went_begun : (next : State) → IsOther → ((cs : List ℕ) → state_gives setting old.stack state old.at (byte ∷ cs) ≡ state_gives setting old.stack next (old.at + 1) cs)
-      → (new : FormReader) → new.start ≡ old.start → new.at ≡ old.at + 1 → new.stack ≡ old.stack → new.state ≡ Open next → HasBegun setting new (bytes ++ byte ∷ [])
-  went_begun next other feeds new start at stack is = record {
-    goes_on = (next, is);
-    begins = subst (BeginsAt setting (bytes ++ byte ∷ [])) (sym start) (stays_begun other);
-    between = λ e. absurd (omega (arith, e, start, at, after.0));
-    decides = λ there same cs.
-        let other : next ≡ there = let both : Open next ≡ Open there = sym is ∙ same in cc in
-        decides_on cs ∙ ap (start_of setting old.start) (feeds cs)
-        ∙ (λ i. start_of setting (sym start i) (state_gives setting (sym stack i) (other i) (sym at i) cs));
-  }
-
-  -- it is refused where it is
-  pub refused_decides : (number : ℕ) → ((cs : List ℕ) → state_gives setting old.stack state old.at (byte ∷ cs) ≡ fault number old.at)
-      → IsDecidedFrom setting (bytes ++ byte ∷ []) (begun old)
-  refused_decides number feeds = λ cs. decides_on cs ∙ ap (start_of setting old.start) (feeds cs)
-
-  pub stepped_begun : (mid new : FormReader) (stack : List Frame) (change : Change) (step : Advance) → IsOther
+  pub stepped_begun : (mid new : FormReader) (stack : List Frame) (change : Change) (step : Advance)
+      → (IsBetween old → is_space setting byte ≡ true → change ≡ Goes (old.start + 1) 0 AtObject)
       → ((cs : List ℕ) → ChangesTo setting stack cs change (verdict_of setting old.start (state_gives setting old.stack state old.at (byte ∷ cs))))
       → Starts setting old.stack state old.start old.at byte change → BeginsAnew stack change → Becomes change mid new step → mid.stack ≡ stack
       → Steps setting new (bytes ++ byte ∷ []) step → StepsBegun setting new (bytes ++ byte ∷ []) step
-  stepped_begun mid new stack (Goes start at there) step other turns starts anew takes same steps =
-      subst (λ (s : Advance). StepsBegun setting new (bytes ++ byte ∷ []) s) (sym takes.0) (by starts)
+  stepped_begun mid new stack (Goes start at there) step passes turns starts anew takes same steps =
+      subst (λ (s : Advance). StepsBegun setting new (bytes ++ byte ∷ []) s) (sym takes.0) (by at refl)
     where
       told : Steps setting new (bytes ++ byte ∷ []) AdvanceMore
       told = subst (λ (s : Advance). Steps setting new (bytes ++ byte ∷ []) s) takes.0 steps
@@ -278,19 +251,29 @@ module _ (setting : Setting) (old : FormReader) (state : State) (bytes : List �
       has_begun begins =
           record { goes_on = (there, takes.4); begins = subst (BeginsAt setting (bytes ++ byte ∷ [])) (sym takes.1) begins; between = between; decides = decides }
 
-      by : (start ≡ old.start) ⊎ ((at ≡ 0) ⊎ ((start ≡ old.start + old.at) × EndsBefore setting old.stack state old.at byte)) → HasBegun setting new (bytes ++ byte ∷ [])
-      by (inl stays) = has_begun (subst (BeginsAt setting (bytes ++ byte ∷ [])) (sym stays) (stays_begun other))
-      by (inr (inl none)) =
+      later : IsOther → 0 < at → (start ≡ old.start) ⊎ ((at ≡ 0) ⊎ ((start ≡ old.start + old.at) × EndsBefore setting old.stack state old.at byte))
+          → HasBegun setting new (bytes ++ byte ∷ [])
+      later other some (inl stays) = has_begun (subst (BeginsAt setting (bytes ++ byte ∷ [])) (sym stays) (stays_begun other))
+      later other some (inr (inl none)) = absurd (omega (arith, some, none))
+      later other some (inr (inr here)) = has_begun (subst (BeginsAt setting (bytes ++ byte ∷ [])) (sym here.0) (ended_begins here.1))
+
+      by : (n : ℕ) → at ≡ n → HasBegun setting new (bytes ++ byte ∷ [])
+      by zero none =
           let anew = between (omega (arith, takes.2, none)) in
           between_begun setting new (bytes ++ byte ∷ []) told.0 anew (decides AtObject anew.state)
-      by (inr (inr here)) = has_begun (subst (BeginsAt setting (bytes ++ byte ∷ [])) (sym here.0) (ended_begins here.1))
-  stepped_begun mid new stack (ChangeForm x start «end» next) (AdvanceForm datum s e n) other turns starts anew takes same steps = λ later. new_begun later new steps.4 (steps.5 later)
-  stepped_begun mid new stack (ChangeForm x start «end» next) AdvanceMore other turns starts anew takes same steps = absurd takes
-  stepped_begun mid new stack (ChangeForm x start «end» next) (AdvanceRefused code offset) other turns starts anew takes same steps = absurd takes
-  stepped_begun mid new stack (ChangeRefused from code offset) step other turns starts anew takes same steps =
+      by (suc n) some =
+          let other = other_than (Goes start at there) passes (λ is. let none : at ≡ 0 = cc in absurd (omega (arith, some, none))) in
+          later other (omega (arith, some)) starts
+  stepped_begun mid new stack (ChangeForm x start «end» next) (AdvanceForm datum s e n) passes turns starts anew takes same steps = λ later. new_begun later new steps.4 (steps.5 later)
+  stepped_begun mid new stack (ChangeForm x start «end» next) AdvanceMore passes turns starts anew takes same steps = absurd takes
+  stepped_begun mid new stack (ChangeForm x start «end» next) (AdvanceRefused code offset) passes turns starts anew takes same steps = absurd takes
+  stepped_begun mid new stack (ChangeRefused from code offset) step passes turns starts anew takes same steps =
       subst (λ (s : Advance). StepsBegun setting new (bytes ++ byte ∷ []) s) (sym takes.0)
       (subst (BeginsAt setting (bytes ++ byte ∷ [])) (sym takes.2) (by starts), λ cs. decides_on cs ∙ (λ i. (turns cs i).1) ∙ sym takes.2)
     where
+      other : IsOther
+      other = other_than (ChangeRefused from code offset) passes (λ is. cc)
+
       by : (from ≡ old.start) ⊎ ((from ≡ old.start + old.at) × EndsBefore setting old.stack state old.at byte) → BeginsAt setting (bytes ++ byte ∷ []) from
       by (inl stays) = subst (BeginsAt setting (bytes ++ byte ∷ [])) (sym stays) (stays_begun other)
       by (inr here) = subst (BeginsAt setting (bytes ++ byte ∷ [])) (sym here.0) (ended_begins here.1)

@@ -192,8 +192,8 @@ state_fails : (setting : Setting) (stack : List Frame) (state : State) (at c : â
 state_fails setting stack AtObject at c stands le alien = between_fails setting stack at c le alien
 state_fails setting stack (AtToken scan) at c stands le alien = token_fails setting stack _ scan at c stands le alien.beyond
 state_fails setting stack (AtCallToken call scan) at c stands le alien = token_fails setting stack _ scan at c stands le alien.beyond
-state_fails setting stack (AtText call terminator text) at c stands le alien = gathering setting stack at c _ _ (text_fails setting stack at c le alien.beyond terminator text)
-state_fails setting stack (AtEscaped call terminator text) at c stands le alien = gathering setting stack at c _ _ (next_fails setting.table setting.limits _ at c alien.beyond)
+state_fails setting stack (AtText held) at c stands le alien = gathering setting stack at c _ _ (text_fails setting stack at c le alien.beyond held.terminator held.text)
+state_fails setting stack (AtEscaped held) at c stands le alien = gathering setting stack at c _ _ (next_fails setting.table setting.limits _ at c alien.beyond)
 state_fails setting stack (AtLine call text) at c stands le alien = gathering setting stack at c _ _ (line_fails setting stack at c le alien.beyond (keep_of call.function) text)
 state_fails setting stack (AtBlock call levels) at c stands le alien = gathering setting stack at c _ _ (block_fails setting stack at c le alien.beyond levels)
 state_fails setting stack (AtNumber character number) at c stands le alien = number_fails setting stack at c le alien.beyond character number

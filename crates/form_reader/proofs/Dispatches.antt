@@ -2,7 +2,6 @@
 use Rattle.std.proofs.Common.{◌≡◌, ℕ, suc, ◌+◌, ◌-◌, ◌<◌, ◌≤◌, true, false, List, [], ◌∷◌, length, Option, Some, None, Result, Ok, Err, IfOk, refl, sym, ap, subst, ◌∙◌, arith, Bool}
 use Rattle.std.specs.declared.alloc.AllocError.{AllocError}
 use Rattle.lisp_object.specs.declared.refusal.TheConstants.{TOO_DEEP, OUT_OF_PROFILE, FORM_TOO_LONG, INVALID_CHARACTER, NO_DISPATCH}
-use Rattle.lisp_object.specs.Object.{Object}
 use Rattle.token_scan.specs.declared.mark.Mark.{Mark}
 use Rattle.token_scan.specs.Tokens.{Scanned, ScannedBytes, with_front, typed_text, in_bytes, token, escaped_token}
 use Rattle.token_scan.specs.Scans.{Scan, begun, begun_escaped}
@@ -11,7 +10,8 @@ use Rattle.form_reader.specs.declared.call.CallValue.{CallValue}
 use Rattle.form_reader.specs.declared.call.CallValue.TheVariants.{Refused}
 use Rattle.lisp_reading.specs.declared.found.Found.{Found}
 use Rattle.form_reader.specs.declared.stack.Frame.{Frame}
-use Rattle.form_reader.specs.declared.stack.Part.TheVariants.{Next as InNext, List as InList, Until as InUntil}
+use Rattle.form_reader.specs.declared.stack.Part.{Part}
+use Rattle.form_reader.specs.declared.stack.Part.TheVariants.{Next as InNext, List as InList, Until as InUntil, Dotted as InDotted, Tailed as InTailed}
 use Rattle.form_reader.specs.declared.state.Event.{Event}
 use Rattle.lisp_reading.specs.declared.way.Way.{Way}
 use Rattle.lisp_reading.specs.declared.way.Way.TheVariants.{Nothing, Next, List as AList, Until, Token, EscapedToken}
@@ -23,7 +23,7 @@ use Rattle.form_reader.specs.Call.{plan_of}
 use Rattle.form_reader.specs.Token.{token_read, TokenFeeds}
 use Rattle.form_reader.specs.Stack.{outer_plan, between, plan_gives, token_goes_on}
 use Rattle.form_reader.specs.State.{inner_at, Brings}
-use Rattle.form_reader.specs.Dispatch.{Begins, Gathers}
+use Rattle.form_reader.specs.Dispatch.{Begins, Gathers, has_no_object, way_of_part}
 use Rattle.form_reader.proofs.Stacks.{given_moves, given_fault, list_is, until_is, gathering_ends}
 use Rattle.readtable_core.specs.Names.{is_dispatch_name}
 use Rattle.form_reader.specs.declared.gather.LineByte.{LineByte}
@@ -55,35 +55,33 @@ abbrev pub OpensWith : Setting → List Frame → InvokedCall → Way → Option
 OpensWith setting stack call way may at cs = run setting.table setting.limits (outer_plan setting stack (gathered setting (length stack) may call way)) at cs
 
 module _ (setting : Setting) (stack : List Frame) (call : InvokedCall) (at : ℕ) (cs : List ℕ) where
-  pub next_opens : length stack < setting.limits.nesting
-      → OpensWith setting stack call Next (inner_at setting (length stack)) at cs
-      ≡ run setting.table setting.limits (between setting (record { call = call; part = InNext } ∷ stack)) at cs
-  next_opens lt = ap (λ may. OpensWith setting stack call Next may at cs) (inner_opens setting (length stack) lt)
-
-  pub list_opens : length stack < setting.limits.nesting → at ≤ setting.limits.text
-      → OpensWith setting stack call AList (inner_at setting (length stack)) at cs
-      ≡ run setting.table setting.limits (between setting (record { call = call; part = InList [] } ∷ stack)) at cs
-  list_opens lt h =
+  -- one that has read no object
+  pub opens : (part : Part) → has_no_object part ≡ true → length stack < setting.limits.nesting → at ≤ setting.limits.text
+      → OpensWith setting stack call (way_of_part part) (inner_at setting (length stack)) at cs
+      ≡ run setting.table setting.limits (between setting (record { call = call; part = part } ∷ stack)) at cs
+  opens InNext e lt h = ap (λ may. OpensWith setting stack call Next may at cs) (inner_opens setting (length stack) lt)
+  opens (InList []) e lt h =
       ap (λ may. OpensWith setting stack call AList may at cs) (inner_opens setting (length stack) lt) ∙ list_is setting stack call [] at cs h
-
-  pub until_opens : (close : ℕ) → length stack < setting.limits.nesting → at ≤ setting.limits.text
-      → OpensWith setting stack call (Until close) (inner_at setting (length stack)) at cs
-      ≡ run setting.table setting.limits (between setting (record { call = call; part = InUntil close [] } ∷ stack)) at cs
-  until_opens close lt h =
+  opens (InList (x ∷ xs)) e lt h = cc
+  opens (InUntil close []) e lt h =
       ap (λ may. OpensWith setting stack call (Until close) may at cs) (inner_opens setting (length stack) lt) ∙ until_is setting stack call close [] at cs h
+  opens (InUntil close (x ∷ xs)) e lt h = cc
+  opens (InDotted xs) e lt h = cc
+  opens (InTailed xs tail) e lt h = cc
 
   refused_given : (code back : ℕ) → run setting.table setting.limits (outer_plan setting stack (refuses code back)) at cs ≡ fault code (at - back)
   unfolding run
   refused_given code back = given_fault setting stack (refuses code back) at cs (record { number = code; at = at - back }) refl
 
-  pub next_deep : setting.limits.nesting ≤ length stack → OpensWith setting stack call Next (inner_at setting (length stack)) at cs ≡ fault TOO_DEEP (at - 1)
-  next_deep le = ap (λ may. OpensWith setting stack call Next may at cs) (inner_shut setting (length stack) le) ∙ refused_given TOO_DEEP 1
-
-  pub list_deep : setting.limits.nesting ≤ length stack → OpensWith setting stack call AList (inner_at setting (length stack)) at cs ≡ fault TOO_DEEP (at - 1)
-  list_deep le = ap (λ may. OpensWith setting stack call AList may at cs) (inner_shut setting (length stack) le) ∙ refused_given TOO_DEEP 1
-
-  pub until_deep : (close : ℕ) → setting.limits.nesting ≤ length stack → OpensWith setting stack call (Until close) (inner_at setting (length stack)) at cs ≡ fault TOO_DEEP (at - 1)
-  until_deep close le = ap (λ may. OpensWith setting stack call (Until close) may at cs) (inner_shut setting (length stack) le) ∙ refused_given TOO_DEEP 1
+  pub is_too_deep : (part : Part) → has_no_object part ≡ true → setting.limits.nesting ≤ length stack
+      → OpensWith setting stack call (way_of_part part) (inner_at setting (length stack)) at cs ≡ fault TOO_DEEP (at - 1)
+  is_too_deep InNext e le = ap (λ may. OpensWith setting stack call Next may at cs) (inner_shut setting (length stack) le) ∙ refused_given TOO_DEEP 1
+  is_too_deep (InList []) e le = ap (λ may. OpensWith setting stack call AList may at cs) (inner_shut setting (length stack) le) ∙ refused_given TOO_DEEP 1
+  is_too_deep (InList (x ∷ xs)) e le = cc
+  is_too_deep (InUntil close []) e le = ap (λ may. OpensWith setting stack call (Until close) may at cs) (inner_shut setting (length stack) le) ∙ refused_given TOO_DEEP 1
+  is_too_deep (InUntil close (x ∷ xs)) e le = cc
+  is_too_deep (InDotted xs) e le = cc
+  is_too_deep (InTailed xs tail) e le = cc
 
   -- what a call comes to
   pub refused_is : (code back : ℕ) → run setting.table setting.limits (outer_plan setting stack (refuses code back)) at cs ≡ fault code (at - back)
@@ -125,33 +123,9 @@ module _ (setting : Setting) (stack : List Frame) (call : InvokedCall) (way : Wa
   abbrev opened_so : Way → Read Found
   opened_so w = OpensWith setting stack call w (inner_at setting (length stack)) at cs
 
-  pub next_deep_at : (offset : ℕ) → way ≡ Next → setting.limits.nesting ≤ length stack → offset ≡ at - 1 → opened_so way ≡ fault TOO_DEEP offset
-  next_deep_at offset e le p = ap opened_so e ∙ next_deep setting stack call at cs le ∙ ap (λ (n : ℕ). fault TOO_DEEP n) (sym p)
-
-  pub list_deep_at : (offset : ℕ) → way ≡ AList → setting.limits.nesting ≤ length stack → offset ≡ at - 1 → opened_so way ≡ fault TOO_DEEP offset
-  list_deep_at offset e le p = ap opened_so e ∙ list_deep setting stack call at cs le ∙ ap (λ (n : ℕ). fault TOO_DEEP n) (sym p)
-
-  pub until_deep_at : (offset close : ℕ) → way ≡ Until close → setting.limits.nesting ≤ length stack → offset ≡ at - 1 → opened_so way ≡ fault TOO_DEEP offset
-  until_deep_at offset close e le p = ap opened_so e ∙ until_deep setting stack call at cs close le ∙ ap (λ (n : ℕ). fault TOO_DEEP n) (sym p)
-
-  pub next_at : (after : List Frame) → way ≡ Next → length stack < setting.limits.nesting → after ≡ record { call = call; part = InNext } ∷ stack
-      → opened_so way ≡ run setting.table setting.limits (between setting after) at cs
-  next_at after e lt p =
-      ap opened_so e ∙ next_opens setting stack call at cs lt ∙ ap (λ (fs : List Frame). run setting.table setting.limits (between setting fs) at cs) (sym p)
-
-  pub list_at : (after : List Frame) (xs : List Object) → way ≡ AList → length stack < setting.limits.nesting → at ≤ setting.limits.text → xs ≡ []
-      → after ≡ record { call = call; part = InList xs } ∷ stack → opened_so way ≡ run setting.table setting.limits (between setting after) at cs
-  list_at after xs e lt h none p =
-      ap opened_so e ∙ list_opens setting stack call at cs lt h
-      ∙ ap (λ (xs : List Object). run setting.table setting.limits (between setting (record { call = call; part = InList xs } ∷ stack)) at cs) (sym none)
-      ∙ ap (λ (fs : List Frame). run setting.table setting.limits (between setting fs) at cs) (sym p)
-
-  pub until_at : (after : List Frame) (close : ℕ) (xs : List Object) → way ≡ Until close → length stack < setting.limits.nesting → at ≤ setting.limits.text → xs ≡ []
-      → after ≡ record { call = call; part = InUntil close xs } ∷ stack → opened_so way ≡ run setting.table setting.limits (between setting after) at cs
-  until_at after close xs e lt h none p =
-      ap opened_so e ∙ until_opens setting stack call at cs close lt h
-      ∙ ap (λ (xs : List Object). run setting.table setting.limits (between setting (record { call = call; part = InUntil close xs } ∷ stack)) at cs) (sym none)
-      ∙ ap (λ (fs : List Frame). run setting.table setting.limits (between setting fs) at cs) (sym p)
+  pub opened_at : (after : List Frame) (known : Way) (result : Result Event AllocError) → way ≡ known → IfOk result (λ event. Gathers setting after stack call known at cs event)
+      → IfOk result (λ event. Gathers setting after stack call way at cs event)
+  opened_at after known result e gathers = subst (λ (w : Way). IfOk result (λ event. Gathers setting after stack call w at cs event)) (sym e) gathers
 
   abbrev call_token : Scan → Read Found
   call_token scan =

@@ -337,8 +337,8 @@ module _ (setting : Setting) (stack : List Frame) (at c : ℕ) (found : Found) w
   ended_there AtObject e = plan_there setting.table setting.limits (between setting stack) at c found e
   ended_there (AtToken scan) e = goes_there _ scan e
   ended_there (AtCallToken call scan) e = goes_there _ scan e
-  ended_there (AtText call terminator text) e = plan_there setting.table setting.limits _ at c found e
-  ended_there (AtEscaped call terminator text) e = plan_there setting.table setting.limits _ at c found e
+  ended_there (AtText held) e = plan_there setting.table setting.limits _ at c found e
+  ended_there (AtEscaped held) e = plan_there setting.table setting.limits _ at c found e
   ended_there (AtLine call text) e = plan_there setting.table setting.limits _ at c found e
   ended_there (AtBlock call levels) e = plan_there setting.table setting.limits _ at c found e
   ended_there (AtNumber character number) e = plan_there setting.table setting.limits _ at c found e

@@ -26,7 +26,6 @@ use Rattle.form_reader.specs.declared.state.State.TheVariants.{Object as AtObjec
 use Rattle.token_scan.specs.declared.mark.Mark.{Mark}
 use Rattle.token_scan.specs.Tokens.{kind, typed}
 use Rattle.token_scan.specs.Spelling.{ends_tokens}
-use Rattle.form_reader.specs.Step.{BeginsToken, Stays}
 use Rattle.form_reader.specs.declared.state.Moved.{Moved}
 use Rattle.form_reader.specs.declared.state.State.{State}
 use Rattle.form_reader.specs.declared.token.FirstByte.{FirstByte}
@@ -37,7 +36,6 @@ use Rattle.lisp_reading.specs.Naming.{told, told_of, Tells}
 use Rattle.token_meaning.specs.Meanings.{meaning_of}
 use Rattle.token_meaning.specs.Folding.{folded}
 use Rattle.readtable_core.specs.declared.table.Case.{Case}
-use Rattle.form_reader.proofs.Values.{nothing_stays}
 
 module _ {A : Type 0} (table : Table) (limits : Limits) (other : Plan A) (test : ℕ → Bool) (on : ℕ → Plan A) (at c : ℕ) (cs : List ℕ) where
   takes_by : (b full : Bool) → test c ≡ b → nat_le limits.text at ≡ full → run table limits (takes other test on) at (c ∷ cs)
@@ -289,31 +287,6 @@ module _ (setting : Setting) (at c : ℕ) (cs : List ℕ) where
       ap (λ (fs : List Frame). run setting.table setting.limits (outer_plan setting fs (attempt_at setting (length fs))) at (c ∷ cs)) same
       ∙ sym (attempts setting at c cs stack h other) in
       subst (λ (r : Read Found). IfOk result (λ event. Brings setting after (at + 1) cs event r)) whole brings
-
--- a token begins
-pub object_begins : (setting : Setting) (at c : ℕ) (cs : List ℕ) (stack : List Frame) (scan : Scan) → at ≤ setting.limits.text → length stack ≤ setting.limits.nesting
-    → ((close : ℕ) → close_of_stack stack ≡ Some close → (c == close) ≡ false) → stands_alone (entry_at setting.table c).syntax ≡ false
-    → token_read setting.table setting.limits (begun setting.limits.token) at (c ∷ cs) ≡ token_read setting.table setting.limits scan (at + 1) cs
-    → BeginsToken setting stack at c cs scan
-object_begins setting at c cs stack scan h le other alone same =
-    attempts setting at c cs stack h other ∙ token_goes setting at c cs stack (token_read setting.table setting.limits scan (at + 1) cs) le alone same
-
--- the same where it is known where the reader is, and that a token begins
-pub begun_there : (setting : Setting) (stack : List Frame) (at c : ℕ) (cs : List ℕ) (state : State) (scan : Scan) (found : Option Scan) → state ≡ AtObject
-    → found ≡ Some scan → IfSome found (λ s. BeginsToken setting stack at c cs s)
-    → state_gives setting stack state at (c ∷ cs) ≡ state_gives setting stack (AtToken scan) (at + 1) cs
-begun_there setting stack at c cs state scan found is some begins =
-    ap (λ (s : State). state_gives setting stack s at (c ∷ cs)) is
-    ∙ subst (λ (o : Option Scan). IfSome o (λ s. BeginsToken setting stack at c cs s)) some begins
-
--- whitespace is discarded in an open call
-pub blank_stays : (setting : Setting) (at c : ℕ) (cs : List ℕ) (stack : List Frame) → at < setting.limits.text → length stack ≤ setting.limits.nesting → 0 < length stack
-    → ((close : ℕ) → close_of_stack stack ≡ Some close → (c == close) ≡ false) → (entry_at setting.table c).syntax ≡ Whitespace → Stays setting stack at c cs
-blank_stays setting at c cs [] lt le some other e = absurd (omega (arith, some))
-blank_stays setting at c cs (f ∷ fs) lt le some other e =
-    attempts setting at c cs (f ∷ fs) (omega (arith, lt)) other
-    ∙ alone_by setting at c cs (f ∷ fs) Whitespace le lt (ap stands_alone e) e
-    ∙ nothing_stays setting fs f.call (at + 1) cs false f.part
 
 -- the same where it is known where the reader is
 pub state_moves : (setting : Setting) (stack : List Frame) (at c : ℕ) (cs : List ℕ) (state known : State) (result : Result Moved AllocError) → state ≡ known

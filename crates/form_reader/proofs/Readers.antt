@@ -21,15 +21,12 @@ use Rattle.lisp_reading.specs.Plans.{Read, fault, gives}
 use Rattle.std.specs.declared.alloc.AllocError.{AllocError}
 use Rattle.form_reader.specs.declared.step.object.Passed.{Passed}
 use Rattle.form_reader.specs.declared.step.object.Passed.TheVariants.{Done as PassedDone}
-use Rattle.form_reader.specs.Step.{Passes, FeedsInPlace, IsReadyInPlace, outcome_of, rest_of, verdict_of, ChangesTo, IsStanding, IsReadyChange, BeginsFrom, Settles, BeginsAnew}
+use Rattle.form_reader.specs.Step.{Passes, outcome_of, rest_of, verdict_of, ChangesTo, IsStanding, IsReadyChange, BeginsFrom, Settles, BeginsAnew}
 use Rattle.form_reader.specs.State.{state_gives, Brings}
 use Rattle.lisp_reading.specs.Setting.{Setting}
 use Rattle.lisp_reading.specs.Reading.{form, refused, reads, Outcome, empty, reads_at}
-use Rattle.form_reader.specs.declared.step.in_place.InPlace.{InPlace}
-use Rattle.form_reader.specs.declared.step.in_place.InPlace.TheVariants.{GoesOn as InPlaceGoesOn, Passed as InPlacePassed, Left as InPlaceLeft, Refused as InPlaceRefused}
 use Rattle.form_reader.specs.Reader.{fed, begun, MayGoOn, DecideNothing, IsNew, IsAfter, IsAfterIn, Steps, BeginsLater, IsSoundStep, Becomes, IsBetween, LeavesBetween}
 use Rattle.form_reader.proofs.Deciding.{may_go_on, decide_nothing}
-use Rattle.form_reader.proofs.Steps.{none_turns}
 use Rattle.lisp_reading.proofs.Forms.{reads_is, stood}
 use Rattle.form_reader.specs.declared.state.Event.{Event}
 use Rattle.form_reader.specs.declared.state.Event.TheVariants.{Open as IsAt, Gives as IsGiven, Refused as IsRefused}
@@ -52,44 +49,6 @@ module _ (setting : Setting) (old mid new : FormReader) (state : State) (bytes :
 
   one_more : IsAfterIn setting old (Open state) bytes → (cs : List ℕ) → reads setting (fed_now ++ cs) ≡ rest_of setting old.stack state old.start old.at (byte ∷ cs)
   one_more a cs = ap (reads setting) (append_assoc bytes (byte ∷ []) cs) ∙ a.1 (byte ∷ cs)
-
-  -- it is taken, and what is read of the text after it is this
-  went_to : (next : State) (start at : ℕ) → start + at ≡ old.start + old.at + 1 → IsAfterIn setting old (Open state) bytes
-      → ((cs : List ℕ) → rest_of setting old.stack state old.start old.at (byte ∷ cs) ≡ rest_of setting old.stack next start at cs)
-      → IsStanding setting.limits old.stack next at
-      → ((start + at ≡ length fed_now) × ((cs : List ℕ) → reads setting (fed_now ++ cs) ≡ rest_of setting old.stack next start at cs))
-      × (start + at ≡ length fed_now) × MayGoOn fed_now (reads setting fed_now) × DecideNothing setting fed_now
-  went_to next start at more a same ready =
-      let many : length fed_now ≡ length bytes + 1 = length-append bytes (byte ∷ []) in
-      let count : start + at ≡ length fed_now = omega (arith, many, more, a.0) in
-      let rest : (cs : List ℕ) → reads setting (fed_now ++ cs) ≡ rest_of setting old.stack next start at cs = λ cs. one_more a cs ∙ same cs in (
-        (count, rest),
-        count,
-        may_go_on setting old.stack next start at fed_now ready.levels ready.within count rest,
-        decide_nothing setting old.stack next start at fed_now ready.levels ready.within count rest,
-      )
-
-  -- it is taken where the reader is
-  pub went_on : (next : State) → IsAfterIn setting old (Open state) bytes
-      → ((cs : List ℕ) → rest_of setting old.stack state old.start old.at (byte ∷ cs) ≡ rest_of setting old.stack next old.start (old.at + 1) cs)
-      → IsStanding setting.limits old.stack next (old.at + 1)
-      → ((old.start + (old.at + 1) ≡ length fed_now) × ((cs : List ℕ) → reads setting (fed_now ++ cs) ≡ rest_of setting old.stack next old.start (old.at + 1) cs))
-      × (old.start + (old.at + 1) ≡ length fed_now) × MayGoOn fed_now (reads setting fed_now) × DecideNothing setting fed_now
-  went_on next a same ready = went_to next old.start (old.at + 1) (omega arith) a same ready
-
-  -- it is passed over, where nothing is open
-  pub went_past : (next : State) → IsAfterIn setting old (Open state) bytes
-      → ((cs : List ℕ) → rest_of setting old.stack state old.start old.at (byte ∷ cs) ≡ rest_of setting old.stack next (old.start + (old.at + 1)) 0 cs)
-      → IsStanding setting.limits old.stack next 0
-      → ((old.start + (old.at + 1) + 0 ≡ length fed_now) × ((cs : List ℕ) → reads setting (fed_now ++ cs) ≡ rest_of setting old.stack next (old.start + (old.at + 1)) 0 cs))
-      × (old.start + (old.at + 1) + 0 ≡ length fed_now) × MayGoOn fed_now (reads setting fed_now) × DecideNothing setting fed_now
-  went_past next a same ready = went_to next (old.start + (old.at + 1)) 0 (omega arith) a same ready
-
-  -- it is refused where the reader is
-  pub gave_up : (code offset : ℕ) → IsAfterIn setting old (Open state) bytes
-      → ((cs : List ℕ) → rest_of setting old.stack state old.start old.at (byte ∷ cs) ≡ refused code offset)
-      → (cs : List ℕ) → reads setting (fed_now ++ cs) ≡ refused code offset
-  gave_up code offset a same cs = one_more a cs ∙ same cs
 
   pub stepped : (change : Change) (step : Advance) → IsAfterIn setting old (Open state) bytes
       → ((cs : List ℕ) → ChangesTo setting after cs change (verdict_of setting old.start (state_gives setting old.stack state old.at (byte ∷ cs))))
@@ -118,42 +77,6 @@ module _ (setting : Setting) (old mid new : FormReader) (state : State) (bytes :
   stepped (ChangeForm x start «end» next) (AdvanceRefused code offset) a turns ready takes same = absurd takes
   stepped (ChangeRefused from code offset) step a turns ready takes same =
       subst (λ (s : Advance). Steps setting new fed_now s) (sym takes.0) (λ cs. one_more a cs ∙ (λ i. (turns cs i).0), takes.1)
-
--- a byte that is taken in its place, one that is left, and one that is refused there
-module _ (setting : Setting) (stack : List Frame) (start at c : ℕ) (old new : State) (fed : InPlace) where
-  pub goes_there : (cs : List ℕ) → fed ≡ InPlaceGoesOn → FeedsInPlace setting stack at c cs old new fed
-      → state_gives setting stack old at (c ∷ cs) ≡ state_gives setting stack new (at + 1) cs
-  goes_there cs is feeds = subst (λ (f : InPlace). FeedsInPlace setting stack at c cs old new f) is feeds
-
-  pub taken_there : (cs : List ℕ) → fed ≡ InPlaceGoesOn → FeedsInPlace setting stack at c cs old new fed
-      → rest_of setting stack old start at (c ∷ cs) ≡ rest_of setting stack new start (at + 1) cs
-  taken_there cs is feeds = ap (outcome_of setting start) (goes_there cs is feeds)
-
-  pub passed_there : (cs : List ℕ) → fed ≡ InPlacePassed → FeedsInPlace setting stack at c cs old new fed → stack ≡ [] → new ≡ AtObject
-      → verdict_of setting start (state_gives setting stack old at (c ∷ cs)) ≡ verdict_of setting (start + (at + 1)) (state_gives setting stack new 0 cs)
-  passed_there cs is feeds none anew =
-      none_turns setting stack start (at + 1) cs _ none (subst (λ (f : InPlace). FeedsInPlace setting stack at c cs old new f) is feeds)
-      ∙ ap (λ (s : State). verdict_of setting (start + (at + 1)) (state_gives setting stack s 0 cs)) (sym anew)
-
-  pub left_there : (cs : List ℕ) → fed ≡ InPlaceLeft → FeedsInPlace setting stack at c cs old new fed → new ≡ old
-  left_there cs is feeds = subst (λ (f : InPlace). FeedsInPlace setting stack at c cs old new f) is feeds
-
-  pub fails_there : (code : ℕ) (cs : List ℕ) → fed ≡ InPlaceRefused code → FeedsInPlace setting stack at c cs old new fed
-      → state_gives setting stack old at (c ∷ cs) ≡ fault code at
-  fails_there code cs is feeds = subst (λ (f : InPlace). FeedsInPlace setting stack at c cs old new f) is feeds
-
-  pub refused_there : (code : ℕ) (cs : List ℕ) → fed ≡ InPlaceRefused code → FeedsInPlace setting stack at c cs old new fed
-      → rest_of setting stack old start at (c ∷ cs) ≡ refused code (start + at)
-  refused_there code cs is feeds = ap (outcome_of setting start) (fails_there code cs is feeds)
-
-  pub ready_there : (limits : Limits) → fed ≡ InPlaceGoesOn → IsReadyInPlace limits at new fed → IsStanding limits stack old at → IsStanding limits stack new (at + 1)
-  ready_there limits is ready standing =
-      let r = subst (λ (f : InPlace). IsReadyInPlace limits at new f) is ready in
-      record { within = omega (arith, r.0); nesting = standing.nesting; levels = r.1 }
-
-  pub ready_past : (limits : Limits) → fed ≡ InPlacePassed → IsReadyInPlace limits at new fed → IsStanding limits stack old at → IsStanding limits stack new 0
-  ready_past limits is ready standing =
-      record { within = omega arith; nesting = standing.nesting; levels = subst (λ (f : InPlace). IsReadyInPlace limits at new f) is ready }
 
 -- at most one byte more was fed
 pub fed_taking : (mid new : FormReader) (after : List Frame) (limits : Limits) (count : ℕ) (change : Change) (step : Advance) → Becomes change mid new step → IsReadyChange limits after count change
@@ -202,37 +125,6 @@ refused_finishes setting reader bytes code offset e a =
     let here : IsAfterIn setting reader (Refused code offset) bytes = subst (λ (s : ReaderState). IsAfterIn setting reader s bytes) e a in
     sym (ap (reads setting) (append-nil bytes)) ∙ here []
 
--- ---- a whole text, where a step decides it
-
-module _ (under : Limits → Setting) (held handed : Limits) (old reader : FormReader) (bytes : List ℕ) (k byte : ℕ) (step : Advance) where
-  abbrev front : List ℕ
-  front = take k bytes
-
-  -- what a step says under the limits that the reader holds, it says under those that it was handed
-  under_limits : held ≡ handed → IsAfter (under handed) old front → (IsAfter (under held) old front → Steps (under held) reader (front ++ byte ∷ []) step)
-      → Steps (under handed) reader (front ++ byte ∷ []) step
-  under_limits same after steps =
-      subst (λ (l : Limits). Steps (under l) reader (front ++ byte ∷ []) step) same (steps (subst (λ (l : Limits). IsAfter (under l) old front) (sym same) after))
-
-  whole_text : take (k + 1) bytes ≡ front ++ byte ∷ [] → bytes ≡ (front ++ byte ∷ []) ++ drop (k + 1) bytes
-  whole_text same = sym (take-append-drop (k + 1) bytes) ∙ ap (λ (t : List ℕ). t ++ drop (k + 1) bytes) same
-
-  pub decided_form : (datum : Datum) (start «end» next : ℕ) → step ≡ AdvanceForm datum start «end» next → IsSoundStep step → held ≡ handed → IsAfter (under handed) old front
-      → (IsAfter (under held) old front → Steps (under held) reader (front ++ byte ∷ []) step) → take (k + 1) bytes ≡ front ++ byte ∷ []
-      → (reads (under handed) bytes ≡ form (object_of datum) start «end» next) × (is_proper datum ≡ true) × IsSound (object_of datum)
-  decided_form datum start «end» next e sound limits after steps same =
-      let told : Steps (under handed) reader (front ++ byte ∷ []) (AdvanceForm datum start «end» next) =
-      subst (λ (s : Advance). Steps (under handed) reader (front ++ byte ∷ []) s) e (under_limits limits after steps) in
-      (ap (reads (under handed)) (whole_text same) ∙ told.0 (drop (k + 1) bytes), told.1, subst IsSoundStep e sound)
-
-  pub decided_refusal : (code offset : ℕ) → step ≡ AdvanceRefused code offset → held ≡ handed → IsAfter (under handed) old front
-      → (IsAfter (under held) old front → Steps (under held) reader (front ++ byte ∷ []) step) → take (k + 1) bytes ≡ front ++ byte ∷ []
-      → reads (under handed) bytes ≡ refused code offset
-  decided_refusal code offset e limits after steps same =
-      let told : Steps (under handed) reader (front ++ byte ∷ []) (AdvanceRefused code offset) =
-      subst (λ (s : Advance). Steps (under handed) reader (front ++ byte ∷ []) s) e (under_limits limits after steps) in
-      ap (reads (under handed)) (whole_text same) ∙ told.0 (drop (k + 1) bytes)
-
 -- ---- a change
 
 -- what the attempt came to before the byte is what it gives
@@ -278,6 +170,16 @@ anew_between mid new after (ChangeForm x start «end» next) AdvanceMore anew ta
 anew_between mid new after (ChangeForm x start «end» next) (AdvanceRefused code offset) anew takes same is here = absurd takes
 anew_between mid new after (ChangeRefused from code offset) step anew takes same is here =
     let other : AdvanceRefused code offset ≡ AdvanceMore = sym takes.0 ∙ is in cc
+
+-- where a byte is passed over, the reader stays between forms
+pub passed_between : (mid new : FormReader) (after : List Frame) (change : Change) (step : Advance) (start : ℕ) → change ≡ Goes start 0 AtObject → after ≡ []
+    → Becomes change mid new step → mid.stack ≡ after → (step ≡ AdvanceMore) × IsBetween new
+passed_between mid new after change step start is none takes same =
+    let told : Becomes (Goes start 0 AtObject) mid new step = subst (λ (c : Change). Becomes c mid new step) is takes in
+    (told.0, record { at = told.2; stack = told.3 ∙ same ∙ none; state = told.4 })
+
+pub ok_change : (change known : Change) → ◌≡◌ {A = Result Change AllocError} (Ok change) (Ok known) → change ≡ known
+ok_change change known e = cc
 
 -- ---- what is read where a reader is between forms
 

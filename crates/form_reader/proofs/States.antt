@@ -26,8 +26,8 @@ state_below : (at : ℕ) (state : State) → IsTrue (is_state_at at state) → I
 state_below at AtObject h = tt
 state_below at (AtToken scan) h = h
 state_below at (AtCallToken call scan) h = h
-state_below at (AtText call terminator text) h = tt
-state_below at (AtEscaped call terminator text) h = tt
+state_below at (AtText held) h = tt
+state_below at (AtEscaped held) h = tt
 state_below at (AtLine call text) h = tt
 state_below at (AtBlock call levels) h = below levels.0 at h
 state_below at (AtNumber c number) h = tt

@@ -14,18 +14,17 @@ use Rattle.lisp_reading.specs.Setting.{Setting}
 use Rattle.std.specs.declared.alloc.AllocError.{AllocError}
 use Rattle.form_reader.specs.declared.step.object.Passed.{Passed}
 use Rattle.form_reader.specs.declared.step.object.Passed.TheVariants.{Done as PassedDone}
-use Rattle.form_reader.specs.Step.{Passes, verdict_of, Settles, ChangesTo, IsReadySettled, FeedsInPlace, is_space, StartsAt, StartsWith, StartsAfter, EndsBefore, Starts}
-use Rattle.form_reader.specs.Stack.{close_of_stack, is_closed_by, outer_plan}
+use Rattle.form_reader.specs.Step.{Passes, verdict_of, Settles, ChangesTo, IsReadySettled, IsReadyChange, is_space, StartsAt, StartsWith, StartsAfter, EndsBefore, Starts}
+use Rattle.form_reader.specs.Stack.{outer_plan}
 use Rattle.lisp_reading.specs.Reading.{Outcome, is_blank, is_whitespace, stands_alone}
+use Rattle.std.proofs.lemmas.Bool.{ltb-true, and_parts}
+use Rattle.std.specs.Prelude.{nat_lt}
 use Rattle.lisp_reading.proofs.Forms.{reads_is}
 use Rattle.lisp_reading.proofs.Deciding.{decided_is}
-use Rattle.std.proofs.lemmas.Bool.{ltb-true, ltb-false}
-use Rattle.std.specs.Prelude.{nat_lt, ◌&&◌, not}
 use Rattle.readtable_core.specs.declared.characters.Syntax.{Syntax}
 use Rattle.readtable_core.specs.declared.characters.Syntax.TheVariants.{Whitespace, Constituent, TerminatingMacro, NonTerminatingMacro, SingleEscape, MultipleEscape, Invalid}
 use Rattle.readtable_core.specs.Tables.{entry_at}
 use Rattle.form_reader.specs.declared.state.State.{State}
-use Rattle.form_reader.specs.declared.step.in_place.InPlace.{InPlace}
 use Rattle.form_reader.proofs.Objects.{attempts, alone_by}
 use Rattle.form_reader.specs.declared.step.Change.TheVariants.{Goes, Form, Refused}
 use Rattle.form_reader.specs.State.{state_gives}
@@ -45,13 +44,6 @@ pub nothing_turns : (setting : Setting) (start at : ℕ) (cs : List ℕ) (found 
     → verdict_of setting start (Ok (found, at, cs)) ≡ verdict_of setting (start + at) (state_gives setting [] AtObject 0 cs)
 nothing_turns setting start at cs found token e =
     ap (λ (f : Found). verdict_of setting start (Ok (f, at, cs))) e ∙ (λ i. (reads_is setting (start + at) cs i, decided_is setting (start + at) cs i))
-
--- where no call is open
-pub none_turns : (setting : Setting) (stack : List Frame) (start at : ℕ) (cs : List ℕ) (read : Read Found) → stack ≡ [] → read ≡ Ok (nothing false, at, cs)
-    → verdict_of setting start read ≡ verdict_of setting (start + at) (state_gives setting stack AtObject 0 cs)
-none_turns setting stack start at cs read none is =
-    ap (verdict_of setting start) is ∙ nothing_turns setting start at cs (nothing false) false refl
-    ∙ ap (λ (fs : List Frame). verdict_of setting (start + at) (state_gives setting fs AtObject 0 cs)) (sym none)
 
 -- ---- the open calls are within the nesting
 
@@ -75,7 +67,7 @@ pub nothing_before : (setting : Setting) (start at c : ℕ) (cs : List ℕ) (fou
 nothing_before setting start at c cs found token after result e turns =
     subst (λ (v : Outcome × ℕ). IfOk result (λ change. ChangesTo setting after cs change v)) (sym (nothing_turns setting start at (c ∷ cs) found token e)) turns
 
-pub blank_is : (s : Syntax) → is_blank s ≡ true → s ≡ Whitespace
+blank_is : (s : Syntax) → is_blank s ≡ true → s ≡ Whitespace
 blank_is Whitespace e = refl
 blank_is Constituent e = cc
 blank_is TerminatingMacro e = cc
@@ -84,85 +76,29 @@ blank_is SingleEscape e = cc
 blank_is MultipleEscape e = cc
 blank_is Invalid e = cc
 
-never_and : (a b : Bool) → b ≡ false → (a && b) ≡ false
-never_and true b e = e
-never_and false b e = refl
-
-alone_blank : (s : Syntax) → stands_alone s ≡ false → is_blank s ≡ false
-alone_blank Whitespace e = cc
-alone_blank Constituent e = refl
-alone_blank TerminatingMacro e = refl
-alone_blank NonTerminatingMacro e = refl
-alone_blank SingleEscape e = refl
-alone_blank MultipleEscape e = refl
-alone_blank Invalid e = refl
-
-module _ (setting : Setting) (stack : List Frame) (at c : ℕ) where
-  -- it is over the limit
-  pub no_space_over : setting.limits.text ≤ at → is_space setting stack AtObject at c ≡ false
-  no_space_over le = by (nat_lt at setting.limits.text) refl
-    where
-      by : (b : Bool) → nat_lt at setting.limits.text ≡ b → (b && (is_whitespace setting.table c && not (is_closed_by (close_of_stack stack) c))) ≡ false
-      by true e = absurd (omega (arith, le, ltb-true at setting.limits.text e))
-      by false e = refl
-
-  -- it is the closing character
-  pub no_space_closed : (closed : Bool) → closed ≡ is_closed_by (close_of_stack stack) c → closed ≡ true → is_space setting stack AtObject at c ≡ false
-  no_space_closed closed is e =
-      never_and (nat_lt at setting.limits.text) _ (never_and (is_whitespace setting.table c) _ (ap not (sym is ∙ e)))
-
-  -- it begins a token
-  pub no_space_token : stands_alone (entry_at setting.table c).syntax ≡ false → is_space setting stack AtObject at c ≡ false
-  no_space_token e =
-      never_and (nat_lt at setting.limits.text) _
-      (ap (λ (b : Bool). b && not (is_closed_by (close_of_stack stack) c)) (alone_blank (entry_at setting.table c).syntax e))
-
-  pub space_is : (closed blank : Bool) → at < setting.limits.text → closed ≡ is_closed_by (close_of_stack stack) c → closed ≡ false → blank ≡ is_whitespace setting.table c
-      → blank ≡ is_space setting stack AtObject at c
-  space_is closed blank lt is e same = by (nat_lt at setting.limits.text) refl ∙ sym whole
-    where
-      plain : (b : Bool) → (b && true) ≡ b
-      plain true = refl
-      plain false = refl
-
-      by : (b : Bool) → nat_lt at setting.limits.text ≡ b → blank ≡ (b && (is_whitespace setting.table c && true))
-      by true f = same ∙ sym (plain (is_whitespace setting.table c))
-      by false f = absurd (omega (arith, lt, ltb-false at setting.limits.text f))
-
-      whole : is_space setting stack AtObject at c ≡ (nat_lt at setting.limits.text && (is_whitespace setting.table c && true))
-      whole = ap (λ (b : Bool). nat_lt at setting.limits.text && (is_whitespace setting.table c && not b)) (sym is ∙ e)
-
--- with nothing open, the attempt comes to nothing with it
-passes_none : (setting : Setting) (at c : ℕ) (cs : List ℕ) → at < setting.limits.text → (entry_at setting.table c).syntax ≡ Whitespace
-    → state_gives setting [] AtObject at (c ∷ cs) ≡ Ok (nothing false, at + 1, cs)
-unfolding run outer_plan
-passes_none setting at c cs lt e =
-    attempts setting at c cs [] (omega (arith, lt)) (λ close is. cc) ∙ alone_by setting at c cs [] Whitespace (omega arith) lt (ap stands_alone e) e
-
-pub blank_passes : (setting : Setting) (stack : List Frame) (at c : ℕ) (cs : List ℕ) → at < setting.limits.text → stack ≡ [] → (entry_at setting.table c).syntax ≡ Whitespace
-    → state_gives setting stack AtObject at (c ∷ cs) ≡ Ok (nothing false, at + 1, cs)
-blank_passes setting stack at c cs lt none e =
-    subst (λ (fs : List Frame). state_gives setting fs AtObject at (c ∷ cs) ≡ Ok (nothing false, at + 1, cs)) (sym none) (passes_none setting at c cs lt e)
-
 -- no call is open
 pub none_open : (stack : List Frame) → length stack ≡ 0 → stack ≡ []
 none_open [] e = refl
 none_open (f ∷ fs) e = absurd (omega (arith, e))
 
--- where it is known where the reader is
-pub discarded_there : (setting : Setting) (stack : List Frame) (at c : ℕ) (cs : List ℕ) (state : State) (fed : InPlace) → state ≡ AtObject
-    → FeedsInPlace setting stack at c cs AtObject AtObject fed → FeedsInPlace setting stack at c cs state state fed
-discarded_there setting stack at c cs state fed e h = subst (λ (s : State). FeedsInPlace setting stack at c cs s s fed) (sym e) h
-
 -- ---- a byte with which an attempt begins
+
+space_parts : (setting : Setting) (c : ℕ) → is_space setting c ≡ true → (0 < setting.limits.text) × ((entry_at setting.table c).syntax ≡ Whitespace)
+space_parts setting c e =
+    let parts = and_parts (nat_lt 0 setting.limits.text) (is_whitespace setting.table c) e in
+    (ltb-true 0 setting.limits.text parts.0, blank_is (entry_at setting.table c).syntax parts.1)
 
 module _ (setting : Setting) (start c : ℕ) (stack : List Frame) (none : stack ≡ []) where
   -- it is discarded
-  pub discarded_turns : (cs : List ℕ) → state_gives setting stack AtObject 0 (c ∷ cs) ≡ Ok (nothing false, 1, cs)
+  pub discarded_turns : (cs : List ℕ) → is_space setting c ≡ true
       → verdict_of setting start (state_gives setting [] AtObject 0 (c ∷ cs)) ≡ verdict_of setting (start + 1) (state_gives setting stack AtObject 0 cs)
-  discarded_turns cs passes =
-      ap (λ (fs : List Frame). verdict_of setting start (state_gives setting fs AtObject 0 (c ∷ cs))) (sym none)
-      ∙ none_turns setting stack start 1 cs (state_gives setting stack AtObject 0 (c ∷ cs)) none passes
+  unfolding run outer_plan
+  discarded_turns cs space =
+      let parts = space_parts setting c space in
+      let passes : state_gives setting [] AtObject 0 (c ∷ cs) ≡ Ok (nothing false, 1, cs) =
+      attempts setting 0 c cs [] (omega arith) (λ close is. cc) ∙ alone_by setting 0 c cs [] Whitespace (omega arith) parts.0 (ap stands_alone parts.1) parts.1 in
+      ap (verdict_of setting start) passes ∙ nothing_turns setting start 1 cs (nothing false) false refl
+      ∙ ap (λ (fs : List Frame). verdict_of setting (start + 1) (state_gives setting fs AtObject 0 cs)) (sym none)
 
   pub first_turns : (after : List Frame) (cs : List ℕ) (result : Result Change AllocError)
       → IfOk result (λ change. ChangesTo setting after cs change (verdict_of setting start (state_gives setting stack AtObject 0 (c ∷ cs))))
@@ -171,14 +107,12 @@ module _ (setting : Setting) (start c : ℕ) (stack : List Frame) (none : stack 
       subst (λ (v : Outcome × ℕ). IfOk result (λ change. ChangesTo setting after cs change v))
       (ap (λ (fs : List Frame). verdict_of setting start (state_gives setting fs AtObject 0 (c ∷ cs))) none) turns
 
-  pub first_starts : (result : Result Change AllocError) (space : Bool) → space ≡ is_space setting stack AtObject 0 c → space ≡ false → IfOk result (StartsAt start)
-      → IfOk result (StartsWith setting start c)
-  first_starts (Ok (Goes next count there)) space is other (inl same) =
-      inr (same, ap (λ (fs : List Frame). is_space setting fs AtObject 0 c) (sym none) ∙ sym is ∙ other)
-  first_starts (Ok (Goes next count there)) space is other (inr here) = inl here
-  first_starts (Ok (Form x from «end» next)) space is other h = tt
-  first_starts (Ok (Refused from number offset)) space is other h = (h, ap (λ (fs : List Frame). is_space setting fs AtObject 0 c) (sym none) ∙ sym is ∙ other)
-  first_starts (Err e) space is other h = tt
+  pub first_starts : (result : Result Change AllocError) → is_space setting c ≡ false → IfOk result (StartsAt start) → IfOk result (StartsWith setting start c)
+  first_starts (Ok (Goes next count there)) other (inl same) = inr (same, other)
+  first_starts (Ok (Goes next count there)) other (inr here) = inl here
+  first_starts (Ok (Form x from «end» next)) other h = tt
+  first_starts (Ok (Refused from number offset)) other h = (h, other)
+  first_starts (Err e) other h = tt
 
 -- ---- a byte of an attempt
 
@@ -191,6 +125,22 @@ module _ (setting : Setting) (stack : List Frame) (state : State) (start at c : 
   kept_starts (Ok (Refused from number offset)) h = inl h
   kept_starts (Err e) h = tt
 
+  -- it is the first of it
+  pub with_starts : (result : Result Change AllocError) → IfOk result (StartsWith setting start c) → IfOk result (Starts setting stack state start at c)
+  with_starts (Ok (Goes next count there)) (inl none) = inr (inl none)
+  with_starts (Ok (Goes next count there)) (inr here) = inl here.0
+  with_starts (Ok (Form x from «end» next)) h = tt
+  with_starts (Ok (Refused from number offset)) h = inl h.0
+  with_starts (Err e) h = tt
+
+  -- where nothing is open
+  pub with_turns : (after : List Frame) (cs : List ℕ) (result : Result Change AllocError) → stack ≡ [] → state ≡ AtObject → at ≡ 0
+      → IfOk result (λ change. ChangesTo setting after cs change (verdict_of setting start (state_gives setting [] AtObject 0 (c ∷ cs))))
+      → IfOk result (λ change. ChangesTo setting after cs change (verdict_of setting start (state_gives setting stack state at (c ∷ cs))))
+  with_turns after cs result none there first turns =
+      subst (λ (v : Outcome × ℕ). IfOk result (λ change. ChangesTo setting after cs change v))
+      (λ i. verdict_of setting start (state_gives setting (sym none i) (sym there i) (sym first i) (c ∷ cs))) turns
+
   -- the attempt ended before it
   pub done_starts : (after : List Frame) (passed : Passed) (found : Found) (result : Result Change AllocError) → passed ≡ PassedDone found
       → ((cs : List ℕ) → Passes setting after at c cs passed (state_gives setting stack state at (c ∷ cs)))
@@ -200,7 +150,7 @@ module _ (setting : Setting) (stack : List Frame) (state : State) (start at c : 
       told : (cs : List ℕ) → Passes setting after at c cs (PassedDone found) (state_gives setting stack state at (c ∷ cs))
       told = λ cs. subst (λ (p : Passed). Passes setting after at c cs p (state_gives setting stack state at (c ∷ cs))) is (passes cs)
 
-      before : (token : Bool) → found ≡ nothing token → is_space setting [] AtObject 0 c ≡ false → EndsBefore setting stack state at c
+      before : (token : Bool) → found ≡ nothing token → is_space setting c ≡ false → EndsBefore setting stack state at c
       before token e other = record { token = token; found = λ cs. (told cs).0 ∙ ap (λ (f : Found). Ok (f, at, c ∷ cs)) e; other = other }
 
       by : (result : Result Change AllocError) → IfOk result (StartsAfter setting found start at c) → IfOk result (Starts setting stack state start at c)
@@ -210,6 +160,13 @@ module _ (setting : Setting) (stack : List Frame) (state : State) (start at c : 
       by (Ok (Refused from number offset)) (inl same) = inl same
       by (Ok (Refused from number offset)) (inr here) = inr (here.0, before here.2.0 here.2.1 here.1)
       by (Err e) h = tt
+
+-- of an attempt that has no byte
+pub with_ready : (limits : Limits) (stack : List Frame) (start at : ℕ) (result : Result Change AllocError) → at ≡ 0 → IfOk result (IsReadyChange limits stack (start + 1))
+    → IfOk result (IsReadyChange limits stack (start + at + 1))
+with_ready limits stack start at result first ready =
+    let same : start + 1 ≡ start + at + 1 = omega (arith, first) in
+    subst (λ (n : ℕ). IfOk result (IsReadyChange limits stack n)) same ready
 
 -- what came to nothing was before the byte with which an attempt begins
 pub nothing_starts : (setting : Setting) (found : Found) (token : Bool) (start at c : ℕ) (result : Result Change AllocError) → found ≡ nothing token

@@ -283,9 +283,9 @@ module _ (setting : Setting) where
     state_last (AtCallToken call scan) h =
         token_last (λ marks. completed setting (length stack) call true false (marked marks)) scan.stage scan.marks scan.left
         (λ marks. completed_at_end setting (length stack) call true false (marked marks)) h
-    state_last (AtText call terminator text) h =
-        never (text_to setting terminator text) _ (loop_at_end Never setting.limits (text_turn setting.table terminator) text (λ more. next_byte_at_end Never _))
-    state_last (AtEscaped call terminator text) h = never (next_byte (λ d. text_to setting terminator (text ++ d ∷ []))) _ (next_byte_at_end Never _)
+    state_last (AtText held) h =
+        never (text_to setting held.terminator held.text) _ (loop_at_end Never setting.limits (text_turn setting.table held.terminator) held.text (λ more. next_byte_at_end Never _))
+    state_last (AtEscaped held) h = never (next_byte (λ d. text_to setting held.terminator (held.text ++ d ∷ []))) _ (next_byte_at_end Never _)
     state_last (AtLine call text) h =
         last (then_plan (line_after setting (keep_of call.function) text) (λ cs. completed setting (length stack) call false false (letters cs)))
         (then_at_end Whatever Whatever (line_after setting (keep_of call.function) text) (λ cs. completed setting (length stack) call false false (letters cs))

@@ -36,12 +36,12 @@ state_gives setting stack (AtToken scan) at cs =
 state_gives setting stack (AtCallToken call scan) at cs =
     token_goes_on setting stack (λ marks. completed setting (length stack) call true false (marked marks))
     (token_read setting.table setting.limits scan at cs)
-state_gives setting stack (AtText call terminator text) at cs =
-    plan_gives setting stack (then_plan (text_to setting terminator text)
-    (λ cs. completed setting (length stack) call false false (letters cs))) at cs
-state_gives setting stack (AtEscaped call terminator text) at cs =
-    plan_gives setting stack (then_plan (next_byte (λ d. text_to setting terminator (text ++ d ∷ [])))
-    (λ cs. completed setting (length stack) call false false (letters cs))) at cs
+state_gives setting stack (AtText held) at cs =
+    plan_gives setting stack (then_plan (text_to setting held.terminator held.text)
+    (λ cs. completed setting (length stack) held.call false false (letters cs))) at cs
+state_gives setting stack (AtEscaped held) at cs =
+    plan_gives setting stack (then_plan (next_byte (λ d. text_to setting held.terminator (held.text ++ d ∷ [])))
+    (λ cs. completed setting (length stack) held.call false false (letters cs))) at cs
 state_gives setting stack (AtLine call text) at cs =
     plan_gives setting stack (then_plan (line_after setting (keep_of call.function) text)
     (λ cs. completed setting (length stack) call false false (letters cs))) at cs

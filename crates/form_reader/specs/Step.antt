@@ -1,10 +1,10 @@
 -- What one byte is to a reader, wherever it is in a form: by the outcome of the whole text.
-use Rattle.std.specs.Prelude.{ℕ, ◌≡◌, ◌+◌, ◌≤◌, List, [], length, Ok, ◌∷◌, ◌<◌, ◌&&◌, nat_lt, not, Bool, false, IsTrue, ◌⊎◌}
+use Rattle.std.specs.Prelude.{ℕ, ◌≡◌, ◌+◌, ◌≤◌, List, [], length, Ok, ◌∷◌, ◌<◌, ◌&&◌, nat_lt, Bool, false, ◌⊎◌}
 use Rattle.lisp_reading.specs.declared.found.Found.{Found}
 use Rattle.form_reader.specs.declared.stack.Frame.{Frame}
 use Rattle.lisp_reading.specs.declared.limits.Limits.{Limits}
 use Rattle.form_reader.specs.declared.state.State.{State}
-use Rattle.form_reader.specs.declared.state.State.TheVariants.{Object as AtObject, Token as AtToken}
+use Rattle.form_reader.specs.declared.state.State.TheVariants.{Object as AtObject}
 use Rattle.form_reader.specs.declared.state.Event.{Event}
 use Rattle.form_reader.specs.declared.state.Event.TheVariants.{Open as IsAt, Gives as IsGiven, Refused as IsRefused}
 use Rattle.form_reader.specs.declared.step.Change.{Change}
@@ -16,11 +16,6 @@ use Rattle.lisp_reading.specs.Reading.{Outcome, form, refused, outcome, reads_at
 use Rattle.form_reader.specs.State.{IsStateAt, state_gives, lookahead, Brings, IsReady}
 use Rattle.form_reader.specs.declared.step.object.Passed.{Passed}
 use Rattle.form_reader.specs.declared.step.object.Passed.TheVariants.{Brings as PassedBrings, Done as PassedDone}
-use Rattle.form_reader.specs.declared.step.in_place.InPlace.{InPlace}
-use Rattle.form_reader.specs.declared.step.in_place.InPlace.TheVariants.{GoesOn, Passed as PassedOver, Left, Refused as RefusedInPlace}
-use Rattle.token_scan.specs.Scans.{Scan}
-use Rattle.form_reader.specs.Stack.{close_of_stack, is_closed_by}
-use Rattle.form_reader.specs.Token.{is_going}
 use Rattle.lisp_reading.specs.declared.found.Found.TheVariants.{Nothing as nothing}
 
 -- What is read of the whole text, where the attempt that began at start comes to this; after discarded text a new one begins.
@@ -90,39 +85,9 @@ abbrev pub IsReadyPass : Limits → ℕ → Passed → Type 0
 IsReadyPass limits at (PassedBrings event) = IsReady limits (at + 1) event
 IsReadyPass limits at (PassedDone found) = lookahead found ≤ 1
 
--- the byte at this offset is taken, and what is given is what the new state gives after it; or it is passed over, and the attempt
--- comes to nothing with it; or nothing has changed; or the byte is refused where it is
-abbrev pub FeedsInPlace : Setting → List Frame → ℕ → ℕ → List ℕ → State → State → InPlace → Type 0
-FeedsInPlace setting stack at c cs old new GoesOn = state_gives setting stack old at (c ∷ cs) ≡ state_gives setting stack new (at + 1) cs
-FeedsInPlace setting stack at c cs old new PassedOver = state_gives setting stack old at (c ∷ cs) ≡ Ok (nothing false, at + 1, cs)
-FeedsInPlace setting stack at c cs old new Left = new ≡ old
-FeedsInPlace setting stack at c cs old new (RefusedInPlace number) = state_gives setting stack old at (c ∷ cs) ≡ fault number at
-
--- The byte at this offset is whitespace that is discarded where an object may begin: it is below the limit of the text, and not
--- the closing character that is looked for.
-abbrev pub is_space : Setting → List Frame → State → ℕ → ℕ → Bool
-is_space setting stack AtObject at c =
-    nat_lt at setting.limits.text && (is_whitespace setting.table c && not (is_closed_by (close_of_stack stack) c))
-is_space setting stack _ at c = false
-
--- a token begins at the byte at this offset, where an object may begin
-abbrev pub BeginsToken : Setting → List Frame → ℕ → ℕ → List ℕ → Scan → Type 0
-BeginsToken setting stack at c cs scan = state_gives setting stack AtObject at (c ∷ cs) ≡ state_gives setting stack (AtToken scan) (at + 1) cs
-
--- such a token goes on after the byte at this offset, which is below the limit of the text
-abbrev pub IsBegunAt : Limits → ℕ → Scan → Type 0
-IsBegunAt limits at scan = (at < limits.text) × IsTrue (is_going scan.stage)
-
--- the byte at this offset is discarded, where an object may begin
-abbrev pub Stays : Setting → List Frame → ℕ → ℕ → List ℕ → Type 0
-Stays setting stack at c cs = state_gives setting stack AtObject at (c ∷ cs) ≡ state_gives setting stack AtObject (at + 1) cs
-
--- where the reader may be after it
-abbrev pub IsReadyInPlace : Limits → ℕ → State → InPlace → Type 0
-IsReadyInPlace limits at new GoesOn = (at < limits.text) × IsStateAt (at + 1) new
-IsReadyInPlace limits at new PassedOver = IsStateAt 0 new
-IsReadyInPlace limits at new Left = Unit {0}
-IsReadyInPlace limits at new (RefusedInPlace number) = Unit {0}
+-- The byte is whitespace that is discarded where nothing is open.
+abbrev pub is_space : Setting → ℕ → Bool
+is_space setting c = nat_lt 0 setting.limits.text && is_whitespace setting.table c
 
 -- at this offset, or nothing is open
 abbrev pub StartsAt : ℕ → Change → Type 0
@@ -132,24 +97,24 @@ StartsAt from (Refused start number offset) = start ≡ from
 
 -- at this byte, which is at this offset and is not discarded there; or nothing is open
 abbrev pub StartsWith : Setting → ℕ → ℕ → Change → Type 0
-StartsWith setting from c (Goes start at state) = (at ≡ 0) ⊎ ((start ≡ from) × (is_space setting [] AtObject 0 c ≡ false))
+StartsWith setting from c (Goes start at state) = (at ≡ 0) ⊎ ((start ≡ from) × (is_space setting c ≡ false))
 StartsWith setting from c (Form x start «end» next) = Unit {0}
-StartsWith setting from c (Refused start number offset) = (start ≡ from) × (is_space setting [] AtObject 0 c ≡ false)
+StartsWith setting from c (Refused start number offset) = (start ≡ from) × (is_space setting c ≡ false)
 
 -- the same where this was found before it, so many bytes after an attempt began at start: that attempt came to nothing; or what is
 -- refused is that attempt
 abbrev pub StartsAfter : Setting → Found → ℕ → ℕ → ℕ → Change → Type 0
 StartsAfter setting found start at c (Goes from count state) =
-    (count ≡ 0) ⊎ ((from ≡ start + at) × (is_space setting [] AtObject 0 c ≡ false) × ((token : Bool) × (found ≡ nothing token)))
+    (count ≡ 0) ⊎ ((from ≡ start + at) × (is_space setting c ≡ false) × ((token : Bool) × (found ≡ nothing token)))
 StartsAfter setting found start at c (Form x from «end» next) = Unit {0}
 StartsAfter setting found start at c (Refused from number offset) =
-    (from ≡ start) ⊎ ((from ≡ start + at) × (is_space setting [] AtObject 0 c ≡ false) × ((token : Bool) × (found ≡ nothing token)))
+    (from ≡ start) ⊎ ((from ≡ start + at) × (is_space setting c ≡ false) × ((token : Bool) × (found ≡ nothing token)))
 
 -- An attempt that has so many bytes comes to nothing before this byte, which is not discarded where an attempt begins.
 pub record EndsBefore (setting : Setting) (stack : List Frame) (state : State) (at c : ℕ) : Type 0 where
   pub token : Bool
   pub found : (cs : List ℕ) → state_gives setting stack state at (c ∷ cs) ≡ Ok (nothing token, at, c ∷ cs)
-  pub other : is_space setting [] AtObject 0 c ≡ false
+  pub other : is_space setting c ≡ false
 
 -- where the attempt began in which this byte is taken; or nothing is open; or at this byte, before which that attempt ended
 abbrev pub Starts : Setting → List Frame → State → ℕ → ℕ → ℕ → Change → Type 0

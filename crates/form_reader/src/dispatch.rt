@@ -8,13 +8,13 @@ ghost use Rattle.form_reader.specs.Stack.{plan_gives};
 ghost use Rattle.form_reader.specs.State.{inner_at, Brings, state_gives, IsReady};
 ghost use Rattle.form_reader.specs.declared.stack.Frame.{Frame};
 ghost use Rattle.form_reader.specs.declared.state.State.TheVariants.{Number as AtNumber};
-ghost use Rattle.form_reader.specs.Dispatch.{Begins, Gathers, reads_objects};
+ghost use Rattle.form_reader.specs.Dispatch.{Begins, Gathers, has_no_object, way_of_part};
 
 use crate::call::end_call;
 use crate::context::Context;
 use crate::gather::{LineByte, number_byte};
 use crate::stack::{Frame, Part, Stack};
-use crate::state::{Event, State};
+use crate::state::{Event, OpenText, State};
 use lisp_object::refusal::{
     FORM_TOO_LONG, INVALID_CHARACTER, NO_DISPATCH, OUT_OF_PROFILE, TOO_DEEP,
 };
@@ -144,7 +144,7 @@ pub(crate) fn begin_call<R: MacroFunctions>(
 }
 
 /// Begins to gather in this way.
-#[tactic(auto, using(crate::proofs::Dispatches::next_opens, crate::proofs::Dispatches::list_opens, crate::proofs::Dispatches::until_opens, crate::proofs::Dispatches::next_deep, crate::proofs::Dispatches::list_deep, crate::proofs::Dispatches::until_deep, crate::proofs::Dispatches::token_begins, crate::proofs::Dispatches::escaped_begins, crate::proofs::Calls::all_ready))]
+#[tactic(auto, using(crate::proofs::Dispatches::token_begins, crate::proofs::Dispatches::escaped_begins, crate::proofs::Calls::all_ready))]
 #[inline(always)]
 fn gather<R: MacroFunctions>(
     with: &Context<'_, R>,
@@ -165,12 +165,25 @@ fn gather<R: MacroFunctions>(
 {
     match way {
         Way::Nothing => end_call(with, stack.len(), &call, false, StdGathered::Nothing, at),
-        Way::Next => gather_objects(with, stack, call, way, at),
-        Way::List => gather_objects(with, stack, call, way, at),
-        Way::Until(_) => gather_objects(with, stack, call, way, at),
-        Way::Text(close) => {
+        Way::Next => {
+            let part = Part::Next;
+            open_call(with, stack, Frame { call, part }, at)
+        }
+        Way::List => {
+            let part = Part::List(HeldObjects::new(with.alloc));
+            open_call(with, stack, Frame { call, part }, at)
+        }
+        Way::Until(close) => {
+            let part = Part::Until(close, HeldObjects::new(with.alloc));
+            open_call(with, stack, Frame { call, part }, at)
+        }
+        Way::Text(terminator) => {
             let text = HeldText::new(with.alloc);
-            Ok(Event::Open(State::Text(call, close, text)))
+            Ok(Event::Open(State::Text(OpenText {
+                call,
+                terminator,
+                text,
+            })))
         }
         Way::Line(_) => {
             let text = HeldText::new(with.alloc);
@@ -188,53 +201,27 @@ fn gather<R: MacroFunctions>(
     }
 }
 
-/// Begins to gather in a way that reads objects, unless as many calls are open as may be.
-#[tactic(auto, using(crate::proofs::Dispatches::next_opens, crate::proofs::Dispatches::list_opens, crate::proofs::Dispatches::until_opens, crate::proofs::Dispatches::next_deep, crate::proofs::Dispatches::list_deep, crate::proofs::Dispatches::until_deep))]
+/// Opens a call that reads objects and has none yet, unless as many calls are open as may be.
 #[inline(always)]
-fn gather_objects<R: MacroFunctions>(
+fn open_call<R: MacroFunctions>(
     with: &Context<'_, R>,
     stack: &mut Stack,
-    call: Invoked,
-    way: Way,
+    frame: Frame,
     at: usize,
 ) -> Result<Event, AllocError>
-    requires objects { reads_objects way ≡ true }
+    requires none { has_no_object frame.part ≡ true }
     requires within { at ≤ with.now.limits.text }
     requires nesting { length stack.old ≤ with.now.limits.nesting }
     ensures gathers { let setting = setting R.functions with.now in
-        (cs : List ℕ) → IfOk result (λ event. Gathers setting stack.new stack.old call way at cs event) }
+        (cs : List ℕ) → IfOk result (λ event. Gathers setting stack.new stack.old frame.call (way_of_part frame.part) at cs event) }
     ensures ready { IfOk result (IsReady with.now.limits at) }
     ensures nesting { IfOk result (λ _. length stack.new ≤ with.now.limits.nesting) }
 {
-    let deep = stack.len() >= with.limits.nesting as usize;
-    match way {
-        Way::Next => {
-            if deep {
-                return Ok(Event::Refused(TOO_DEEP, at.saturating_sub(1)));
-            }
-            let part = Part::Next;
-            stack.push(Frame { call, part })?;
-            Ok(Event::Open(State::Object))
-        }
-        Way::List => {
-            if deep {
-                return Ok(Event::Refused(TOO_DEEP, at.saturating_sub(1)));
-            }
-            let part = Part::List(HeldObjects::new(with.alloc));
-            stack.push(Frame { call, part })?;
-            Ok(Event::Open(State::Object))
-        }
-        Way::Until(close) => {
-            if deep {
-                return Ok(Event::Refused(TOO_DEEP, at.saturating_sub(1)));
-            }
-            let part = Part::Until(close, HeldObjects::new(with.alloc));
-            stack.push(Frame { call, part })?;
-            Ok(Event::Open(State::Object))
-        }
-        Way::Nothing | Way::Text(_) | Way::Line(_) | Way::Block | Way::Token | Way::EscapedToken =>
-            { unreachable!() }
+    if stack.len() >= with.limits.nesting as usize {
+        return Ok(Event::Refused(TOO_DEEP, at.saturating_sub(1)));
     }
+    stack.push(frame)?;
+    Ok(Event::Open(State::Object))
 }
 
 /// The way in which the function of a call gathers.

@@ -13,7 +13,7 @@ ghost use Rattle.form_reader.specs.State.{Brings, state_gives, IsReady};
 
 use crate::call::end_call;
 use crate::context::Context;
-use crate::state::{Event, State};
+use crate::state::{Event, OpenText, State};
 use lisp_object::refusal::{FORM_TOO_LONG, INVALID_CHARACTER, NUMERIC_ARGUMENT};
 use lisp_reading::{HeldNumber, HeldText, Invoked, Keep, Limits};
 use readtable_core::{Readtable, Syntax};
@@ -224,9 +224,7 @@ pub(crate) fn number_byte(
 pub(crate) fn in_text<R: MacroFunctions>(
     with: &Context<'_, R>,
     depth: usize,
-    call: Invoked,
-    terminator: u8,
-    mut text: HeldText,
+    mut held: OpenText,
     at: usize,
     c: u8,
 ) -> Result<Event, AllocError>
@@ -236,13 +234,21 @@ pub(crate) fn in_text<R: MacroFunctions>(
     ensures brings { let setting = setting R.functions with.now in
         (stack : List Frame) (cs : List ℕ) → depth ≡ length stack
         → IfOk result (λ event. Brings setting stack (at + 1) cs event
-        (state_gives setting stack (AtText call terminator text) at (c ∷ cs))) }
+        (state_gives setting stack (AtText held) at (c ∷ cs))) }
     ensures ready { IfOk result (IsReady with.now.limits (at + 1)) }
 {
-    match text_byte(with.readtable, &with.limits, terminator, &mut text, at, c)? {
-        TextByte::More => Ok(Event::Open(State::Text(call, terminator, text))),
-        TextByte::Escape => Ok(Event::Open(State::Escaped(call, terminator, text))),
+    match text_byte(
+        with.readtable,
+        &with.limits,
+        held.terminator,
+        &mut held.text,
+        at,
+        c,
+    )? {
+        TextByte::More => Ok(Event::Open(State::Text(held))),
+        TextByte::Escape => Ok(Event::Open(State::Escaped(held))),
         TextByte::Ended => {
+            let OpenText { call, text, .. } = held;
             let gathered = StdGathered::Text(text.into_bytes());
             end_call(with, depth, &call, false, gathered, at + 1)
         }
@@ -254,20 +260,25 @@ pub(crate) fn in_text<R: MacroFunctions>(
 pub(crate) fn in_escaped<R: MacroFunctions>(
     with: &Context<'_, R>,
     depth: usize,
-    call: Invoked,
-    terminator: u8,
-    mut text: HeldText,
+    mut held: OpenText,
     at: usize,
     c: u8,
 ) -> Result<Event, AllocError>
     ensures brings { let setting = setting R.functions with.now in
         (stack : List Frame) (cs : List ℕ) → depth ≡ length stack
         → IfOk result (λ event. Brings setting stack (at + 1) cs event
-        (state_gives setting stack (AtEscaped call terminator text) at (c ∷ cs))) }
+        (state_gives setting stack (AtEscaped held) at (c ∷ cs))) }
     ensures ready { IfOk result (IsReady with.now.limits (at + 1)) }
 {
-    match escaped_byte(with.readtable, &with.limits, terminator, &mut text, at, c)? {
-        None => Ok(Event::Open(State::Text(call, terminator, text))),
+    match escaped_byte(
+        with.readtable,
+        &with.limits,
+        held.terminator,
+        &mut held.text,
+        at,
+        c,
+    )? {
+        None => Ok(Event::Open(State::Text(held))),
         Some(code) => Ok(Event::Refused(code, at)),
     }
 }

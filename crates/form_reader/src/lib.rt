@@ -13,8 +13,7 @@
 //! - `reader`: `FormReader`, `Advance`, `ReadOutcome`; `reader/feed`: bytes at once; `reader/whole`: `read_one`, which asks
 //!   `plain_reader` first
 //! - `context`: what reading is handed; `state`: where a reader is in the innermost call; `stack`: open calls
-//! - `step`: one byte, wherever a reader is in a form; `step/in_place`: one that goes on what is gathered, where it is gathered;
-//!   `step/object`: one where an object may begin
+//! - `step`: one byte, wherever a reader is in a form; `step/object`: one where an object may begin
 //! - `token`: one byte of a token, and what it comes to; `gather`: one of a text, a line, a block or a number
 //! - `dispatch`: macro characters and sub-characters, and how a call begins; `call`: what a call gives where it ends;
 //!   `call/answer`: which data may be answered; `call/same`: whether a datum is like the one before it

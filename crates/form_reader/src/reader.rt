@@ -1,13 +1,11 @@
 //! A reader that takes a text one byte at a time.
-ghost use Rattle.std.specs.Prelude.{◌≡◌, IsTrue};
+ghost use Rattle.std.specs.Prelude.{IsTrue};
 ghost use Rattle.form_reader.specs.State.{is_standing};
-ghost use Rattle.form_reader.specs.declared.reader.ReaderState.TheVariants.{Refused, OutOfMemory};
 
 use crate::context::Context;
 use crate::end_of_text::last_outcome;
 use crate::stack::Stack;
 use crate::state::State;
-use crate::step::in_place::{InPlace, in_place};
 use crate::step::{Change, take_byte};
 use lisp_object::Datum;
 use lisp_reading::Limits;
@@ -68,13 +66,12 @@ impl FormReader {
     ghost use Rattle.std.specs.Prelude.{◌≡◌, ◌<◌, ◌≤◌, ◌+◌, ◌^◌, ℕ, true, false, List, [], ◌∷◌, ◌++◌, Ok, IfOk, IsErr, OnErr};
     ghost use Rattle.package_table.specs.Table.{IsPackage};
     ghost use Rattle.lisp_reading.specs.Setting.{Setting, setting_of};
-    ghost use Rattle.form_reader.specs.Context.{setting};
     ghost use Rattle.lisp_object.specs.Object.{Object};
     ghost use Rattle.lisp_reading.specs.Reading.{form, is_whitespace, reads};
     ghost use Rattle.form_reader.specs.declared.reader.Advance.TheVariants.{More as AdvanceMore, Refused as AdvanceRefused};
     ghost use Rattle.form_reader.specs.declared.reader.ReadOutcome.TheVariants.{Empty as ReadEmpty, Refused as ReadRefused};
     ghost use Rattle.form_reader.specs.Step.{BeginsFrom, IsReadyChange};
-    ghost use Rattle.form_reader.specs.Reader.{limits_of, fed, begun, HasRefused, HasNoMemory, IsNew, IsBetween, LeavesBetween, IsAfter, IsOpen, Steps, Counts, BeginsLater, HasBegun, StepsBegun, RefusesFrom, IsSoundStep, Becomes, IsOutcome};
+    ghost use Rattle.form_reader.specs.Reader.{limits_of, fed, begun, HasRefused, HasNoMemory, IsNew, IsBetween, LeavesBetween, IsAfter, Steps, Counts, BeginsLater, HasBegun, StepsBegun, RefusesFrom, IsSoundStep, Becomes, IsOutcome};
 
     /// A reader that was fed nothing, between forms. It keeps `alloc` for what it gathers.
     pub fn new(alloc: Global, limits: Limits) -> FormReader
@@ -170,73 +167,17 @@ impl FormReader {
             current,
             macros,
         };
-        let at = self.at;
-        match &mut self.state {
-            ReaderState::Open(state) => match in_place(&with, &self.stack, state, at, byte) {
-                Ok(InPlace::GoesOn) => {
-                    self.at += 1;
-                    Ok(Advance::More)
-                }
-                Ok(InPlace::Passed) => {
-                    self.start += self.at + 1;
-                    self.at = 0;
-                    Ok(Advance::More)
-                }
-                Ok(InPlace::Left) => self.leave(&with, byte),
-                Ok(InPlace::Refused(code)) => {
-                    let offset = self.start + self.at;
-                    refuse(&mut self.state, code, offset);
-                    Ok(Advance::Refused { code, at: offset })
-                }
-                Err(error) => {
-                    run_out(&mut self.state);
-                    Err(error)
-                }
-            },
-            ReaderState::Refused(code, at) => {
-                let (code, at) = (*code, *at);
-                Ok(Advance::Refused { code, at })
-            }
-            ReaderState::OutOfMemory => Err(AllocError),
-        }
-    }
-
-    /// The byte, where the reader is in a form. Apart from `step`, whose way is short where a byte is taken in its place.
-    #[inline(never)]
-    fn leave<R: MacroFunctions>(
-        &mut self,
-        with: &Context<'_, R>,
-        byte: u8,
-    ) -> Result<Advance, AllocError>
-        requires answers { R.answers with.now.macros.now }
-        requires limits { with.now.limits ≡ limits_of self.old }
-        requires count { fed self.old < 2 ^ 63 }
-        requires open { IsOpen self.old }
-        requires other { IsBetween self.old → 0 < with.now.limits.text
-            → is_whitespace with.now.readtable.now byte ≡ false }
-        ensures steps { let setting = setting R.functions with.now in
-            (bytes : List ℕ) → IsAfter setting self.old bytes → IfOk result (Steps setting self.new (bytes ++ byte ∷ [])) }
-        ensures limits { limits_of self.new ≡ limits_of self.old }
-        ensures fed { fed self.new ≤ fed self.old + 1 }
-        ensures counts { IfOk result (Counts self.old self.new) }
-        ensures begun { IfOk result (BeginsLater self.old self.new) }
-        ensures sound { IfOk result IsSoundStep }
-        ensures memory { OnErr result (HasNoMemory self.new) }
-        ensures between_forms { IfOk result (LeavesBetween self.new) }
-        ensures nothing_open { result ≡ Ok AdvanceMore
-            → begun self.new ≡ fed self.new → IsBetween self.new }
-        ensures has_begun { let setting = setting R.functions with.now in
-            (bytes : List ℕ) → IsAfter setting self.old bytes → HasBegun setting self.old bytes
-            → IfOk result (StepsBegun setting self.new (bytes ++ byte ∷ [])) }
-    {
         // Until the byte has come to something: where that fails, the reader answers the same again.
         match mem::replace(&mut self.state, ReaderState::OutOfMemory) {
             ReaderState::Open(state) => {
-                let next = take_byte(with, &mut self.stack, state, self.start, self.at, byte)?;
-                Ok(self.take(next))
+                let change = take_byte(&with, &mut self.stack, state, self.start, self.at, byte)?;
+                Ok(self.take(change))
             }
-            ReaderState::Refused(..) => unreachable!(),
-            ReaderState::OutOfMemory => unreachable!(),
+            ReaderState::Refused(code, at) => {
+                self.state = ReaderState::Refused(code, at);
+                Ok(Advance::Refused { code, at })
+            }
+            ReaderState::OutOfMemory => Err(AllocError),
         }
     }
 
@@ -336,22 +277,6 @@ impl FormReader {
             ReaderState::OutOfMemory => Err(AllocError),
         }
     }
-}
-
-/// The reader refused the text here.
-#[inline(never)]
-fn refuse(state: &mut ReaderState, number: u16, offset: usize)
-    ensures { state.new ≡ Refused number offset }
-{
-    *state = ReaderState::Refused(number, offset);
-}
-
-/// The reader ran out of memory.
-#[inline(never)]
-fn run_out(state: &mut ReaderState)
-    ensures { state.new ≡ OutOfMemory }
-{
-    *state = ReaderState::OutOfMemory;
 }
 
 /// What a text begins with.

@@ -2,7 +2,7 @@
 ghost use Rattle.std.specs.Prelude.{◌≡◌, ◌==◌, Bool, Some, None, true, false, [], ◌∷◌, length, MatchOption, OnOk, IfOk};
 ghost use Rattle.form_reader.specs.declared.stack.Part.TheVariants.{Next as InNext};
 ghost use Rattle.lisp_reading.specs.declared.found.Found.TheVariants.{One as one, LoneDot as lone_dot};
-ghost use Rattle.form_reader.specs.Stack.{close_of, close_of_stack, is_closed_by, IsNoClose, with_object, with_dot, calls_with, is_next, is_waiting};
+ghost use Rattle.form_reader.specs.Stack.{close_of, close_of_stack, IsNoClose, with_object, with_dot, calls_with, is_next, is_waiting};
 
 use lisp_reading::{HeldObject, HeldObjects, Invoked};
 use std::alloc::{AllocError, Global};
@@ -91,14 +91,6 @@ impl Stack {
             None => None,
             Some(frame) => frame.close(),
         }
-    }
-
-    /// Whether `c` is the closing character that the innermost call looks for.
-    pub(crate) fn is_closed_by(&self, c: u8) -> bool
-        ensures value { result ≡ is_closed_by (close_of_stack self.now) c }
-        ensures other { result ≡ false → IsNoClose c self.now }
-    {
-        self.close() == Some(c)
     }
 
     /// Takes the innermost call where `c` is the closing character that it looks for.

@@ -13,16 +13,24 @@ pub enum State {
     Token(BegunScan),
     /// In the token of a call.
     CallToken(Invoked, TokenScan),
-    /// In a text up to this character.
-    Text(Invoked, u8, HeldText),
-    /// After an escape in such a text.
-    Escaped(Invoked, u8, HeldText),
+    /// In a text.
+    Text(OpenText),
+    /// After an escape in a text.
+    Escaped(OpenText),
     /// In a line.
     Line(Invoked, HeldText),
     /// In a block: how many blocks are open inside it, and the byte before, if it may begin a pair.
     Block(Invoked, (usize, u8)),
     /// After this dispatching character, in the number.
     Number(HeldCharacter, HeldNumber),
+}
+
+/// The text of a call, up to its terminator, as far as it is gathered.
+#[derive(Drop)]
+pub struct OpenText {
+    pub call: Invoked,
+    pub terminator: u8,
+    pub text: HeldText,
 }
 
 /// What a call or a byte brings, also after the open calls took what was found.

@@ -1,13 +1,14 @@
 //! One byte of a text, wherever a reader is in a form, and after what it ends.
-ghost use Rattle.std.specs.Prelude.{◌≡◌, ◌≤◌, ◌<◌, ◌+◌, ◌^◌, ℕ, List, [], ◌∷◌, length, Ok, IfOk};
+ghost use Rattle.std.specs.Prelude.{◌≡◌, ◌≤◌, ◌<◌, ◌+◌, ◌^◌, ℕ, List, [], ◌∷◌, length, true, Ok, IfOk};
 ghost use Rattle.lisp_reading.specs.Plans.{Read};
 ghost use Rattle.lisp_reading.specs.declared.found.Found.{Found as FoundThere};
 ghost use Rattle.form_reader.specs.declared.stack.Frame.{Frame};
 ghost use Rattle.lisp_reading.specs.declared.limits.Limits.{Limits as Bounds};
 ghost use Rattle.lisp_reading.specs.Setting.{Setting};
 ghost use Rattle.form_reader.specs.Context.{setting};
-ghost use Rattle.form_reader.specs.Step.{Passes, IsReadyPass, verdict_of, Settles, ChangesTo, IsStanding, IsReadySettled, IsReadyChange, BeginsFrom, BeginsAnew, StartsAt, StartsWith, StartsAfter, Starts};
+ghost use Rattle.form_reader.specs.Step.{Passes, IsReadyPass, verdict_of, Settles, ChangesTo, IsStanding, IsReadySettled, IsReadyChange, BeginsFrom, BeginsAnew, StartsAt, StartsWith, StartsAfter, Starts, is_space};
 ghost use Rattle.form_reader.specs.declared.state.State.TheVariants.{Object as AtObject};
+ghost use Rattle.form_reader.specs.declared.step.Change.TheVariants.{Goes};
 ghost use Rattle.form_reader.specs.State.{Brings, state_gives, lookahead, IsReady, Moves, IsReadyMove};
 
 use crate::context::Context;
@@ -15,7 +16,6 @@ use crate::dispatch::in_number;
 use crate::gather::{in_block, in_escaped, in_line, in_text};
 use crate::stack::Stack;
 use crate::state::{Event, Moved, State};
-use crate::step::in_place::is_discarded;
 use crate::step::object::{Passed, after_found, at_object, is_blank};
 use crate::token::{in_call_token, in_token};
 use crate::value::{Return, return_value};
@@ -24,7 +24,6 @@ use lisp_reading::{Found, HeldObject};
 use std::alloc::AllocError;
 use user_macros::MacroFunctions;
 
-pub(crate) mod in_place;
 pub(crate) mod object;
 
 /// What a byte is to the text.
@@ -143,6 +142,14 @@ fn change_of<R: MacroFunctions>(
     }
 }
 
+/// Whether the byte `c` is whitespace that is discarded where nothing is open.
+#[inline(always)]
+fn is_space<R: MacroFunctions>(with: &Context<'_, R>, c: u8) -> bool
+    ensures { result ≡ is_space (setting R.functions with.now) c }
+{
+    with.limits.text > 0 && is_blank(with.readtable.syntax(c))
+}
+
 /// The byte `c`, with which an attempt begins at `start`, with no open call.
 #[inline(always)]
 fn first_change<R: MacroFunctions>(
@@ -161,8 +168,10 @@ fn first_change<R: MacroFunctions>(
     ensures begins { IfOk result (BeginsFrom start) }
     ensures anew { IfOk result (BeginsAnew stack.new) }
     ensures starts { IfOk result (StartsWith (setting R.functions with.now) start c) }
+    ensures space { is_space (setting R.functions with.now) c ≡ true
+        → (result ≡ Ok (Goes (start + 1) 0 AtObject)) × (stack.new ≡ []) }
 {
-    if is_discarded(with, stack, 0, c) {
+    if is_space(with, c) {
         return Ok(Change::Goes(start + 1, 0, State::Object));
     }
     let event = at_object(with, stack, 0, c)?;
@@ -205,6 +214,18 @@ fn done_before<R: MacroFunctions>(
     }
 }
 
+/// Whether nothing is open, and the attempt has no byte.
+#[inline(always)]
+fn is_first(stack: &Stack, state: &State, at: usize) -> bool
+    ensures first { result ≡ true → (stack.now ≡ []) × (state.now ≡ AtObject) × (at ≡ 0) }
+    ensures others { stack.now ≡ [] → state.now ≡ AtObject → at ≡ 0 → result ≡ true }
+{
+    match state {
+        State::Object => at == 0 && stack.len() == 0,
+        _ => false,
+    }
+}
+
 /// The byte `c`, where the attempt began at `start` and has `at` bytes.
 pub(crate) fn take_byte<R: MacroFunctions>(
     with: &Context<'_, R>,
@@ -224,7 +245,13 @@ pub(crate) fn take_byte<R: MacroFunctions>(
     ensures begins { IfOk result (BeginsFrom start) }
     ensures anew { IfOk result (BeginsAnew stack.new) }
     ensures starts { IfOk result (Starts (setting R.functions with.now) stack.old state start at c) }
+    ensures space { is_space (setting R.functions with.now) c ≡ true
+        → at ≡ 0 → stack.old ≡ [] → state ≡ AtObject
+        → (result ≡ Ok (Goes (start + 1) 0 AtObject)) × (stack.new ≡ []) }
 {
+    if is_first(stack, &state, at) {
+        return first_change(with, stack, start, c);
+    }
     match feed(with, stack, state, at, c)? {
         Passed::Brings(event) => change_of(with, stack, event, start, at + 1),
         Passed::Done(found) => done_before(with, stack, found, start, at, c),
@@ -254,12 +281,8 @@ pub(crate) fn advance<R: MacroFunctions>(
         State::Object => Ok(Moved::After(at_object(with, stack, at, c)?)),
         State::Token(scan) => in_token(with, scan, at, c),
         State::CallToken(call, scan) => in_call_token(with, depth, call, scan, at, c),
-        State::Text(call, terminator, text) => {
-            Ok(Moved::After(in_text(with, depth, call, terminator, text, at, c)?))
-        }
-        State::Escaped(call, terminator, text) => {
-            Ok(Moved::After(in_escaped(with, depth, call, terminator, text, at, c)?))
-        }
+        State::Text(text) => Ok(Moved::After(in_text(with, depth, text, at, c)?)),
+        State::Escaped(text) => Ok(Moved::After(in_escaped(with, depth, text, at, c)?)),
         State::Line(call, text) => { Ok(Moved::After(in_line(with, depth, call, text, at, c)?)) }
         State::Block(call, levels) => {
             Ok(Moved::After(in_block(with, depth, call, levels, at, c)?))

@@ -103,24 +103,6 @@ impl BegunScan {
         self.scan
     }
 
-    /// The byte `c` at `at`, taken in place.
-    pub(crate) fn feed(
-        &mut self,
-        readtable: &Readtable,
-        limits: &Limits,
-        at: usize,
-        c: u8,
-    ) -> Result<LineByte, AllocError>
-        requires { at ≤ limits.now.text }
-        ensures feeds { (cs : List ℕ) → IfOk result (λ fed.
-            TokenFeeds readtable.now limits.now self.new at c cs fed (token_read readtable.now limits.now self.old at (c ∷ cs))) }
-        ensures ended { result ≡ Ok LineEnded → self.new ≡ self.old }
-        ensures going { result ≡ Ok LineMore → IsTrue (is_going self.new.stage) }
-        ensures below { result ≡ Ok LineMore → at < limits.now.text }
-    {
-        token_byte(readtable, limits, &mut self.scan, at, c)
-    }
-
     /// The byte `c` at `at`.
     #[tactic(auto, using(token_scan::proofs::Forwards::begun_has_mark))]
     #[inline(always)]
