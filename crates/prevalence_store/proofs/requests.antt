@@ -1,5 +1,6 @@
 -- On messages and questions.
 pub mod Positions
 pub mod Making
-pub mod Asking
 pub mod Settling
+pub mod Shapes
+pub mod Owned

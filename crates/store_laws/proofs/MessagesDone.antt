@@ -10,7 +10,7 @@ use Rattle.prevalence_store.specs.meaning.Files.{MeansWorld}
 use Rattle.prevalence_store.specs.calls.ExecuteAll.{MeansAllOrNone}
 use Rattle.prevalence_store.specs.calls.Store.{StoreView}
 use Rattle.prevalence_store.specs.messages.Answers.{Round, answered, begun, closed, each_request}
-use Rattle.prevalence_store.specs.messages.Calls.{AnswersRequests, AreAnswered, AreLeftWith, Fail, entries_by, left_after}
+use Rattle.prevalence_store.specs.messages.Calls.{AnswersRequests, AreAnswered, Fail, entries_by, left_after}
 use Rattle.prevalence_store.specs.messages.Position.{position_property}
 use Rattle.prevalence_store.specs.steps.Failure.{is_device}
 use Rattle.prevalence_store.specs.Theorem.{Keeps}
@@ -66,7 +66,7 @@ module _ (functions : Functions) {D R : Type 0} (state : D → State) (sound : (
   stopped_at stopped false none image now left means =
       absurd (let some : 0 < length (entries_by false round.entries) = subst (λ b. 0 < length (entries_by b round.entries)) none stopped.some in omega (arith, some))
 
-  left_by : (number : ℕ) (is : AreLeftWith functions state old new world round number) (device : Bool) → is_device is.0 ≡ device → (image : Image) (now : WorldState)
+  left_by : (number : ℕ) (is : AnswersRequests functions state old new world last requests (Err number)) (device : Bool) → is_device is.0 ≡ device → (image : Image) (now : WorldState)
       → (state new.disk).left_since (state old.disk).moment image → MeansWorld functions image now → IsBeforeOrAfter world round now
   left_by number is false calm image now left means = inl (unchanged (is.2.unchanged calm) image now left means)
   left_by number is true device image now left means = stopped_at (is.2.stopped device) round.wrote refl image now left means

@@ -1,7 +1,7 @@
 -- The records of requests make the world after them, and fit the log.
 --     given_made      one message more
 --     own_made      a form of the store's own more
---     own_effect      what such a form does
+--     own_effect, own_not_refused      what such a form does
 use Rattle.std.proofs.Common.{◌≡◌, ℕ, ◌+◌, ◌≤◌, nat_lt, Bool, true, false, ◌||◌, if◌then◌else◌, List, [], ◌∷◌, ◌++◌, length, map, Option, None, Some, IsSome, pos, Result, Ok, Err, OnOk, refl, sym, ap, subst, ◌∙◌, arith}
 use Rattle.std.proofs.lemmas.Bool.{le-leb, lt-ltb, le-ltb}
 use Rattle.std.proofs.lemmas.List.{length-append, length-map}
@@ -22,6 +22,7 @@ use Rattle.package_table.specs.Table.{Name}
 use Rattle.plist_state.specs.State.{WorldState}
 use Rattle.prevalence_store.specs.declared.batch.Batch.{Batch}
 use Rattle.prevalence_store.specs.declared.failure.Failure.{Failure}
+use Rattle.prevalence_store.specs.declared.failure.Failure.TheVariants.{Refused}
 use Rattle.prevalence_store.specs.declared.messages.own.Own.{Own}
 use Rattle.prevalence_store.specs.declared.messages.own.Own.TheVariants.{Clearing, Position}
 use Rattle.prevalence_store.specs.declared.messages.request.Request.{Request}
@@ -33,7 +34,7 @@ use Rattle.prevalence_store.specs.calls.ExecuteAll.{entries_of, left_by, told_by
 use Rattle.prevalence_store.specs.messages.Answers.{Round, answer_in, answer_to_question, asked_in, by_number, cleared, given_in, one_request, with_answer, with_asked, with_given, with_message, with_old, with_own, wrote_by}
 use Rattle.prevalence_store.specs.messages.Position.{own_form, own_left, own_text, position_property, with_position, without_position}
 use Rattle.prevalence_store.specs.messages.Rounds.{IsMade, IsNeeded, IsOwnForm, round_in, told_in}
-use Rattle.prevalence_store.specs.steps.Batch.{entries_in, entry_of}
+use Rattle.prevalence_store.specs.steps.Batch.{IsNotAdded, entries_in, entry_of}
 use Rattle.prevalence_store.specs.steps.Group.{IsTurn}
 use Rattle.prevalence_store.proofs.steps.Grouping.{fit_both, one_replayed}
 use Rattle.prevalence_store.proofs.steps.Taking.{one_record}
@@ -82,15 +83,21 @@ wrote_of (Err code) = false
 shown : (x : Object) (s : WorldState) (d : Done Object) → writes x s ≡ Ok d → (d.state ≡ s) × (d.wrote ≡ true)
 shown x s d same = (ap (state_of s) (sym same), ap wrote_of (sym same))
 
+own_accepted : (names : List Name) (s : WorldState) (own : Own) → are_there s.packages (own_form own) ≡ true → IsNeeded own s → (x : Object) × (accept names s (own_form own) ≡ writes x (own_left own s))
+own_accepted names s own there needed =
+    let valued = own_value names s own needed in
+    let known = known_symbols s.packages (symbols (own_form own)) there in
+    (valued.0, ap (λ r. accepted_by true names s r (own_form own)) known ∙ ap (also false) valued.1)
+
+no_error : (x : Object) (s : WorldState) (number : ℕ) → writes x s ≡ Err number → ⊥
+no_error x s number is = absurd (cc)
+
 -- a form of the store's own whose symbols are there does what it is for
 pub own_effect : (names : List Name) (s : WorldState) (own : Own) (d : Done Object) → are_there s.packages (own_form own) ≡ true → IsNeeded own s → accept names s (own_form own) ≡ Ok d
     → (d.state ≡ own_left own s) × (d.wrote ≡ true)
 own_effect names s own d there needed is =
-    let valued = own_value names s own needed in
-    let known = known_symbols s.packages (symbols (own_form own)) there in
-    let here : accept names s (own_form own) ≡ writes valued.0 (own_left own s) =
-    ap (λ r. accepted_by true names s r (own_form own)) known ∙ ap (also false) valued.1 in
-    shown valued.0 (own_left own s) d (sym here ∙ is)
+    let here = own_accepted names s own there needed in
+    shown here.0 (own_left own s) d (sym here.1 ∙ is)
 
 module _ (functions : Functions) where
   -- ---- one more
@@ -132,6 +139,14 @@ module _ (functions : Functions) where
         sym (ap (after functions world) records) ∙ recorded.0 ∙ ap Some effect.0,
         subst (AllByRecursion IsLogRecord) records recorded.1,
       )
+
+  -- it is not refused
+  pub own_not_refused : (own : Own) (world : WorldState) (read : ReadForm) (text : List ℕ) (cause : Failure) (number : ℕ) → IsNeeded own world → IsOwnForm functions own world read text
+      → IsNotAdded (accept functions.names world (object_of read.datum)) cause → cause ≡ Refused number → ⊥
+  own_not_refused own world read text cause number needed is given refused =
+      let here = own_accepted functions.names world own is.all_there needed in
+      let added : accept functions.names world (object_of read.datum) ≡ Err number = subst (IsNotAdded (accept functions.names world (object_of read.datum))) refused given in
+      no_error here.0 (own_left own world) number (sym here.1 ∙ ap (accept functions.names world) (sym is.object) ∙ added)
 
   pub own_round : (own : Own) (held : Held) (batch : Batch) (world new : WorldState) (read : ReadForm) (text : List ℕ) (e : Evaluated) → IsNeeded own world → IsOwnForm functions own world read text
       → accept functions.names world (object_of read.datum) ≡ Ok (done e new) → entries_in batch ≡ entries_in held.batch ++ records_of e.wrote Rescue text

@@ -1,15 +1,18 @@
 -- What the calls of a store that carries out messages answer, and what is left after them.
-use Rattle.std.specs.Prelude.{◌≡◌, ◌⊎◌, ℕ, ◌+◌, ◌<◌, ◌≤◌, Bool, true, false, List, [], length, map, None, Some, IsSome, Result, Ok, Err, MatchResult}
+use Rattle.std.specs.Prelude.{◌≡◌, ◌⊎◌, ℕ, ◌+◌, ◌<◌, ◌≤◌, Bool, true, false, List, [], length, map, take, None, Some, IsSome, Result, Ok, Err, MatchResult}
 use Rattle.std.specs.List.{flat_map}
 use Rattle.disk_trait.specs.Disk.{State}
 use Rattle.disk_trait.specs.Half.{opposite_of}
 use Rattle.gate_log.specs.Layout.{LogRecord, open_record}
 use Rattle.lisp_object.specs.Object.{Object}
+use Rattle.lisp_reading.specs.Reading.{form}
 use Rattle.lisp_object.specs.declared.refusal.TheConstants.{NO_MEMORY}
+use Rattle.package_table.specs.Symbols.{are_there}
 use Rattle.plist_state.specs.State.{WorldState}
 use Rattle.prevalence_store.specs.declared.failure.Failure.{Failure}
 use Rattle.prevalence_store.specs.declared.failure.Failure.TheVariants as failure
-use Rattle.prevalence_store.specs.declared.messages.own.Own.TheVariants.{Position}
+use Rattle.prevalence_store.specs.declared.messages.own.Own.{Own}
+use Rattle.prevalence_store.specs.declared.messages.own.Own.TheVariants.{Clearing, Position}
 use Rattle.prevalence_store.specs.declared.messages.request.Replies.{Replies}
 use Rattle.prevalence_store.specs.declared.messages.request.Request.{Request}
 use Rattle.prevalence_store.specs.declared.messages.request.TheConstants.{NO_POSITION}
@@ -18,9 +21,9 @@ use Rattle.prevalence_store.specs.declared.outcome.Outcome.TheVariants.{Refused}
 use Rattle.prevalence_store.specs.calls.Execute.{DeviceFails, Executes, IsAccepted, SurvivesAs}
 use Rattle.prevalence_store.specs.calls.ExecuteAll.{AllOrNone, LogsAll}
 use Rattle.prevalence_store.specs.calls.Store.{StoreView}
-use Rattle.prevalence_store.specs.meaning.Acceptance.{after}
-use Rattle.prevalence_store.specs.messages.Answers.{Round, answered, begun}
-use Rattle.prevalence_store.specs.messages.Position.{own_text, position, position_property}
+use Rattle.prevalence_store.specs.meaning.Acceptance.{accepts, after, read_in}
+use Rattle.prevalence_store.specs.messages.Answers.{Round, answered, begun, each_request}
+use Rattle.prevalence_store.specs.messages.Position.{own_form, own_text, position, position_property}
 use Rattle.prevalence_store.specs.messages.Rounds.{told_in}
 use Rattle.prevalence_store.specs.steps.Failure.{failure_number, is_device}
 use Rattle.user_macros.specs.Functions.{Functions}
@@ -33,6 +36,37 @@ entries_by false entries = []
 abbrev pub left_after : Bool → WorldState → WorldState → WorldState
 left_after true world left = left
 left_after false world left = world
+
+-- ---- a form of the store's own that is refused
+
+-- It is read in this world as what it is, and the packages have each symbol of it.
+pub record IsOwnRead (functions : Functions) (world : WorldState) (own : Own) : Type 0 where
+  pub reads : read_in functions world Rescue (own_text own) ≡ form (own_form own) 0 (length (own_text own)) (length (own_text own))
+  pub all_there : are_there world.packages (own_form own) ≡ true
+
+-- its text is refused in this world; or, with 52, it is not read as what it is, or a symbol of it is not there
+abbrev pub IsOwnRefused : Functions → WorldState → Own → ℕ → Type 0
+IsOwnRefused functions world own number = (accepts functions world Rescue (own_text own) ≡ Err number) ⊎ ((number ≡ NO_POSITION) × (IsOwnRead functions world own → ⊥))
+
+-- it is refused, if this is for a refusal
+abbrev pub RefusesForm : Functions → WorldState → Own → Failure → Type 0
+RefusesForm functions world own cause = (number : ℕ) → cause ≡ failure.Refused number → IsOwnRefused functions world own number
+
+-- the position, which is there, is not taken out, if this is for a refusal
+abbrev pub IsNotCleared : Functions → Round → Failure → Type 0
+IsNotCleared functions round cause =
+    (number : ℕ) → cause ≡ failure.Refused number → IsSome (position_property round.left) × IsOwnRefused functions round.left Clearing number
+
+-- the last number, after which a message wrote, does not become the position, if this is for a refusal
+abbrev pub IsNotClosed : Functions → Round → Failure → Type 0
+IsNotClosed functions round cause =
+    (number : ℕ) → cause ≡ failure.Refused number → (round.wrote ≡ true) × IsOwnRefused functions round.left (Position round.last) number
+
+-- A refusal of requests is one of a form of the store's own: before one of them, or after all.
+abbrev pub RefusesOwn : Functions → Round → List Request → Failure → Type 0
+RefusesOwn functions first requests cause =
+    ((count : ℕ) × (count < length requests) × IsNotCleared functions (each_request functions first (take count requests)) cause)
+    ⊎ IsNotClosed functions (each_request functions first requests) cause
 
 module _ (functions : Functions) {D R : Type 0} (state : D → State) (old new : StoreView D R) (world : WorldState) (round : Round) where
   abbrev records : List LogRecord
@@ -62,15 +96,13 @@ module _ (functions : Functions) {D R : Type 0} (state : D → State) (old new :
     pub full : cause ≡ failure.Full → old.limit < old.size + length (flat_map open_record records)
     pub stopped : is_device cause ≡ true → Fail
 
-  -- the number of the cause
-  abbrev pub AreLeftWith : ℕ → Type 0
-  AreLeftWith number = (cause : Failure) × (number ≡ failure_number cause) × AreLeft cause
-
 module _ (functions : Functions) {D R : Type 0} (state : D → State) (old new : StoreView D R) (world : WorldState) where
   -- What `answer_requests` answers, each answer with its cause.
   abbrev pub AnswersRequests : ℕ → List Request → Result Replies ℕ → Type 0
   AnswersRequests last requests (Ok replies) = AreAnswered functions state old new world (answered functions (begun last world) requests) replies
-  AnswersRequests last requests (Err number) = AreLeftWith functions state old new world (answered functions (begun last world) requests) number
+  AnswersRequests last requests (Err number) =
+      (cause : Failure) × (number ≡ failure_number cause) × AreLeft functions state old new world (answered functions (begun last world) requests) cause
+      × RefusesOwn functions (begun last world) requests cause
 
   -- the form that sets the position to 0 was accepted, and logged if it wrote
   abbrev pub SetsFirst : Type 0
@@ -88,4 +120,4 @@ module _ (functions : Functions) {D R : Type 0} (state : D → State) (old new :
   abbrev pub TakesRound : ℕ → List Request → Result Replies Failure → Type 0
   TakesRound last requests result =
       MatchResult result (AreAnswered functions state old new world (answered functions (begun last world) requests))
-      (AreLeft functions state old new world (answered functions (begun last world) requests))
+      (λ cause. AreLeft functions state old new world (answered functions (begun last world) requests) cause × RefusesOwn functions (begun last world) requests cause)

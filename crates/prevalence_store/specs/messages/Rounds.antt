@@ -1,12 +1,15 @@
 -- A round in memory, and what is asked of its records.
-use Rattle.std.specs.Prelude.{◌≡◌, ℕ, Bool, true, List, length, map, Some, IsSome}
+use Rattle.std.specs.Prelude.{◌≡◌, ℕ, pos, Bool, true, List, [], ◌∷◌, length, map, None, Some, IsSome, codes}
 use Rattle.std.specs.List.{AllByRecursion}
 use Rattle.gate_log.specs.Layout.{IsLogRecord}
 use Rattle.form_eval.specs.Laws.{MayEvaluate}
 use Rattle.form_eval.specs.declared.read_form.ReadForm.{ReadForm}
 use Rattle.lisp_object.specs.Datum.{object_of}
+use Rattle.lisp_object.specs.declared.datum.Datum.{Datum}
+use Rattle.lisp_object.specs.declared.datum.Datum.TheVariants as datum
 use Rattle.lisp_reading.specs.Reading.{form}
 use Rattle.package_table.specs.Symbols.{are_there}
+use Rattle.package_table.specs.Table.{common_lisp, common_lisp_user}
 use Rattle.plist_state.specs.State.{WorldState}
 use Rattle.prevalence_store.specs.declared.messages.own.Own.{Own}
 use Rattle.prevalence_store.specs.declared.messages.own.Own.TheVariants.{Clearing, Position}
@@ -47,6 +50,17 @@ StaysMade functions before later = (first : WorldState) → IsMade functions fir
 abbrev pub IsNeeded : Own → WorldState → Type 0
 IsNeeded Clearing world = IsSome (position_property world)
 IsNeeded (Position n) world = Unit {0}
+
+-- what is read of it, as a datum
+abbrev pub call_datum : List ℕ → List Datum → Datum
+call_datum operator arguments = datum.List (datum.Symbol common_lisp operator ∷ arguments) None
+
+abbrev pub quoted_datum : Datum
+quoted_datum = call_datum (codes "QUOTE") (datum.Symbol common_lisp_user (codes "position") ∷ [])
+
+abbrev pub own_datum : Own → Datum
+own_datum Clearing = call_datum (codes "REMPROP") (quoted_datum ∷ quoted_datum ∷ [])
+own_datum (Position n) = call_datum (codes "SETF") (call_datum (codes "GET") (quoted_datum ∷ quoted_datum ∷ []) ∷ datum.Integer (pos n) ∷ [])
 
 -- it was read from its text in this world, whose packages have each symbol of it
 pub record IsOwnForm (functions : Functions) (own : Own) (world : WorldState) (read : ReadForm) (text : List ℕ) : Type 0 where

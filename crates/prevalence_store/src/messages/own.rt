@@ -1,10 +1,8 @@
 // The store's own forms, which take the position out of a world and put it in.
-ghost use Rattle.std.specs.Prelude.{◌≡◌, true, IfOk, pos, codes};
-ghost use Rattle.lisp_object.specs.Datum.{object_of};
-ghost use Rattle.lisp_object.specs.Object.{integer, nil, pair, symbol};
+ghost use Rattle.std.specs.Prelude.{◌≡◌, ◌↔◌, ◌&&◌, [], ◌∷◌, IsTrue, IfOk, pos};
 ghost use Rattle.package_table.specs.Symbols.{are_there};
-ghost use Rattle.package_table.specs.Table.{common_lisp};
-ghost use Rattle.prevalence_store.specs.messages.Position.{own_form, own_text, quoted_position};
+ghost use Rattle.prevalence_store.specs.messages.Position.{own_form, own_text};
+ghost use Rattle.prevalence_store.specs.messages.Rounds.{call_datum, own_datum, quoted_datum};
 
 use lisp_object::Datum;
 use plist_state::World;
@@ -34,13 +32,38 @@ impl Own {
 
     /// Whether this is what is read of it.
     pub(crate) fn is_read_as(self, datum: &Datum) -> bool
-        ensures { result ≡ true → object_of datum.now ≡ own_form self }
+        ensures { IsTrue result ↔ (datum.now ≡ own_datum self) }
     {
         match self {
-            Own::Clearing => is_clearing(datum),
+            Own::Clearing => is_property(datum, b"REMPROP"),
             Own::Position(number) => is_setting(datum, number),
         }
     }
+
+    /// Whether the packages of a world have each symbol of it.
+    pub(crate) fn are_symbols_there(self, world: &World) -> bool
+        ensures { result ≡ are_there world.now.0.packages (own_form self) }
+    {
+        let packages = world.packages();
+        let is_quote = packages.is_symbol(COMMON_LISP, b"QUOTE");
+        let is_position = packages.is_symbol(b"COMMON-LISP-USER", b"position");
+        let is_nil = packages.is_symbol(COMMON_LISP, b"NIL");
+        let is_quoted = both(both(is_quote, is_position), is_nil);
+        match self {
+            Own::Clearing => both(packages.is_symbol(COMMON_LISP, b"REMPROP"), is_quoted),
+            Own::Position(_) => {
+                let is_setf = packages.is_symbol(COMMON_LISP, b"SETF");
+                let is_get = packages.is_symbol(COMMON_LISP, b"GET");
+                both(both(is_setf, is_get), is_quoted)
+            }
+        }
+    }
+}
+
+fn both(one: bool, other: bool) -> bool
+    ensures { result ≡ (one && other) }
+{
+    if one { other } else { false }
 }
 
 fn text_of_position(alloc: Global, number: u64) -> Result<Vec<u8>, AllocError>
@@ -55,7 +78,7 @@ fn text_of_position(alloc: Global, number: u64) -> Result<Vec<u8>, AllocError>
 
 // Whether it is the symbol of this home and name.
 fn is_symbol(datum: &Datum, home: &[u8], name: &[u8]) -> bool
-    ensures { result ≡ true → object_of datum.now ≡ symbol home.now name.now }
+    ensures { IsTrue result ↔ (datum.now ≡ Datum.Symbol home.now name.now) }
 {
     match datum {
         Datum::Symbol { package, name: own } => package.as_slice() == home
@@ -64,63 +87,8 @@ fn is_symbol(datum: &Datum, home: &[u8], name: &[u8]) -> bool
     }
 }
 
-// Whether it is the quoted symbol at which the position stands.
-fn is_quoted_position(datum: &Datum) -> bool
-    ensures { result ≡ true → object_of datum.now ≡ quoted_position }
-{
-    let Datum::List { items, tail: None } = datum else {
-        return false;
-    };
-    let [quote, position] = items.as_slice() else {
-        return false;
-    };
-    is_symbol(quote, COMMON_LISP, b"QUOTE") && is_symbol(position, b"COMMON-LISP-USER", b"position")
-}
-
-fn is_clearing(datum: &Datum) -> bool
-    ensures { result ≡ true → object_of datum.now ≡ own_form Own.Clearing }
-{
-    let Datum::List { items, tail: None } = datum else {
-        return false;
-    };
-    let [operator, owner, indicator] = items.as_slice() else {
-        return false;
-    };
-    is_symbol(operator, COMMON_LISP, b"REMPROP")
-        && is_quoted_position(owner)
-        && is_quoted_position(indicator)
-}
-
-fn is_setting(datum: &Datum, number: u64) -> bool
-    ensures { result ≡ true → object_of datum.now ≡ own_form (Own.Position number) }
-{
-    let Datum::List { items, tail: None } = datum else {
-        return false;
-    };
-    let [operator, place, value] = items.as_slice() else {
-        return false;
-    };
-    is_symbol(operator, COMMON_LISP, b"SETF") && is_place(place) && is_number(value, number)
-}
-
-// Whether it is the place of the position.
-fn is_place(datum: &Datum) -> bool
-    ensures { result ≡ true → object_of datum.now
-        ≡ pair (symbol common_lisp (codes "GET")) (pair quoted_position (pair quoted_position nil)) }
-{
-    let Datum::List { items, tail: None } = datum else {
-        return false;
-    };
-    let [operator, owner, indicator] = items.as_slice() else {
-        return false;
-    };
-    is_symbol(operator, COMMON_LISP, b"GET")
-        && is_quoted_position(owner)
-        && is_quoted_position(indicator)
-}
-
 fn is_number(datum: &Datum, number: u64) -> bool
-    ensures { result ≡ true → object_of datum.now ≡ integer (pos number) }
+    ensures { IsTrue result ↔ (datum.now ≡ Datum.Integer (pos number)) }
 {
     match datum {
         Datum::Integer(value) => *value == i128::from(number),
@@ -128,15 +96,51 @@ fn is_number(datum: &Datum, number: u64) -> bool
     }
 }
 
-/// Whether the packages of a world have each symbol of these forms.
-pub(crate) fn are_own_symbols_there(world: &World) -> bool
-    ensures { result ≡ true → (own : Own) → are_there world.now.0.packages (own_form own) ≡ true }
+// Whether it is the quoted symbol at which the position stands.
+fn is_quoted_position(datum: &Datum) -> bool
+    ensures { IsTrue result ↔ (datum.now ≡ quoted_datum) }
 {
-    let packages = world.packages();
-    packages.is_symbol(COMMON_LISP, b"REMPROP")
-        && packages.is_symbol(COMMON_LISP, b"SETF")
-        && packages.is_symbol(COMMON_LISP, b"GET")
-        && packages.is_symbol(COMMON_LISP, b"QUOTE")
-        && packages.is_symbol(COMMON_LISP, b"NIL")
-        && packages.is_symbol(b"COMMON-LISP-USER", b"position")
+    let Datum::List { items, tail } = datum else {
+        return false;
+    };
+    let [quote, position] = items.as_slice() else {
+        return false;
+    };
+    if tail.is_some() {
+        return false;
+    }
+    is_symbol(quote, COMMON_LISP, b"QUOTE") && is_symbol(position, b"COMMON-LISP-USER", b"position")
+}
+
+// Whether it is the call of this operator with the quoted symbol twice.
+fn is_property(datum: &Datum, operator: &[u8]) -> bool
+    ensures { IsTrue result ↔ (datum.now ≡ call_datum operator.now (quoted_datum ∷ quoted_datum ∷ [])) }
+{
+    let Datum::List { items, tail } = datum else {
+        return false;
+    };
+    let [name, owner, indicator] = items.as_slice() else {
+        return false;
+    };
+    if tail.is_some() {
+        return false;
+    }
+    is_symbol(name, COMMON_LISP, operator)
+        && is_quoted_position(owner)
+        && is_quoted_position(indicator)
+}
+
+fn is_setting(datum: &Datum, number: u64) -> bool
+    ensures { IsTrue result ↔ (datum.now ≡ own_datum (Own.Position number)) }
+{
+    let Datum::List { items, tail } = datum else {
+        return false;
+    };
+    let [name, place, value] = items.as_slice() else {
+        return false;
+    };
+    if tail.is_some() {
+        return false;
+    }
+    is_symbol(name, COMMON_LISP, b"SETF") && is_property(place, b"GET") && is_number(value, number)
 }

@@ -1,5 +1,5 @@
 // Messages with numbers, and questions, over a store.
-ghost use Rattle.std.specs.Prelude.{◌≡◌, true, false, None, Some, IsSome, IfOk, Err};
+ghost use Rattle.std.specs.Prelude.{◌≡◌, ℕ, true, false, None, Some, IsSome, IfOk, Err};
 ghost use Rattle.std.specs.Option.{option_and_then};
 ghost use Rattle.lisp_object.specs.declared.refusal.TheConstants.{REOPEN as NOT_OPEN};
 ghost use Rattle.plist_state.specs.State.{WorldState};
@@ -83,13 +83,14 @@ impl<D: Disk, R: MacroFunctions> Store<D, R> {
     }
 
     /// Answers these requests one after the other, where `last` is the number of the last message before them. A message whose number
-    /// is not over it and over the position is refused with 50. Each message is carried out in a world without the position. What the messages that write need is appended to the log together, and the new
-    /// position after it: a crash leaves none or all.
+    /// is not over it and over the position is refused with 50. Each message is carried out in a world without the position. What the
+    /// messages that write need is appended to the log together, and the new position after it: a crash leaves none or all.
     ///
     /// # Errors
     ///
     /// 61 after an earlier device fault; 64 if the half has no room for them, 90 if a growth was refused, and any number under which
-    /// a form of the store's own would be refused: the store is then as it was. After 60 it has to be opened again.
+    /// a form of the store's own is refused, 52 if it is read as another one: the store is then as it was. After 60 it has to be
+    /// opened again.
     pub fn answer_requests(&mut self, last: u64, requests: &[Request<'_>]) -> Result<Replies, u16>
         requires answers { R.answers self.old.macros }
         requires whole { are_registered R.Meaning.functions (R.functions self.old.macros) ≡ true }
@@ -153,6 +154,7 @@ impl<D: Disk, R: MacroFunctions> Store<D, R> {
 fn unlogged(failure: Failure) -> Failure
     ensures calm { is_device result ≡ false }
     ensures room { result ≡ Failure.Full → ⊥ }
+    ensures refused { (number : ℕ) → result ≡ Failure.Refused number → failure ≡ Failure.Refused number }
 {
     match failure {
         Failure::Refused(number) => Failure::Refused(number),

@@ -1,0 +1,140 @@
+-- On the store's own forms.
+--     clearing_there, setting_there      whether the packages have each symbol of one
+--     read_parts, own_read      one that is read as what it is
+--     form_taken, form_left, no_refusal, not_cleared, not_closed      why requests are refused, by what is done at one of them
+--     at_request, at_end, unlogged_refused, refused_as      and by all of them
+use Rattle.std.proofs.Common.{◌≡◌, ℕ, ◌<◌, Bool, true, false, ◌&&◌, List, length, take, codes, IsSome, Result, Ok, Err, IfErr, refl, sym, ap, subst, ◌∙◌, inl, inr}
+use Rattle.std.proofs.lemmas.Bool.{false≢true}
+use Rattle.lisp_object.specs.Datum.{object_of}
+use Rattle.lisp_object.proofs.Objects.{object_laws}
+use Rattle.lisp_object.proofs.Restored.{datum_of, from_object}
+use Rattle.lisp_reading.specs.Reading.{form}
+use Rattle.form_eval.specs.Acceptance.{accept}
+use Rattle.form_eval.specs.declared.read_form.ReadForm.{ReadForm}
+use Rattle.package_table.specs.Lookup.{is_symbol}
+use Rattle.package_table.specs.Symbols.{are_there}
+use Rattle.package_table.specs.Table.{Table, common_lisp, common_lisp_user}
+use Rattle.plist_state.specs.State.{WorldState}
+use Rattle.session_words.specs.declared.mode.Mode.TheVariants.{Rescue}
+use Rattle.prevalence_store.specs.declared.failure.Failure.{Failure}
+use Rattle.prevalence_store.specs.declared.failure.Failure.TheVariants.{Refused}
+use Rattle.prevalence_store.specs.declared.messages.own.Own.{Own}
+use Rattle.prevalence_store.specs.declared.messages.own.Own.TheVariants.{Clearing, Position}
+use Rattle.prevalence_store.specs.declared.messages.request.Request.{Request}
+use Rattle.prevalence_store.specs.meaning.Acceptance.{read_in}
+use Rattle.prevalence_store.specs.messages.Answers.{Round, each_request}
+use Rattle.prevalence_store.specs.messages.Calls.{IsNotCleared, IsNotClosed, IsOwnRead, RefusesForm, RefusesOwn}
+use Rattle.prevalence_store.specs.messages.Position.{own_form, own_text, position_property}
+use Rattle.prevalence_store.specs.messages.Rounds.{IsNeeded, IsOwnForm, own_datum}
+use Rattle.prevalence_store.specs.steps.Batch.{IsNotAdded}
+use Rattle.prevalence_store.specs.steps.Failure.{is_refusal}
+use Rattle.prevalence_store.specs.steps.Setting.{IsWholeForm}
+use Rattle.prevalence_store.proofs.requests.Making.{own_not_refused}
+use Rattle.user_macros.specs.Functions.{Functions}
+
+-- ---- symbols
+
+each_once : (q p n : Bool) → ((q && p) && n) ≡ (q && (p && (n && (q && (p && (n && (n && true)))))))
+each_once false p n = refl
+each_once true false n = refl
+each_once true true false = refl
+each_once true true true = refl
+
+each_once_more : (q p n : Bool) → ((q && p) && n) ≡ (q && (p && (n && (q && (p && (n && (n && (n && true))))))))
+each_once_more false p n = refl
+each_once_more true false n = refl
+each_once_more true true false = refl
+each_once_more true true true = refl
+
+and_then : (a b c : Bool) → ((a && b) && c) ≡ (a && (b && c))
+and_then false b c = refl
+and_then true b c = refl
+
+module _ (t : Table) (own : Own) (q p n quoted result : Bool) (quote_is : q ≡ is_symbol t common_lisp (codes "QUOTE")) (position_is : p ≡ is_symbol t common_lisp_user (codes "position"))
+    (nil_is : n ≡ is_symbol t common_lisp (codes "NIL")) (quoted_is : quoted ≡ ((q && p) && n)) where
+  pub clearing_there : (r : Bool) → own ≡ Clearing → r ≡ is_symbol t common_lisp (codes "REMPROP") → result ≡ (r && quoted) → result ≡ are_there t (own_form own)
+  clearing_there r own_is name_is result_is =
+      result_is
+      ∙ (λ i. name_is i && (quoted_is ∙ (λ j. (quote_is j && position_is j) && nil_is j) ∙ each_once (is_symbol t common_lisp (codes "QUOTE")) (is_symbol t common_lisp_user (codes "position")) (is_symbol t common_lisp (codes "NIL"))) i)
+      ∙ sym (ap (λ o. are_there t (own_form o)) own_is)
+
+  pub setting_there : (s g names : Bool) (m : ℕ) → own ≡ Position m → s ≡ is_symbol t common_lisp (codes "SETF") → g ≡ is_symbol t common_lisp (codes "GET") → names ≡ (s && g) → result ≡ (names && quoted)
+      → result ≡ are_there t (own_form own)
+  setting_there s g names m own_is setf_is get_is names_is result_is =
+      result_is ∙ ap (λ (b : Bool). b && quoted) names_is ∙ and_then s g quoted
+      ∙ (λ i. setf_is i && (get_is i && (quoted_is ∙ (λ j. (quote_is j && position_is j) && nil_is j) ∙ each_once_more (is_symbol t common_lisp (codes "QUOTE")) (is_symbol t common_lisp_user (codes "position")) (is_symbol t common_lisp (codes "NIL"))) i))
+      ∙ sym (ap (λ o. are_there t (own_form o)) own_is)
+
+-- ---- what is read
+
+own_restored : (own : Own) → datum_of (own_form own) ≡ own_datum own
+own_restored Clearing = refl
+own_restored (Position n) = refl
+
+pub read_parts : (functions : Functions) (world : WorldState) (own : Own) (text : List ℕ) (read : ReadForm) (start stop : ℕ) → text ≡ own_text own → IsWholeForm functions world Rescue text read start stop
+    → IsOwnRead functions world own → (start ≡ 0) × (stop ≡ length text) × (read.datum ≡ own_datum own)
+read_parts functions world own text read start stop text_is whole is =
+    let both : form (object_of read.datum) start stop (length text) ≡ form (own_form own) 0 (length (own_text own)) (length (own_text own)) =
+    sym whole.reads ∙ ap (read_in functions world Rescue) text_is ∙ is.reads in
+    let first : start ≡ 0 = cc in
+    let last : stop ≡ length (own_text own) = cc in
+    let object : object_of read.datum ≡ own_form own = cc in (
+      first,
+      last ∙ sym (ap length text_is),
+      from_object read.datum (own_form own) whole.may.proper object ∙ own_restored own,
+    )
+
+own_object : (own : Own) → object_of (own_datum own) ≡ own_form own
+own_object Clearing = simp object_laws refl
+own_object (Position n) = simp object_laws refl
+
+pub own_read : (functions : Functions) (world : WorldState) (own : Own) (text : List ℕ) (read : ReadForm) (start stop : ℕ) → text ≡ own_text own → IsWholeForm functions world Rescue text read start stop
+    → start ≡ 0 → stop ≡ length text → read.datum ≡ own_datum own → are_there world.packages (own_form own) ≡ true → IsOwnForm functions own world read text
+own_read functions world own text read start stop text_is whole first last datum there =
+    let object : object_of read.datum ≡ own_form own = ap object_of datum ∙ own_object own in
+    record { own_is = text_is; reads = whole.reads ∙ (λ i. form (object i) (first i) (last i) (length text)); object = object; all_there = there; may = whole.may }
+
+-- ---- refusals
+
+module _ (functions : Functions) where
+  -- of a form that was read
+  pub form_taken : (world : WorldState) (own : Own) (result : Result Unit Failure) → result ≡ Ok tt → IfErr result (RefusesForm functions world own)
+  form_taken world own result is = subst (λ r. IfErr r (RefusesForm functions world own)) (sym is) tt
+
+  pub form_left : (world : WorldState) (own : Own) (read : ReadForm) (text : List ℕ) (result : Result Unit Failure) (cause : Failure) → result ≡ Err cause → IsNeeded own world
+      → IsOwnForm functions own world read text → IsNotAdded (accept functions.names world (object_of read.datum)) cause → IfErr result (RefusesForm functions world own)
+  form_left world own read text result cause is needed whole given =
+      subst (λ r. IfErr r (RefusesForm functions world own)) (sym is) (λ number refused. absurd (own_not_refused functions own world read text cause number needed whole given refused))
+
+  -- of what is no refusal
+  pub no_refusal : {T : Type 0} (round : Round) (result : Result T Failure) → IfErr result (λ cause. is_refusal cause ≡ false) → IfErr result (IsNotCleared functions round)
+  no_refusal round (Ok value) none = tt
+  no_refusal round (Err cause) none = λ number is. absurd (false≢true (sym none ∙ ap is_refusal is))
+
+  pub not_cleared : {T : Type 0} (round : Round) (result : Result T Failure) → IsSome (position_property round.left)
+      → IfErr result (RefusesForm functions round.left Clearing) → IfErr result (IsNotCleared functions round)
+  not_cleared round (Ok value) some refused = tt
+  not_cleared round (Err cause) some refused = λ number is. (some, refused number is)
+
+  pub not_closed : {T : Type 0} (round : Round) (result : Result T Failure) → round.wrote ≡ true
+      → IfErr result (RefusesForm functions round.left (Position round.last)) → IfErr result (IsNotClosed functions round)
+  not_closed round (Ok value) wrote refused = tt
+  not_closed round (Err cause) wrote refused = λ number is. (wrote, refused number is)
+
+  module _ (first far : Round) (requests : List Request) where
+    pub at_request : (cause : Failure) (count : ℕ) → far ≡ each_request functions first (take count requests) → count < length requests → IsNotCleared functions far cause → RefusesOwn functions first requests cause
+    at_request cause count is within refused = inl (count, within, subst (λ (r : Round). IsNotCleared functions r cause) is refused)
+
+    pub at_end : {T : Type 0} (result : Result T Failure) → far ≡ each_request functions first requests → IfErr result (IsNotClosed functions far) → IfErr result (RefusesOwn functions first requests)
+    at_end (Ok value) is refused = tt
+    at_end (Err cause) is refused = inr (subst (λ (r : Round). IsNotClosed functions r cause) is refused)
+
+  -- of what is logged
+  pub unlogged_refused : (first : Round) (requests : List Request) (cause : Failure) → is_refusal cause ≡ false → RefusesOwn functions first requests cause
+  unlogged_refused first requests cause none = inr (λ number is. absurd (false≢true (sym none ∙ ap is_refusal is)))
+
+  -- of a cause that is a refusal only where another is
+  pub refused_as : (first : Round) (requests : List Request) (cause other : Failure) → ((number : ℕ) → other ≡ Refused number → cause ≡ Refused number) → RefusesOwn functions first requests cause
+      → RefusesOwn functions first requests other
+  refused_as first requests cause other same (inl at) = inl (at.0, at.1, λ number is. at.2 number (same number is))
+  refused_as first requests cause other same (inr at) = inr (λ number is. at number (same number is))
