@@ -1,12 +1,12 @@
 -- Bytes that are fed at once, one step after the other; reading a whole text so.
-use Rattle.std.proofs.Common.{◌≡◌, ℕ, ◌+◌, ◌-◌, ◌<◌, ◌≤◌, true, false, List, [], ◌∷◌, ◌++◌, take, Result, Ok, refl, sym, ap, subst, ◌∙◌, append_assoc, append-nil, arith, zero, suc, Bool, length, drop, length-append, IfOk, take_all}
+use Rattle.std.proofs.Common.{◌≡◌, ℕ, ◌+◌, ◌-◌, ◌<◌, ◌≤◌, true, false, List, [], ◌∷◌, ◌++◌, take, Result, Ok, refl, sym, ap, subst, ◌∙◌, append_assoc, append-nil, arith, zero, suc, Bool, length, drop, IfOk, take_all}
 use Rattle.std.specs.declared.alloc.AllocError.{AllocError}
 use Rattle.form_reader.specs.declared.reader.FormReader.{FormReader}
 use Rattle.form_reader.specs.declared.reader.Advance.{Advance}
 use Rattle.form_reader.specs.declared.reader.Advance.TheVariants.{More as AdvanceMore, Form as AdvanceForm, Refused as AdvanceRefused}
 use Rattle.lisp_reading.specs.Setting.{Setting}
 use Rattle.form_reader.specs.Reader.{fed, begun, DecideNothing, IsAfter, HasBegun, Steps, StepsBegun, BeginsLater, Counts, Feeds, Advances, is_more, IsSoundStep, IsOutcome}
-use Rattle.std.proofs.lemmas.List.{length-take-le, take-append-drop}
+use Rattle.std.proofs.lemmas.List.{take-append-drop}
 use Rattle.std.specs.Prelude.{◌&&◌}
 use Rattle.std.specs.List.{list_all}
 use Rattle.lisp_reading.specs.declared.limits.Limits.{Limits}
@@ -99,28 +99,6 @@ refused_not_more number offset step more e = cc
 
 pub ok_more : (step : Advance) → ◌≡◌ {A = Result Advance AllocError} (Ok step) (Ok AdvanceMore) → step ≡ AdvanceMore
 ok_more step e = cc
-
--- What a step says of a text, where the reader holds the limits that it was handed.
-module _ (under : Limits → Setting) (held handed : Limits) (old : FormReader) (bytes : List ℕ) (k c : ℕ) (limits : held ≡ handed)
-    (is : take (k + 1) bytes ≡ take k bytes ++ c ∷ []) (after : IsAfter (under handed) old (take k bytes)) where
-  then_after : IsAfter (under held) old (take k bytes)
-  then_after = subst (λ (l : Limits). IsAfter (under l) old (take k bytes)) (sym limits) after
-
-  -- what a step says where more bytes decide
-  module _ (new : FormReader) (step : Advance) (more : step ≡ AdvanceMore)
-      (steps : IsAfter (under held) old (take k bytes) → Steps (under held) new (take k bytes ++ c ∷ []) step) where
-    told : Steps (under handed) new (take k bytes ++ c ∷ []) AdvanceMore
-    told =
-        subst (λ (s : Advance). Steps (under handed) new (take k bytes ++ c ∷ []) s) more
-        (subst (λ (l : Limits). Steps (under l) new (take k bytes ++ c ∷ []) step) limits (steps then_after))
-
-    pub byte_after : IsAfter (under handed) new (take (k + 1) bytes)
-    byte_after = subst (λ (t : List ℕ). IsAfter (under handed) new t) (sym is) told.0
-
-    pub byte_counted : k < length bytes → fed new ≡ k + 1
-    byte_counted lt =
-        let many : length (take k bytes ++ c ∷ []) ≡ length (take k bytes) + 1 = length-append (take k bytes) (c ∷ []) in
-        omega (arith, told.1, many, length-take-le k bytes (omega arith))
 
 -- ---- what holds of each byte of a text
 

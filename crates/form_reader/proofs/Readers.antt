@@ -171,13 +171,6 @@ anew_between mid new after (ChangeForm x start «end» next) (AdvanceRefused cod
 anew_between mid new after (ChangeRefused from code offset) step anew takes same is here =
     let other : AdvanceRefused code offset ≡ AdvanceMore = sym takes.0 ∙ is in cc
 
--- where a byte is passed over, the reader stays between forms
-pub passed_between : (mid new : FormReader) (after : List Frame) (change : Change) (step : Advance) (start : ℕ) → change ≡ Goes start 0 AtObject → after ≡ []
-    → Becomes change mid new step → mid.stack ≡ after → (step ≡ AdvanceMore) × IsBetween new
-passed_between mid new after change step start is none takes same =
-    let told : Becomes (Goes start 0 AtObject) mid new step = subst (λ (c : Change). Becomes c mid new step) is takes in
-    (told.0, record { at = told.2; stack = told.3 ∙ same ∙ none; state = told.4 })
-
 pub ok_change : (change known : Change) → ◌≡◌ {A = Result Change AllocError} (Ok change) (Ok known) → change ≡ known
 ok_change change known e = cc
 
