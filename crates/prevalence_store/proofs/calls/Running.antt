@@ -33,7 +33,7 @@ refused_world : (world : WorldState) (given : Result Acceptance ℕ) (number : �
 refused_world world (Err code) number = refl
 refused_world world (Ok given) number = refl
 
-stores_left : {D R : Type 0} (state : D → State) (old new : StoreView D R) (wrote : Bool) (mode : Mode) (own : List ℕ) (given : WorldState) → Stores state old new wrote mode own given → new.world ≡ Some given
+pub stores_left : {D R : Type 0} (state : D → State) (old new : StoreView D R) (wrote : Bool) (mode : Mode) (own : List ℕ) (given : WorldState) → Stores state old new wrote mode own given → new.world ≡ Some given
 stores_left state old new true mode own given stores = stores.left
 stores_left state old new false mode own given stores = stores.1
 

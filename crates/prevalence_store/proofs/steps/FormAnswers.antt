@@ -27,6 +27,7 @@ use Rattle.prevalence_store.specs.calls.Serve.{Ends, IsAfter, IsOver}
 use Rattle.prevalence_store.specs.calls.Store.{StoreView}
 use Rattle.prevalence_store.proofs.steps.Committing.{accepts-logged}
 use Rattle.prevalence_store.proofs.calls.Executing.{own_whole}
+use Rattle.prevalence_store.proofs.calls.Running.{stores_left}
 use Rattle.prevalence_store.proofs.meaning.Replaying.{stepped}
 use Rattle.prevalence_store.specs.calls.Streams.{Writes, WritesPart}
 use Rattle.prevalence_store.specs.steps.Answer.{EndsTry, IsLeft, LeavesRecord, LogsAtOnce, StopsInForm, TriesForm, answered_of}
@@ -48,10 +49,6 @@ some_line : (lines line : List ℕ) → line ≡ lines → lines ≢ [] → line
 some_line lines line same some is = some (sym same ∙ is)
 
 module _ (functions : Functions) where
-  stores_left : {D R : Type 0} (state : D → State) (old new : StoreView D R) (wrote : Bool) (mode : Mode) (own : List ℕ) (given : WorldState) → Stores state old new wrote mode own given → new.world ≡ Some given
-  stores_left state old new true mode own given stores = stores.left
-  stores_left state old new false mode own given stores = stores.1
-
   value_lines : {D R : Type 0} (new : StoreView D R) (e : Evaluated) (line : List ℕ) (given : WorldState) → new.world ≡ Some given → IsLine new (Ok e) line → line ≡ value_line given (object_of e.value)
   value_lines new e line given left is = is.line_of ∙ ap (λ u. value_line u (object_of e.value)) (sym (is.one given left))
 

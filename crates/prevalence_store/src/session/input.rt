@@ -116,7 +116,7 @@ impl Pending {
                 None => {}
             }
             count += 1;
-            match self.feed_byte(alloc, readtable, world, macros, mode, *byte)? {
+            match self.feed_byte(readtable, world, macros, mode, *byte)? {
                 Fed::Nothing => {}
                 fed => return Ok(FedPiece { fed, count }),
             }
@@ -128,7 +128,6 @@ impl Pending {
     // One byte more, under the readtable of the world.
     fn feed_byte<R: MacroFunctions>(
         &mut self,
-        alloc: Global,
         readtable: &Readtable,
         world: &World,
         macros: &R,
@@ -151,6 +150,7 @@ impl Pending {
         ensures count { fed self.new.reader ≤ fed self.old.reader + 1 }
     {
         self.text.push(byte)?;
+        let alloc = *self.text.allocator();
         match step_in(&mut self.reader, readtable, world, macros, mode, byte)? {
             Advance::More => {
                 self.discard(alloc)?;
