@@ -4,7 +4,6 @@
 //!
 //! - `lives`: a store that is opened, stopped, refused once, opened again and called again
 //! - `replicas`: two stores that are handed the same input
-//! - `keepers`: a session whose recipient keeps account of it
 //! - `migration`: a store that is opened on files of version 1
 //! - `exports`: a store that takes the export of a world
 //! - `reopened`: a store that is opened with macro functions on files of a program without any
@@ -15,8 +14,6 @@
 mod disks;
 #[cfg(test)]
 mod exports;
-#[cfg(test)]
-mod keepers;
 #[cfg(test)]
 mod lives;
 #[cfg(test)]

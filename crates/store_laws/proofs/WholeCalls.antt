@@ -7,6 +7,7 @@ use Rattle.plist_state.specs.State.{WorldState}
 use Rattle.prevalence_store.specs.Theorem.{Call, Keeps, Run, Survives, disk_after, forms_of, world_after}
 use Rattle.prevalence_store.specs.calls.ExecuteAll.{MeansAllOrNone}
 use Rattle.prevalence_store.specs.meaning.Acceptance.{after}
+use Rattle.prevalence_store.specs.meaning.Files.{MeansWorld}
 use Rattle.prevalence_store.proofs.Surviving.{after-append, still}
 use Rattle.store_laws.specs.Batches.{AreTogether, InWholeCalls, MeansCalls}
 use Rattle.user_macros.specs.Functions.{Functions}
@@ -74,11 +75,13 @@ module _ (functions : Functions) {D : Type 0} (state : D → State) (sound : (d 
   none_open [] disk later now run is = absurd (cc)
   none_open (call ∷ calls) disk later now run is = run
 
-  pub in_whole_calls : (earlier later : List (Call D)) (disk : D) (world : WorldState) → IsHonest (state disk) → Keeps functions (state disk) world → Run functions state disk (Some world) (earlier ++ later)
-      → AreTogether functions state disk (Some world) (earlier ++ later) → InWholeCalls functions state disk world earlier later
-  in_whole_calls [] later disk world honest keeps run together now is image might = (throughout later disk world honest keeps run together).each image might
-  in_whole_calls (call ∷ earlier) later disk world honest keeps run together now is image might =
-      by call.left refl run.1 together.1 is (λ mid is_honest kept ran rest ends. in_whole_calls earlier later call.disk mid is_honest kept ran rest now ends image might) where
+  -- what a crash leaves
+  at_any_moment : (earlier later : List (Call D)) (disk : D) (world : WorldState) → IsHonest (state disk) → Keeps functions (state disk) world → Run functions state disk (Some world) (earlier ++ later)
+      → AreTogether functions state disk (Some world) (earlier ++ later) → (now : WorldState) → world_after (Some world) earlier ≡ Some now
+      → (image : Image) → (state (disk_after disk (earlier ++ later))).left_since (state (disk_after disk earlier)).moment image → MeansCalls functions world (earlier ++ later) (length earlier) image
+  at_any_moment [] later disk world honest keeps run together now is image might = (throughout later disk world honest keeps run together).each image might
+  at_any_moment (call ∷ earlier) later disk world honest keeps run together now is image might =
+      by call.left refl run.1 together.1 is (λ mid is_honest kept ran rest ends. at_any_moment earlier later call.disk mid is_honest kept ran rest now ends image might) where
         survives : Survives functions (state disk) (state call.disk) world call.taken call.acknowledged call.left
         survives = run.0
 
@@ -90,3 +93,13 @@ module _ (functions : Functions) {D : Type 0} (state : D → State) (sound : (d 
         by (Some mid) left_is ran rest ends more =
             one_before world mid call (earlier ++ later) (length earlier) image (survives.after_all mid left_is)
             (more mid (subst IsTrue (sym survives.honest) honest) (survives.kept mid left_is) ran rest ends)
+
+  pub in_whole_calls : (earlier later : List (Call D)) (disk : D) (world : WorldState) → IsHonest (state disk) → Keeps functions (state disk) world → Run functions state disk (Some world) (earlier ++ later)
+      → AreTogether functions state disk (Some world) (earlier ++ later) → InWholeCalls functions state disk world earlier later
+  in_whole_calls earlier later disk world honest keeps run together = record {
+    any_moment = at_any_moment earlier later disk world honest keeps run together;
+    reopened = λ now is image crashed opened found might reads reopens.
+        let some = at_any_moment earlier later disk world honest keeps run together now is image might in
+        let same : some.left ≡ found = reopens.only some.left (subst (λ i. MeansWorld functions i some.left) (sym reads) some.meant) in
+        record { count = some.count; enough = some.enough; among = some.among; after_those = some.after_those ∙ ap Some same };
+  }

@@ -9,7 +9,8 @@ ghost use Rattle.user_macros.specs.Functions.{Functions};
 use disk_trait::Disk;
 
 /// Of calls in a row, each of which logs its forms together, a crash at any moment leaves the world after all forms of some calls, from
-/// the first on, and of none a part. `headline` says it of the forms alone, so that it allows a part of a group.
+/// the first on, and of none a part; and a store that is opened then has this world. `headline` says it of the forms alone, so that it
+/// allows a part of a group.
 ///
 /// Each call of `execute`, each of `execute_all` whose texts are together (`IsTogether`), and each time that a session hands lines on
 /// is such a call.

@@ -16,7 +16,8 @@
 //!   so (`specs/Messages.antt`)
 //! - `version_1_opens`: a store that is opened on files of version 1 has the world that they meant to version 1
 //!
-//! Lemmas in `proofs`, of which crates above cite `Outcomes`: `Events`, `Handings`, `MessagesDone`, `Outcomes`, `WholeCalls`.
+//! Lemmas in `proofs`, of which crates above cite `Outcomes`: `CutShort`, `Events`, `Handings`, `InputForms`, `MessagesDone`, `Outcomes`,
+//! `WholeCalls`.
 #![tactic(auto)]
 
 mod batch;

@@ -12,11 +12,12 @@ ghost use Rattle.store_laws.specs.Outcomes.{BreaksOff, Completes, HasForms, IsBy
 ghost use Rattle.user_macros.specs.Functions.{Functions};
 
 use disk_trait::Disk;
+use lisp_reading::forms_are_framed;
 
 /// An input has one outcome in a world and a mode, whatever disk the session is over, whatever snapshots it takes, and whether it has
 /// groups. It is what replicas rest on.
 ///
-/// - `one_count`: the number of its forms is one, and so is what comes of them.
+/// - `some_count`, `one_count`: it has a number of forms, and one alone; and so it is with what comes of them.
 /// - `completed`: a session that came to the end of its input, or to what the reader refuses in it, wrote the answers to all its forms,
 ///   and left the world after them.
 /// - `same`: so two such sessions wrote the same bytes, left the same world, and ended in the same way.
@@ -26,6 +27,8 @@ use disk_trait::Disk;
 /// - `front`: a session that a fault ended, or the want of room or memory, wrote a front of these bytes; the forms that it took are the
 ///   first of these forms.
 pub fn one_outcome<D: Disk, E: Disk, R, S>()
+    ensures some_count { (functions : Functions) (world : WorldState) (mode : Mode) (input : List ℕ)
+        → (forms : ℕ) × (far : Progress) × HasForms functions world mode input forms far }
     ensures one_count { (functions : Functions) (world : WorldState) (mode : Mode) (input : List ℕ)
         → (forms others : ℕ) (far other : Progress)
         → HasForms functions world mode input forms far
@@ -71,7 +74,9 @@ pub fn one_outcome<D: Disk, E: Disk, R, S>()
         → HasForms functions world wanted.mode input forms far
         → ServesWanted functions D.state wanted old new world (Some input) has held written (Ended.Store number)
         → BreaksOff functions D.state old new world wanted.mode input held written far forms }
-{}
+{
+    forms_are_framed();
+}
 
 /// A session with groups that comes to the end of its input, or to what the reader refuses in it, gives what one without groups gives
 /// over the same input, from the same world on: the same bytes and the same world. So does a strict one that ends at a refused form.

@@ -1,4 +1,8 @@
-use Rattle.store_laws.proofs.Outcomes.{both_complete, both_stop, completed, front_of_all, one_count, stopped}
+use Rattle.std.proofs.Common.{arith}
+use Rattle.prevalence_store.specs.meaning.Acceptance.{setting_in}
+use Rattle.store_laws.proofs.CutShort.{front_of_all}
+use Rattle.store_laws.proofs.InputForms.{one_count, some_count}
+use Rattle.store_laws.proofs.Outcomes.{both_complete, both_stop, completed, stopped}
 use Rattle.store_laws.proofs.outcome.one_outcome.Goals as goal
 
 pub returns-clause-one_count : goal.returns-clause-one_count
@@ -28,3 +32,10 @@ returns-clause-both_stopped g c = λ functions wanted other old new before later
     both_stop functions g.D.Disk.state g.E.Disk.state old new before later world wanted.mode other.mode input held written others_held others_written mode
     (stopped functions g.D.Disk.state old new world wanted input has held written number place served)
     (stopped functions g.E.Disk.state before later world other input others_has others_held others_written code others_place others_served)
+
+pub returns-clause-some_count : goal.returns-clause-some_count
+returns-clause-some_count g c = λ functions world mode input.
+    some_count functions world mode
+    (λ left text object start stop next read.
+    let framed = c.forms_are_framed.ensures (setting_in functions left mode) text object start stop next read in (omega (arith, framed.some, framed.after), framed.inside))
+    input

@@ -1,2 +1,0 @@
--- the account that a recipient of these tests keeps
-pub mod Keepers

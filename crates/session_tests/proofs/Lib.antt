@@ -1,0 +1,2 @@
+-- a session whose recipient keeps account of it
+pub mod Keeping

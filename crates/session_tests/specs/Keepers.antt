@@ -1,0 +1,64 @@
+-- What a recipient keeps of its session, the account that this is, and the lines that it comes of.
+use Rattle.std.specs.Prelude.{◌≡◌, ℕ, List, Option, Some, unwrap_or, refl}
+use Rattle.std.specs.Coded.{Coded, code_by, coded×, coded_ℕ, coded_list, coded_option}
+use Rattle.std.specs.Option.{option_map}
+use Rattle.disk_trait.specs.Disk.{State}
+use Rattle.plist_state.specs.State.{initial}
+use Rattle.prevalence_store.specs.calls.Account.{Account, first_account}
+use Rattle.prevalence_store.specs.calls.Store.{StoreView, store_view_code}
+use Rattle.session_words.specs.declared.mode.Mode.TheVariants.{Current}
+use Rattle.store_laws.specs.Sessions.{AreHanded, Handing, account_after}
+use Rattle.user_macros.specs.Functions.{Functions}
+
+-- The bytes that it was handed; the store and the input as its session began; of how many forms the lines were, if these could be
+-- counted; and the store as the last of them were handed on.
+pub record KeeperView (D R : Type 0) : Type 0 where
+  pub bytes : List ℕ
+  pub start : StoreView D R
+  pub input : Option (List ℕ)
+  pub forms : Option ℕ
+  pub last : StoreView D R
+
+abbrev pub keeper_code : {D R : Type 0} → Coded D → Coded R → Coded (KeeperView D R)
+keeper_code {D} {R} disk macros =
+    code_by (List ℕ × (StoreView D R × (Option (List ℕ) × (Option ℕ × StoreView D R))))
+    (coded× (coded_list coded_ℕ) (coded× (store_view_code disk macros) (coded× (coded_option (coded_list coded_ℕ)) (coded× (coded_option coded_ℕ) (store_view_code disk macros)))))
+    (λ k. (k.bytes, (k.start, (k.input, (k.forms, k.last)))))
+    (λ p. record { bytes = p.0; start = p.1.0; input = p.1.1.0; forms = p.1.1.1.0; last = p.1.1.1.1 })
+    (λ _. refl)
+
+-- ---- its account
+
+-- as a session in the mode Current begins over this store and input
+abbrev pub began_with : {D R : Type 0} → (start : StoreView D R) → Option (List ℕ) → Account D
+began_with start input = first_account (unwrap_or start.world initial) Current input start.disk
+
+-- and after the lines of so many forms, the last of them with this store
+abbrev pub kept_by : {D R : Type 0} → (start : StoreView D R) → Option (List ℕ) → (last : StoreView D R) → ℕ → Account D
+kept_by start input last forms = record {
+  first = unwrap_or start.world initial;
+  mode = Current;
+  input = input;
+  forms = forms;
+  now = unwrap_or last.world initial;
+  disk = last.disk;
+}
+
+abbrev pub first_of : {D R : Type 0} → KeeperView D R → Account D
+first_of keeper = began_with keeper.start keeper.input
+
+abbrev pub account_of : {D R : Type 0} → KeeperView D R → Option (Account D)
+account_of keeper = option_map (kept_by keeper.start keeper.input keeper.last) keeper.forms
+
+-- ---- the lines that it comes of
+
+-- One account comes after the other by lines that were handed on, each as the recipient asks.
+pub record ComesOf (functions : Functions) {D : Type 0} (R : Type 0) (state : D → State) (first account : Account D) : Type 0 where
+  pub handings : List (Handing D R)
+  pub handed : AreHanded functions state first handings
+  pub is : account_after first handings ≡ account
+
+-- so does that of a recipient which has these
+abbrev pub IsKept : Functions → {D R : Type 0} → (D → State) → (start : StoreView D R) → Option (List ℕ) → (last : StoreView D R) → Option ℕ → Type 0
+IsKept functions {D} {R} state start input last forms =
+    (kept : Account D) → option_map (kept_by start input last) forms ≡ Some kept → ComesOf functions R state (began_with start input) kept
