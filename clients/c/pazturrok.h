@@ -93,7 +93,8 @@ int pazturrok_execute_all(pazturrok_store store, int mode, const char *const *te
 
 /* Gives the position: the number of the last message of which the store holds what it wrote, and of every one before it. Whoever opens
    a store again sends what is over its position once more: nothing is done twice, and nothing is left out. In a store that never had
-   a message it is 0, which is logged. 52 where the property that is to be the position is no number. */
+   a message it is 0, which is logged. 52 where the property that is to be the position is no number, or
+   the name `position` stands for another symbol. */
 int pazturrok_position(pazturrok_store store, uint64_t *position);
 
 /* Carries out messages, one after the other, whether one is refused or not. Each is read as the store reads, and sees the world without

@@ -23,7 +23,7 @@ use Rattle.prevalence_store.specs.calls.ExecuteAll.{AllOrNone, LogsAll}
 use Rattle.prevalence_store.specs.calls.Store.{StoreView}
 use Rattle.prevalence_store.specs.meaning.Acceptance.{accepts, after, read_in}
 use Rattle.prevalence_store.specs.messages.Answers.{Round, answered, begun, each_request}
-use Rattle.prevalence_store.specs.messages.Position.{own_form, own_text, position, position_property}
+use Rattle.prevalence_store.specs.messages.Position.{is_hidden, own_form, own_text, position, position_property}
 use Rattle.prevalence_store.specs.messages.Rounds.{told_in}
 use Rattle.prevalence_store.specs.steps.Failure.{failure_number, is_device}
 use Rattle.user_macros.specs.Functions.{Functions}
@@ -108,13 +108,16 @@ module _ (functions : Functions) {D R : Type 0} (state : D → State) (old new :
   abbrev pub SetsFirst : Type 0
   SetsFirst = (value : Object) × IsAccepted functions state old new world Rescue (own_text (Position 0)) value
 
-  -- What `begin_messages` answers: the position, which is there or was set to 0.
+  -- What `begin_messages` answers: the position, which is there or was set to 0. Another symbol's property is never set.
   abbrev pub BeginsMessages : Result ℕ ℕ → Type 0
-  BeginsMessages (Ok number) = ((position world ≡ Some number) × (new ≡ old)) ⊎ ((number ≡ 0) × (position_property world ≡ None) × SetsFirst)
+  BeginsMessages (Ok number) =
+      ((position world ≡ Some number) × (new ≡ old)) ⊎ ((number ≡ 0) × (position_property world ≡ None) × (is_hidden world ≡ false) × SetsFirst)
   BeginsMessages (Err number) =
       ((number ≡ NO_POSITION) × (position world ≡ None) × IsSome (position_property world) × (new ≡ old))
+      ⊎ (((number ≡ NO_POSITION) × (position_property world ≡ None) × (is_hidden world ≡ true) × (new ≡ old))
       ⊎ (((number ≡ NO_MEMORY) × (new ≡ old))
-      ⊎ ((position_property world ≡ None) × Executes functions state old new world Rescue (own_text (Position 0)) (Refused number)))
+      ⊎ ((position_property world ≡ None) × (is_hidden world ≡ false)
+      × Executes functions state old new world Rescue (own_text (Position 0)) (Refused number))))
 
   -- what a round does, by the failure
   abbrev pub TakesRound : ℕ → List Request → Result Replies Failure → Type 0

@@ -1,8 +1,10 @@
 -- The position: a property of the world, and the two forms of the store's own that take it out and put it in.
-use Rattle.std.specs.Prelude.{ℕ, ◌^◌, nat_lt, pos, negsuc, if◌then◌else◌, List, ◌++◌, Option, None, Some, codes, decimal}
+use Rattle.std.specs.Prelude.{ℕ, ◌^◌, nat_lt, pos, negsuc, Bool, false, not, if◌then◌else◌, bytes_eq, List, ◌++◌, Option, None, Some, Result, Ok, Err, codes, decimal}
 use Rattle.std.specs.Option.{option_and_then}
 use Rattle.lisp_object.specs.Object.{Object, integer, symbol, pair, nil}
+use Rattle.package_table.specs.Resolving.{Resolution, found_at, new_in, resolution}
 use Rattle.package_table.specs.Table.{common_lisp, common_lisp_user}
+use Rattle.package_table.specs.declared.error.PackageError.{PackageError}
 use Rattle.plist_state.specs.Properties.{Symbol}
 use Rattle.plist_state.specs.Changes.{property, with_property, without_property}
 use Rattle.plist_state.specs.State.{WorldState}
@@ -23,6 +25,16 @@ number_in _ = None
 
 abbrev pub position : WorldState → Option ℕ
 position world = option_and_then number_in (position_property world)
+
+-- whether a name in COMMON-LISP-USER stands for a symbol of another home, by what it stands for
+abbrev pub is_of_another : Result Resolution PackageError → Bool
+is_of_another (Ok (found_at home)) = not (bytes_eq home common_lisp_user)
+is_of_another (Ok (new_in home)) = false
+is_of_another (Err error) = false
+
+-- whether the name of the position's symbol stands for another one
+abbrev pub is_hidden : WorldState → Bool
+is_hidden world = is_of_another (resolution world.packages common_lisp_user (codes "position"))
 
 abbrev pub without_position : WorldState → WorldState
 without_position world = without_property world position_symbol position_symbol

@@ -2,9 +2,10 @@
 ghost use Rattle.std.specs.Prelude.{◌≡◌, IfOk, IfSome, is_some, true};
 ghost use Rattle.std.specs.Option.{option_map};
 ghost use Rattle.lisp_object.specs.Datum.{is_proper, object_of};
-ghost use Rattle.prevalence_store.specs.messages.Position.{number_in, position, position_property};
+ghost use Rattle.prevalence_store.specs.messages.Position.{is_hidden, number_in, position, position_property};
 
 use lisp_object::Datum;
+use package_table::Resolved;
 use plist_state::{Symbol, World};
 use std::alloc::{AllocError, Global};
 use std::marker::Model;
@@ -47,6 +48,18 @@ impl Place {
         ensures { result ≡ is_some (position_property world.now.0) }
     {
         self.value(world).is_some()
+    }
+
+    /// Whether the name of the symbol stands for another one in COMMON-LISP-USER.
+    pub(crate) fn is_hidden(&self, world: &World) -> bool
+        ensures { result ≡ is_hidden world.now.0 }
+    {
+        world.soundness();
+        match world.packages().resolve(b"COMMON-LISP-USER", b"position") {
+            Ok(Resolved::Found(home)) => home != b"COMMON-LISP-USER".as_slice(),
+            Ok(Resolved::New(_)) => false,
+            Err(_) => false,
+        }
     }
 
     /// The number that stands there.

@@ -6,7 +6,7 @@ pub const OLD_NUMBER: u16 = 50;
 /// The number of a refusal: a question would write.
 pub const QUESTION_WRITES: u16 = 51;
 
-/// The number of a refusal: the property that is to be the position is no number of 64 bits.
+/// The number of a refusal: the property that is to be the position is no number of 64 bits, or its name stands for another symbol.
 pub const NO_POSITION: u16 = 52;
 
 /// A message with its number, or a question.

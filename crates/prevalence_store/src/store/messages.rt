@@ -4,7 +4,7 @@ ghost use Rattle.std.specs.Option.{option_and_then};
 ghost use Rattle.lisp_object.specs.declared.refusal.TheConstants.{REOPEN as NOT_OPEN};
 ghost use Rattle.plist_state.specs.State.{WorldState};
 ghost use Rattle.prevalence_store.specs.messages.Calls.{AnswersRequests, BeginsMessages, TakesRound};
-ghost use Rattle.prevalence_store.specs.messages.Position.{position, position_property};
+ghost use Rattle.prevalence_store.specs.messages.Position.{is_hidden, position, position_property};
 ghost use Rattle.prevalence_store.specs.steps.Failure.{is_device};
 ghost use Rattle.user_macros.specs.Functions.{are_registered};
 
@@ -39,8 +39,9 @@ impl<D: Disk, R: MacroFunctions> Store<D, R> {
     ///
     /// # Errors
     ///
-    /// 61 after an earlier device fault; 52 if the property that is to be the position is no number of 64 bits; else, of the form
-    /// that sets it to 0, as `execute` says. After 60 the store has to be opened again, after any other it is as it was.
+    /// 61 after an earlier device fault; 52 if the property that is to be the position is no number of 64 bits, or if its name stands
+    /// for another symbol in COMMON-LISP-USER; else, of the form that sets it to 0, as `execute` says. After 60 the store has to be
+    /// opened again, after any other it is as it was.
     pub fn begin_messages(&mut self) -> Result<u64, u16>
         requires answers { R.answers self.old.macros }
         requires whole { are_registered R.Meaning.functions (R.functions self.old.macros) ≡ true }
@@ -59,16 +60,17 @@ impl<D: Disk, R: MacroFunctions> Store<D, R> {
         match place.number(&self.world) {
             Some(number) => Ok(number),
             None if place.is_taken(&self.world) => Err(NO_POSITION),
+            None if place.is_hidden(&self.world) => Err(NO_POSITION),
             None => self.set_first_position(),
         }
     }
 
-    // Makes 0 the position, which is not there.
+    // Makes 0 the position, which is not there, and whose name stands for no other symbol.
     fn set_first_position(&mut self) -> Result<u64, u16>
         requires answers { R.answers self.old.macros }
         requires whole { are_registered R.Meaning.functions (R.functions self.old.macros) ≡ true }
         ensures begins { (world : WorldState) → self.old.world ≡ Some world
-            → position_property world ≡ None
+            → position_property world ≡ None → is_hidden world ≡ false
             → BeginsMessages R.Meaning.functions D.state self.old self.new world result }
         ensures honest { (D.state self.new.disk).honest ≡ (D.state self.old.disk).honest }
         ensures macros { self.new.macros ≡ self.old.macros }
@@ -89,8 +91,8 @@ impl<D: Disk, R: MacroFunctions> Store<D, R> {
     /// # Errors
     ///
     /// 61 after an earlier device fault; 64 if the half has no room for them, 90 if a growth was refused, and any number under which
-    /// a form of the store's own is refused, 52 if it is read as another one: the store is then as it was. After 60 it has to be
-    /// opened again.
+    /// a form of the store's own is refused, 52 if it is read as another one or a symbol of it is not there: the store is then as it
+    /// was. After 60 it has to be opened again.
     pub fn answer_requests(&mut self, last: u64, requests: &[Request<'_>]) -> Result<Replies, u16>
         requires answers { R.answers self.old.macros }
         requires whole { are_registered R.Meaning.functions (R.functions self.old.macros) ≡ true }
