@@ -226,6 +226,11 @@ with tempfile.TemporaryDirectory() as room:
     it.step("the way back", "(COPY-READTABLE NIL :USER)\n", ":USER\n", WELCOME + "> > ")
     it.end("its end", CONTROL_D, "", "\n", 0)
 
+    it = Terminal("run", store, "--quiet")
+    it.step("refusals alone", "(GET 'A 'B)\n(FROB)\n(GET 'A 'B)\n", "! 31 UNKNOWN-OPERATOR\n", WELCOME + "> > " + UNKNOWN_OPERATOR + "> > ")
+    it.step("a refusal by the reader", ")\n", "! 4 STRAY-CLOSE\n", REFUSED % (4, 1, "4 STRAY-CLOSE", 4, 4, 1) + DROPPED + "> ")
+    it.end("and their count", CONTROL_D, "", "\nanswers 4 refusals 2\n", 0)
+
     it = Terminal("verify", store)
     it.end("another command asks for nothing", "", "half A generation 1 records 9\n", "", 0)
 

@@ -74,15 +74,15 @@ counting true mode n = wanting mode 0 n false false
 -- ---- what is found of a session
 
 -- of an option, its value, from the words or by default
-abbrev given : Text → Text → ValueSource → Row
+abbrev pub given : Text → Text → ValueSource → Row
 given id value source = record { id = id; values = value ∷ []; count = None; source = Some source; reading = AsWritten }
 
 -- of a flag, if it is there, and if it is not
-abbrev set_rows : Text → Bool → List Row
+abbrev pub set_rows : Text → Bool → List Row
 set_rows id false = []
 set_rows id true = given id (codes "true") CommandLine ∷ []
 
-abbrev other_rows : Text → Bool → List Row
+abbrev pub other_rows : Text → Bool → List Row
 other_rows id false = given id (codes "false") DefaultValue ∷ []
 other_rows id true = []
 
@@ -276,7 +276,7 @@ module _ (program : Text) (x : ℕ) (xs : Text) (e : (x == 45) ≡ false) where
     asked = ap (option_and_then asked_of) (number_found ratio y ys d mode) ∙ asked_of_number ratio (x ∷ xs) (y ∷ ys) mode;
   }
 
-differs : (x y : ℕ) → x ≢ y → (x == y) ≡ false
+pub differs : (x y : ℕ) → x ≢ y → (x == y) ≡ false
 differs x y apart = search rules
 
 -- a decimal number in the range is taken, and is the number that is meant
@@ -284,19 +284,19 @@ module _ (y : ℕ) (ys : Text) (numeral : IsNumeral 10 (y ∷ ys)) where
   no_plus : y ≢ 43
   no_plus is = let digit = digit_from_value y numeral.1.0 in absurd (omega (arith, digit))
 
-  no_hyphen : y ≢ 45
+  pub no_hyphen : y ≢ 45
   no_hyphen is = let digit = digit_from_value y numeral.1.0 in absurd (omega (arith, digit))
 
   bare : without_leading_plus (y ∷ ys) ≡ y ∷ ys
   bare = rw (differs y 43 no_plus) refl
 
-  in_range : (low high n : ℕ) → digits_value 10 (y ∷ ys) ≡ n → low ≤ n → n ≤ high → n < 2 ^ 64 → is_unsigned_in low high (y ∷ ys) ≡ true
+  pub in_range : (low high n : ℕ) → digits_value 10 (y ∷ ys) ≡ n → low ≤ n → n ≤ high → n < 2 ^ 64 → is_unsigned_in low high (y ∷ ys) ≡ true
   in_range low high n is above below fits =
       let within : (number : Text) → number ≡ y ∷ ys → IsNumeral 10 number × (digits_value 10 number < 2 ^ 64) × (low ≤ digits_value 10 number) × (digits_value 10 number ≤ high) =
       λ number same. rw (same, is) (numeral, fits, above, below) in
       Accepts-accepts false (Unsigned low high) (y ∷ ys) (within (without_leading_plus (y ∷ ys)) bare)
 
-  number_is : (n : ℕ) → digits_value 10 (y ∷ ys) ≡ n → n < 2 ^ 64 → given_number (Some (y ∷ ys)) ≡ n
+  pub number_is : (n : ℕ) → digits_value 10 (y ∷ ys) ≡ n → n < 2 ^ 64 → given_number (Some (y ∷ ys)) ≡ n
   number_is n is fits = rw (in_range 0 (2 ^ 64 - 1) n is (omega arith) (omega (arith, fits)) fits) (ap (digits_value 10) bare ∙ is)
 
 fits : (ratio : Bool) (n : ℕ) → n ≤ most ratio → n < 2 ^ 64
@@ -350,7 +350,7 @@ memory_alone words kind none (inl memory) = memory
 memory_alone words kind none (inr among) = absurd (subst (IsAmong kind) none among)
 
 -- what clap refuses is refused
-among_first : (first next : Kinds) (kind : ErrorKind) → IsAmong kind first → IsAmong kind (or_else first next)
+pub among_first : (first next : Kinds) (kind : ErrorKind) → IsAmong kind first → IsAmong kind (or_else first next)
 among_first [] next kind none = absurd none
 among_first (k ∷ ks) next kind among = among
 

@@ -1,4 +1,5 @@
 pub mod CommandLineLaws
 pub mod FoundLooks
 pub mod FoundWords
+pub mod MessageLaws
 pub mod Options

@@ -3,7 +3,7 @@ use Rattle.std.specs.Prelude.{◌==◌, ◌&&◌, ◌||◌, ℕ, Bool, false, no
 use Rattle.std.specs.List.{before_first}
 use Rattle.clap.specs.Words.{Text}
 use Rattle.command_words.specs.declared.way.Way.{Way}
-use Rattle.command_words.specs.declared.way.Way.TheVariants.{Serve, See, Look, Check}
+use Rattle.command_words.specs.declared.way.Way.TheVariants.{Serve, Messages, See, Look, Check}
 
 -- a word is an option, alone or before an equals sign and its value
 abbrev pub is_option : Text → Text → Bool
@@ -38,7 +38,8 @@ way_of_command command options =
     else (if bytes_eq command (codes "check") then Check
     else (if bytes_eq command (codes "help") then way_of_help options
     else (if bytes_eq command (codes "dump") && (has_option (codes "--at") options || asks_for_help options) then Look
-    else (if is_report command && has_option (codes "--existing") options then See else Serve))))
+    else (if is_report command && has_option (codes "--existing") options then See
+    else (if bytes_eq command (codes "run") && has_option (codes "--messages") options then Messages else Serve)))))
 
 -- the words of the command line, of which the first is the program's name
 abbrev pub way_of : List Text → Way

@@ -5,7 +5,7 @@ ghost use Rattle.clap.specs.declared.builder.command.Command.TheViews.{out-Comma
 ghost use Rattle.command_words.specs.CheckLine.{check_line, checking_line, file_given, AsksToCheck, Finds};
 
 use crate::help::{CHECK_HELP, CHECK_USAGE};
-use crate::looks::bare_command;
+use crate::look_lines::bare_command;
 use crate::rules::option;
 use clap::error::ErrorKind;
 use clap::{Arg, ArgAction, ArgMatches, Command, Error};

@@ -2,9 +2,10 @@
 //! [--snapshot-ratio R] [--quiet]`, `snapshot DIR`, `upgrade DIR`, `export DIR [--data]`, `dump DIR` and `verify DIR`, each with `--existing`.
 //!
 //! `way_of` (module `way`) tells how what they ask for is carried out, and who has them. `asked_in` (module `words`) finds one of these
-//! commands, its folder and its options, or the error of `clap`; `looked_in` (module `looks`) does so for the commands that only look
-//! into a store, and `checked_in` (module `check`) for the one that looks into a file. `help` has the texts of the help, `tips` the tip for
-//! a command that there is not, and `rules` what the command lines are made of.
+//! commands, its folder and its options, or the error of `clap`. So do `messages_in` (module `messages`) for `run DIR --messages`,
+//! `looked_in` (modules `looks` and `look_lines`) for the commands that only look into a store, and `checked_in` (module `check`) for the
+//! one that looks into a file. `help` has the texts of the help, `tips` the tip for a command that there is not, and `rules` what the
+//! command lines are made of.
 //!
 //! # Laws for the crates above
 //!
@@ -14,7 +15,9 @@
 
 mod check;
 mod help;
+mod look_lines;
 mod looks;
+mod messages;
 mod rules;
 mod tips;
 mod way;
@@ -22,5 +25,6 @@ mod words;
 
 pub use check::{Check, checked_in};
 pub use looks::{Look, Looked, RecordPlace, Records, Shown, looked_in};
+pub use messages::{Messages, messages_in};
 pub use way::{Way, asks_for_quiet, way_of};
 pub use words::{Asked, Report, Task, asked_in};

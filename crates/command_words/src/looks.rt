@@ -1,17 +1,12 @@
 // The words of the commands that only look into a store: `show`, `info`, `log` and `backup`, and `dump --at N`.
-ghost use Rattle.std.specs.Prelude.{◌≡◌, false, map, IfOk, Some};
+ghost use Rattle.std.specs.Prelude.{◌≡◌, map, IfOk, Some};
 ghost use Rattle.std.specs.Char.{is_ascii_digit};
 ghost use Rattle.std.specs.List.{list_all};
-ghost use Rattle.clap.specs.Words.{app_of, first_of, found_of, rows_of, subcommand_rows_of};
-ghost use Rattle.clap.specs.declared.builder.command.Command.TheViews.{out-Command as fields_of};
-ghost use Rattle.command_words.specs.LookLine.{backup_line, digits_of, dump_line, log_line, looking_line, place_given, place_of, show_line, telling_line, number_of, AreRecords, AsksToLook, Finds, IsLook, IsLooked, IsShown};
-ghost use Rattle.command_words.specs.Rules.{bare_line, folder_line};
+ghost use Rattle.clap.specs.Words.{first_of, found_of, rows_of, subcommand_rows_of};
+ghost use Rattle.command_words.specs.LookLine.{digits_of, place_given, place_of, number_of, AreRecords, AsksToLook, Finds, IsLook, IsLooked, IsShown};
 
-use crate::help::{
-    BACKUP_HELP, BACKUP_USAGE, DUMP_HELP, DUMP_USAGE, INFO_HELP, INFO_USAGE, LOG_HELP, LOG_USAGE,
-    SHOW_HELP, SHOW_USAGE, USAGE,
-};
-use crate::rules::{DIRECTORY, Help, PROGRAM, flag, flag_is_set, folder_command, option, place};
+use crate::look_lines::looking_command;
+use crate::rules::{DIRECTORY, flag_is_set};
 use crate::words::DUMP;
 use clap::error::ErrorKind;
 use clap::{ArgMatches, Command, Error};
@@ -26,21 +21,21 @@ pub(crate) const LOG: &str = "log";
 
 pub(crate) const BACKUP: &str = "backup";
 
-const PACKAGE: &str = "package";
+pub(crate) const PACKAGE: &str = "package";
 
-const INDICATOR: &str = "indicator";
+pub(crate) const INDICATOR: &str = "indicator";
 
-const LIKE: &str = "like";
+pub(crate) const LIKE: &str = "like";
 
-const FORMS: &str = "forms";
+pub(crate) const FORMS: &str = "forms";
 
-const FROM: &str = "from";
+pub(crate) const FROM: &str = "from";
 
-const AT: &str = "at";
+pub(crate) const AT: &str = "at";
 
-const PLACES: &str = "places";
+pub(crate) const PLACES: &str = "places";
 
-const DESTINATION: &str = "DEST";
+pub(crate) const DESTINATION: &str = "DEST";
 
 /// What is looked at.
 #[derive(Clone, Copy, Debug)]
@@ -282,124 +277,4 @@ fn place_by<'a>(
         Some(place) => Ok(place),
         None => Err(Mistake::NoPlace(option, value)),
     }
-}
-
-// The program with these commands alone.
-fn looking_command<'a>(alloc: Global) -> Result<Command<'a>, AllocError>
-    ensures { IfOk result (λ command. app_of command ≡ looking_line) }
-{
-    let with_log = telling_command(alloc)?;
-    let backup = backup_command(alloc)?;
-    let with_backup = with_log.subcommand(backup)?;
-    let dump = dump_command(alloc)?;
-    with_backup.subcommand(dump)
-}
-
-// The program with those that tell something alone.
-fn telling_command<'a>(alloc: Global) -> Result<Command<'a>, AllocError>
-    ensures { IfOk result (λ command. app_of command ≡ telling_line) }
-{
-    let show = show_command(alloc)?;
-    let with_show = bare_command(alloc).subcommand(show)?;
-    let help = Help {
-        about: "Tells figures of a store and of its files",
-        usage: INFO_USAGE,
-        end: INFO_HELP,
-    };
-    let info = store_command(alloc, INFO, help)?;
-    let with_info = with_show.subcommand(info)?;
-    let log = log_command(alloc)?;
-    with_info.subcommand(log)
-}
-
-// The program without its commands, of which one has to be there.
-pub(crate) fn bare_command<'a>(alloc: Global) -> Command<'a>
-    ensures line { app_of result ≡ bare_line }
-    ensures local { (fields_of result).has_globals ≡ false }
-{
-    Command::new(alloc, PROGRAM)
-        .override_usage(USAGE)
-        .subcommand_required(true)
-}
-
-// A command with its folder, into which it only looks.
-fn store_command<'a>(
-    alloc: Global,
-    name: &'a str,
-    help: Help<'a>,
-) -> Result<Command<'a>, AllocError>
-    ensures line { IfOk result (λ command. app_of command ≡ folder_line name.entry.now) }
-    ensures local { IfOk result (λ command. (fields_of command).has_globals ≡ false) }
-{
-    folder_command(
-        alloc,
-        name,
-        help,
-        "The folder of the store",
-        "Refuse a folder that holds no store, and only look",
-    )
-}
-
-fn show_command<'a>(alloc: Global) -> Result<Command<'a>, AllocError>
-    ensures line { IfOk result (λ command. app_of command ≡ show_line) }
-    ensures local { IfOk result (λ command. (fields_of command).has_globals ≡ false) }
-{
-    let help = Help {
-        about: "Shows properties of a store, as lines or as forms",
-        usage: SHOW_USAGE,
-        end: SHOW_HELP,
-    };
-    let command = store_command(alloc, SHOW, help)?;
-    let help = "Those of the symbols of this package";
-    let command = command.arg(option(alloc, PACKAGE, "NAME", help))?;
-    let help = "Those with an indicator of this name";
-    let command = command.arg(option(alloc, INDICATOR, "NAME", help))?;
-    let help = "Those of symbols whose names have this text";
-    let command = command.arg(option(alloc, LIKE, "NAME", help))?;
-    command.arg(flag(alloc, FORMS, "Write the forms that set them"))
-}
-
-fn log_command<'a>(alloc: Global) -> Result<Command<'a>, AllocError>
-    ensures line { IfOk result (λ command. app_of command ≡ log_line) }
-    ensures local { IfOk result (λ command. (fields_of command).has_globals ≡ false) }
-{
-    let help = Help {
-        about: "Writes the records of the half in use, a line each",
-        usage: LOG_USAGE,
-        end: LOG_HELP,
-    };
-    let command = store_command(alloc, LOG, help)?;
-    let help = "From this record on, counted from 1; G.N is that of generation G";
-    let command = command.arg(option(alloc, FROM, "N", help))?;
-    let help = "Write each number with the generation of the half before it, as G.N";
-    command.arg(flag(alloc, PLACES, help))
-}
-
-fn backup_command<'a>(alloc: Global) -> Result<Command<'a>, AllocError>
-    ensures line { IfOk result (λ command. app_of command ≡ backup_line) }
-    ensures local { IfOk result (λ command. (fields_of command).has_globals ≡ false) }
-{
-    let help = Help {
-        about: "Makes a new store with the world of a store",
-        usage: BACKUP_USAGE,
-        end: BACKUP_HELP,
-    };
-    let command = store_command(alloc, BACKUP, help)?;
-    let help = "The folder of the new store, which must not be there";
-    command.arg(place(alloc, DESTINATION, help))
-}
-
-fn dump_command<'a>(alloc: Global) -> Result<Command<'a>, AllocError>
-    ensures line { IfOk result (λ command. app_of command ≡ dump_line) }
-    ensures local { IfOk result (λ command. (fields_of command).has_globals ≡ false) }
-{
-    let help = Help {
-        about: "Writes the text of the world",
-        usage: DUMP_USAGE,
-        end: DUMP_HELP,
-    };
-    let command = store_command(alloc, DUMP, help)?;
-    let help =
-        "The world after the first N records of the half in use; G.N of that of generation G";
-    command.arg(option(alloc, AT, "N", help))
 }

@@ -12,6 +12,8 @@ use std::convert::AsStr;
 pub enum Way {
     /// Over the files of a folder: `asked_in` has the words.
     Serve,
+    /// The same, of messages in frames: `messages_in` has the words.
+    Messages,
     /// Over what these files hold at one moment: `asked_in` has the words.
     See,
     /// By a look into them: `looked_in` has the words.
@@ -49,6 +51,9 @@ fn way_of_command<S: AsStr>(command: &str, options: &[S]) -> Way
     }
     if is_report(command) && has_option(options, "--existing") {
         return Way::See;
+    }
+    if command == RUN && has_option(options, "--messages") {
+        return Way::Messages;
     }
     Way::Serve
 }

@@ -45,7 +45,7 @@ const GROUP: &str = "group";
 
 const QUIET: &str = "quiet";
 
-const EVERY: &str = "snapshot-every";
+pub(crate) const EVERY: &str = "snapshot-every";
 
 const RATIO: &str = "snapshot-ratio";
 
@@ -102,7 +102,8 @@ fn store_command<'a>(
     )
 }
 
-fn every_option<'a>(alloc: Global) -> Arg<'a>
+/// `--snapshot-every N`.
+pub(crate) fn every_option<'a>(alloc: Global) -> Arg<'a>
     ensures { (rule_of result ≡ every_rule) × (result.global ≡ false) }
 {
     let help = "Take a snapshot after each N forms that write, N from 1 to 1,000,000";
@@ -256,8 +257,8 @@ fn content_for(flag: Option<&str>) -> Content
     }
 }
 
-// The number of an option on snapshots; 0 where it is not given.
-fn number_in(found: &ArgMatches<'_>, option: &str) -> u64
+/// The number of an option on snapshots; 0 where it is not given.
+pub(crate) fn number_in(found: &ArgMatches<'_>, option: &str) -> u64
     ensures { result ≡ number_in option.now (rows_of (found_of found.now)) }
 {
     found.get_one::<u64>(option).unwrap_or(0)
@@ -304,8 +305,8 @@ fn asked_by<'a>(matches: &ArgMatches<'a>) -> Option<Asked<'a>>
     })
 }
 
-// The words passed, and yet no command with its folder was found.
-fn nothing_asked(command: &mut Command<'_>) -> Error
+/// The words passed, and yet no command with its folder was found.
+pub(crate) fn nothing_asked(command: &mut Command<'_>) -> Error
     ensures { (kind_of result ≡ OutOfMemory) ⊎ (kind_of result ≡ MissingRequiredArgument) }
 {
     match command.error(ErrorKind::MissingRequiredArgument, "no command was given") {

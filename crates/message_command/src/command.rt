@@ -1,24 +1,22 @@
 // A session of messages, as the words ask.
 ghost use Rattle.std.specs.Prelude.{◌≡◌, ◌<◌, ◌-◌, ◌^◌};
 
-use crate::words::{Asked, asked_in};
+use command_words::{Messages, messages_in};
 use disk_trait::{Disk, HostError};
 use lisp_object::refusal::INPUT;
 use message_session::{Ended, serve_messages};
 use plist_state::Seed;
-use prevalence_store::{NO_POSITION, Store};
-use std::alloc::Global;
+use prevalence_store::NO_POSITION;
 use std::convert::AsStr;
 use std::fmt::Write as WriteText;
 use std::io::{Read, Write};
 use std::random::RandomSource;
 use store_commands::{
-    Folders, HALF_LIMIT, Status, TellsCause, Told, answer_words, end_with, end_with_told,
-    open_folder,
+    Folders, Opening, Status, TellsCause, Told, answer_words, end_with, end_with_told, open_folder,
 };
 use user_macros::MacroFunctions;
 
-/// Serves the frames of an input over the store in a folder, as the words ask (`asks_for_messages`), and answers how that ended. The first
+/// Serves the frames of an input over the store in a folder, as the words ask (`Way::Messages` of `command_words`), and answers how that ended. The first
 /// word is the program's name. What ends the session is told on `faults`.
 pub fn run_messages<R, M, S, I, O, F>(
     rt: &R,
@@ -37,8 +35,8 @@ where
     F: Write,
     requires answers { M.answers macros }
 {
-    match asked_in(rt.alloc(), words) {
-        Ok(asked) => serve_asked(rt, macros, asked, input, output, faults),
+    match messages_in(rt.alloc(), words) {
+        Ok(messages) => serve_asked(rt, macros, messages, input, output, faults),
         Err(error) => {
             let status = answer_words(&error, output, faults);
             end_with(faults, status)
@@ -50,7 +48,7 @@ where
 fn serve_asked<R, M, I, O, F>(
     rt: &R,
     macros: M,
-    asked: Asked<'_>,
+    messages: Messages<'_>,
     input: &mut I,
     output: &mut O,
     faults: &mut F,
@@ -66,31 +64,27 @@ where
     let Ok(seed) = Seed::draw(rt) else {
         return end_with(faults, Status::Fault(INPUT));
     };
-    let disk = match open_folder(rt, asked.folder, asked.existing) {
+    let disk = match open_folder(rt, messages.folder, messages.existing) {
         Ok(disk) => disk,
         Err(error) => {
             let status = Status::of_host(&error);
             return end_with_told(faults, status, &Told::Cause(error));
         }
     };
-    let (ended, disk) = serve_on(
-        rt.alloc(),
+    let alloc = rt.alloc();
+    let opening = Opening {
+        alloc,
         disk,
         macros,
         seed,
-        asked.snapshot_every,
-        input,
-        output,
-    );
+    };
+    let (ended, disk) = serve_on(opening, messages.snapshot_every, input, output);
     end_after(faults, ended, &disk)
 }
 
 // Serves over the store that a disk holds. Gives how it ended, and the disk.
 fn serve_on<D, M, I, O>(
-    alloc: Global,
-    disk: D,
-    macros: M,
-    seed: Seed,
+    opening: Opening<D, M>,
     snapshot_every: u64,
     input: &mut I,
     output: &mut O,
@@ -100,10 +94,11 @@ where
     M: MacroFunctions + Drop,
     I: Read,
     O: Write,
-    requires room { (D.state disk).failures < 2 ^ 64 - 1 }
-    requires answers { M.answers macros }
+    requires room { (D.state opening.disk).failures < 2 ^ 64 - 1 }
+    requires answers { M.answers opening.macros }
 {
-    match Store::open_with_seed(alloc, disk, macros, HALF_LIMIT, seed) {
+    let alloc = opening.alloc;
+    match opening.open() {
         Ok(store) => {
             let mut store = store;
             let ended = serve_messages(alloc, &mut store, input, output, snapshot_every);

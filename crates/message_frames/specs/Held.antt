@@ -20,5 +20,6 @@ Follows limit most count rest next.Unread = count ≡ most
 -- the bytes are these frames, at most so many, and what comes after them
 pub record AreWhole (limit most : ℕ) (bytes : List ℕ) (whole : Whole) : Type 0 where
   pub frames : AreFrames limit (map sent whole.frames.items) (drop whole.bytes bytes) bytes
+  pub within : whole.bytes ≤ length bytes
   pub at_most : length whole.frames.items ≤ most
   pub follows : Follows limit most (length whole.frames.items) (drop whole.bytes bytes) whole.next

@@ -1,7 +1,16 @@
 // The answers to frames: from the store, and to the output.
-ghost use Rattle.std.specs.Prelude.{◌≡◌, true, IfErr, OnErr, OnOk};
+ghost use Rattle.std.specs.Prelude.{◌≡◌, ◌≤◌, ◌++◌, [], map, true, IfErr, IfOk, OnErr, OnOk, Some};
+ghost use Rattle.std.specs.List.{flat_map};
 ghost use Rattle.lisp_object.specs.declared.refusal.TheConstants.{OUTPUT as OUTPUT_FAULT};
+ghost use Rattle.message_frames.specs.Frames.{answer_bytes, sent};
+ghost use Rattle.message_session.specs.Answers.{answers_to, message_number};
+ghost use Rattle.message_session.specs.Sessions.{EndsByFault};
+ghost use Rattle.message_session.specs.Steps.{AnswersFrames, StopsAfter, TakesFrames, parts_of_frame, parts_of_request, ended_by};
+ghost use Rattle.plist_state.specs.Sound.{IsSound};
+ghost use Rattle.plist_state.specs.State.{WorldState};
+ghost use Rattle.prevalence_store.specs.calls.Execute.{SurvivesAs};
 ghost use Rattle.prevalence_store.specs.calls.Streams.{Writes, WritesPart};
+ghost use Rattle.prevalence_store.specs.messages.Rounds.{told_in};
 ghost use Rattle.user_macros.specs.Functions.{are_registered};
 
 use crate::ended::Ended;
@@ -23,7 +32,9 @@ pub(crate) struct Course {
 
 impl Course {
     /// The most frames that are answered together: as many as may write before the next snapshot.
-    pub(crate) fn most(&self) -> usize {
+    pub(crate) fn most(&self) -> usize
+        ensures { 1 ≤ result }
+    {
         if self.snapshot_every == 0 {
             return usize::MAX;
         }
@@ -35,6 +46,9 @@ impl Course {
         &mut self,
         store: &mut Store<D, R>,
     ) -> Result<(), Ended>
+        ensures same { (w : WorldState) → store.old.world ≡ Some w → OnOk result (store.new.world ≡ Some w) }
+        ensures fault { IfErr result EndsByFault }
+        ensures last { self.new.last ≡ self.old.last }
         ensures macros { store.new.macros ≡ store.old.macros }
     {
         if self.snapshot_every == 0 || self.wrote < self.snapshot_every {
@@ -45,8 +59,22 @@ impl Course {
     }
 }
 
+/// Does nothing. Its clause says that the world of each store is sound.
+pub(crate) fn its_world_is_sound<D: Disk, R: MacroFunctions>(store: &Store<D, R>)
+    ensures { (w : WorldState) → store.now.world ≡ Some w → IsSound w }
+{
+    match store.world() {
+        Some(world) => world.soundness(),
+        None => {}
+    }
+}
+
 /// Takes a snapshot. One that is too large for the half is passed over.
 pub(crate) fn renew<D: Disk, R: MacroFunctions>(store: &mut Store<D, R>) -> Result<(), Ended>
+    ensures same { (w : WorldState) → store.old.world ≡ Some w → OnOk result (store.new.world ≡ Some w) }
+    ensures survives { (w : WorldState) → store.old.world ≡ Some w
+        → OnOk result (SurvivesAs R.Meaning.functions D.state store.old store.new w [] 0) }
+    ensures fault { IfErr result EndsByFault }
     ensures macros { store.new.macros ≡ store.old.macros }
 {
     match store.snapshot() {
@@ -59,14 +87,16 @@ pub(crate) fn renew<D: Disk, R: MacroFunctions>(store: &mut Store<D, R>) -> Resu
 // Why frames were not answered together.
 #[derive(Clone, Copy)]
 enum Stop {
-    // The store did not take them, for this number, and is as it was unless that is 60.
+    // The store did not take them, for this number, and is as it was.
     Untaken(u16),
     // The session has ended.
     Ended(Ended),
 }
 
 impl Stop {
-    fn ended(self) -> Ended {
+    fn ended(self) -> Ended
+        ensures { result ≡ ended_by self }
+    {
         match self {
             Stop::Untaken(number) => Ended::Fault(number),
             Stop::Ended(ended) => ended,
@@ -84,8 +114,15 @@ pub(crate) fn answer_frames<D: Disk, R: MacroFunctions, O: Write>(
 ) -> Result<(), Ended>
     requires answers { R.answers store.old.macros }
     requires whole { are_registered R.Meaning.functions (R.functions store.old.macros) ≡ true }
+    ensures answers { (w : WorldState) → store.old.world ≡ Some w
+        → AnswersFrames R.Meaning.functions course.old.last w (O.contents output.old) (O.contents output.new)
+        store.new course.new.last (map sent frames.now) result }
     ensures macros { store.new.macros ≡ store.old.macros }
 {
+    its_world_is_sound(store);
+    if frames.is_empty() {
+        return Ok(());
+    }
     match take_frames(alloc, store, course, frames, output) {
         Ok(()) => Ok(()),
         Err(Stop::Untaken(LOG_FULL)) => {
@@ -97,7 +134,7 @@ pub(crate) fn answer_frames<D: Disk, R: MacroFunctions, O: Write>(
             course.wrote = 0;
             answer_each(alloc, store, course, frames, output)
         }
-        Err(Stop::Untaken(NO_MEMORY)) => answer_each(alloc, store, course, frames, output),
+        Err(Stop::Untaken(NO_MEMORY)) => answer_in_turn(alloc, store, course, frames, output),
         Err(stop) => Err(stop.ended()),
     }
 }
@@ -112,21 +149,40 @@ fn answer_each<D: Disk, R: MacroFunctions, O: Write>(
 ) -> Result<(), Ended>
     requires answers { R.answers store.old.macros }
     requires whole { are_registered R.Meaning.functions (R.functions store.old.macros) ≡ true }
+    ensures answers { (w : WorldState) → store.old.world ≡ Some w
+        → AnswersFrames R.Meaning.functions course.old.last w (O.contents output.old) (O.contents output.new)
+        store.new course.new.last (map sent frames.now) result }
     ensures macros { store.new.macros ≡ store.old.macros }
 {
     match take_frames(alloc, store, course, frames, output) {
-        Ok(()) => return Ok(()),
-        Err(Stop::Untaken(LOG_FULL)) => {}
-        Err(Stop::Untaken(NO_MEMORY)) => {}
-        Err(stop) => return Err(stop.ended()),
+        Ok(()) => Ok(()),
+        Err(Stop::Untaken(LOG_FULL)) => answer_in_turn(alloc, store, course, frames, output),
+        Err(Stop::Untaken(NO_MEMORY)) => answer_in_turn(alloc, store, course, frames, output),
+        Err(stop) => Err(stop.ended()),
     }
-    let mut rest = frames;
-    'frames: while !rest.is_empty() {
-        match take_frames(alloc, store, course, &rest[..1], output) {
+}
+
+// Answers frames one by one.
+fn answer_in_turn<D: Disk, R: MacroFunctions, O: Write>(
+    alloc: Global,
+    store: &mut Store<D, R>,
+    course: &mut Course,
+    frames: &[Frame<'_>],
+    output: &mut O,
+) -> Result<(), Ended>
+    requires answers { R.answers store.old.macros }
+    requires whole { are_registered R.Meaning.functions (R.functions store.old.macros) ≡ true }
+    ensures answers { (w : WorldState) → store.old.world ≡ Some w
+        → AnswersFrames R.Meaning.functions course.old.last w (O.contents output.old) (O.contents output.new)
+        store.new course.new.last (map sent frames.now) result }
+    ensures macros { store.new.macros ≡ store.old.macros }
+{
+    its_world_is_sound(store);
+    'frames: for i in 0..frames.len() {
+        match take_frames(alloc, store, course, &frames[i..i + 1], output) {
             Ok(()) => {}
             Err(stop) => return Err(stop.ended()),
         }
-        rest = &rest[1..];
     }
     Ok(())
 }
@@ -141,19 +197,23 @@ fn take_frames<D: Disk, R: MacroFunctions, O: Write>(
 ) -> Result<(), Stop>
     requires answers { R.answers store.old.macros }
     requires whole { are_registered R.Meaning.functions (R.functions store.old.macros) ≡ true }
+    ensures takes { (w : WorldState) → store.old.world ≡ Some w
+        → TakesFrames R.Meaning.functions course.old.last w (O.contents output.old) (O.contents output.new)
+        store.new course.new.last store.old (map sent frames.now) result }
     ensures macros { store.new.macros ≡ store.old.macros }
 {
+    its_world_is_sound(store);
     let Ok(requests) = requests_of(alloc, frames) else {
         return Err(Stop::Untaken(NO_MEMORY));
     };
     let replies = match store.answer_requests(course.last, requests.as_slice()) {
         Ok(replies) => replies,
-        Err(number) => return Err(Stop::Untaken(number)),
+        Err(number) => return Err(stop_after(store, number)),
     };
     course.last = replies.last;
     course.wrote = course.wrote.saturating_add(count_written(&replies));
     // they are carried out, so that nothing tries them again
-    let Ok(bytes) = bytes_of(alloc, frames, &replies) else {
+    let Ok(bytes) = bytes_of(alloc, frames, replies.answers.as_slice()) else {
         return Err(Stop::Ended(Ended::Fault(NO_MEMORY)));
     };
     match write_whole(output, bytes.as_slice()) {
@@ -163,6 +223,16 @@ fn take_frames<D: Disk, R: MacroFunctions, O: Write>(
     match course.renew_if_due(store) {
         Ok(()) => Ok(()),
         Err(ended) => Err(Stop::Ended(ended)),
+    }
+}
+
+// Why a store with this world, or with none, did not take requests. One that has none does not go on.
+fn stop_after<D: Disk, R: MacroFunctions>(store: &Store<D, R>, number: u16) -> Stop
+    ensures { StopsAfter store.now number result }
+{
+    match store.world() {
+        Some(_) => Stop::Untaken(number),
+        None => Stop::Ended(Ended::Fault(number)),
     }
 }
 
@@ -178,24 +248,43 @@ fn count_written(replies: &Replies) -> u64 {
 }
 
 // What is asked of the store.
-fn requests_of<'a>(alloc: Global, frames: &[Frame<'a>]) -> Result<Vec<Request<'a>>, AllocError> {
+fn requests_of<'a>(alloc: Global, frames: &[Frame<'a>]) -> Result<Vec<Request<'a>>, AllocError>
+    ensures { IfOk result (λ requests. map parts_of_request requests.items ≡ map parts_of_frame (map sent frames.now)) }
+{
     let mut requests = Vec::with_capacity(alloc, frames.len())?;
     for frame in frames {
-        let number = match frame.kind {
-            Kind::Do(number) => Some(number),
-            Kind::Ask => None,
-        };
+        let number = number_in(frame.kind);
         let text = frame.text;
         requests.push(Request { number, text })?;
     }
     Ok(requests)
 }
 
+// The number of a message; a question has none.
+fn number_in(kind: Kind) -> Option<u64>
+    ensures { result ≡ message_number kind }
+{
+    match kind {
+        Kind::Do(number) => Some(number),
+        Kind::Ask => None,
+    }
+}
+
 // The answers to frames as bytes.
-fn bytes_of(alloc: Global, frames: &[Frame<'_>], replies: &Replies) -> Result<Vec<u8>, AllocError> {
+fn bytes_of(alloc: Global, frames: &[Frame<'_>], answers: &[Answer]) -> Result<Vec<u8>, AllocError>
+    ensures { IfOk result (λ bytes. bytes.items
+        ≡ flat_map answer_bytes (answers_to (map sent frames.now) (map told_in answers.now))) }
+{
     let mut bytes = Vec::new(alloc);
-    for (frame, answer) in frames.iter().zip(replies.answers.iter()) {
+    let mut frames = frames;
+    let mut answers = answers;
+    'frames: while let [frame, more_frames @ ..] = frames {
+        let [answer, more_answers @ ..] = answers else {
+            return Ok(bytes);
+        };
         push_answer(&mut bytes, frame.kind, answer.text.as_slice())?;
+        frames = more_frames;
+        answers = more_answers;
     }
     Ok(bytes)
 }

@@ -1,8 +1,13 @@
 //! A session of messages: frames come in, each is answered, and what they write is logged before that.
 //!
-//! `serve_messages` serves the frames of an input over a store, to an output (module `serve`, with how it ended). Its steps are those
-//! of `Session`: it holds the bytes that came (`Held` of message_frames), hands requests to the store (`answer_requests` of
-//! prevalence_store), and writes the answers. A half that is full gets a snapshot; what has no memory together is tried one by one.
+//! `serve_messages` (module `serve`) serves the frames of an input over a store, to an output. It promises what is written: the position,
+//! and the answer to each frame (specs/Answers.antt), as far as the session came (specs/Sessions.antt). How a session ended is `Ended`.
+//!
+//! - `serve`: messages are begun, and the input is read to its end. What came is held (`Held` of message_frames) until it is whole frames
+//! - `answer`: frames are handed to the store together (`answer_requests` of prevalence_store), and their answers written. A half that is
+//!   full gets a snapshot; what has no memory together is tried one by one
+//!
+//! Its proofs rest on `Together` of message_laws: a batch is answered as in one round of all frames.
 #![tactic(auto)]
 
 mod answer;

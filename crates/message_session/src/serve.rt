@@ -1,8 +1,12 @@
 // A session of messages.
-ghost use Rattle.std.specs.Prelude.{◌≡◌, true};
+ghost use Rattle.std.specs.Prelude.{◌≡◌, ◌<◌, ◌≤◌, length, true, IfErr, IfOk, Some};
+ghost use Rattle.message_frames.specs.declared.held.Next.TheVariants as next;
+ghost use Rattle.message_session.specs.Sessions.{MessagesBegin, EndsByFault, ServesMessages};
+ghost use Rattle.message_session.specs.Steps.{AnswersAllHeld, AnswersFramesOfInput, AnswersSomeHeld, TakesPiece};
+ghost use Rattle.plist_state.specs.State.{WorldState};
 ghost use Rattle.user_macros.specs.Functions.{are_registered};
 
-use crate::answer::{Course, answer_frames, renew, write_whole};
+use crate::answer::{Course, answer_frames, its_world_is_sound, renew, write_whole};
 use crate::ended::Ended;
 use disk_trait::Disk;
 use lisp_object::refusal::{INPUT, LOG_FULL, NO_MEMORY};
@@ -18,8 +22,15 @@ const TEXT_LIMIT: usize = 1_048_576;
 /// How many bytes are read at most at once.
 const PIECE: usize = 65_536;
 
+/// The most reads of a session.
+const MOST_READS: u64 = 1 << 40;
+
 /// Serves the frames of an input over a store: tells its position, and answers each frame, those together that stand whole in what was
 /// read at once. A snapshot is taken after so many messages that wrote, never if that is 0, and where the half has no room.
+///
+/// What is written is the position, and the answer to each frame, in order (`session_bytes` of specs/Answers.antt): whole at the end of the
+/// input and at bytes that are no frame, a front of it where a fault ends the session. Of faults nothing is written: 67 if a read failed, or
+/// after 2^40 reads; 68 if a write failed or took nothing; others are those of the store's calls.
 pub fn serve_messages<D: Disk, R: MacroFunctions, I: Read, O: Write>(
     alloc: Global,
     store: &mut Store<D, R>,
@@ -29,16 +40,20 @@ pub fn serve_messages<D: Disk, R: MacroFunctions, I: Read, O: Write>(
 ) -> Ended
     requires answers { R.answers store.old.macros }
     requires whole { are_registered R.Meaning.functions (R.functions store.old.macros) ≡ true }
+    ensures serves { (w : WorldState) → store.old.world ≡ Some w
+        → ServesMessages R.Meaning.functions D.state store.old store.new w
+        (I.remaining input.old) (I.remaining input.new) (O.contents output.old) (O.contents output.new) result }
     ensures macros { store.new.macros ≡ store.old.macros }
 {
     let last = match begin(store) {
         Ok(last) => last,
         Err(ended) => return ended,
     };
+    its_world_is_sound(store);
     let mut told = Vec::new(alloc);
-    if push_position(&mut told, last).is_err() {
+    let Ok(()) = push_position(&mut told, last) else {
         return Ended::Fault(NO_MEMORY);
-    }
+    };
     match write_whole(output, told.as_slice()) {
         Ok(()) => {}
         Err(ended) => return ended,
@@ -55,20 +70,33 @@ pub fn serve_messages<D: Disk, R: MacroFunctions, I: Read, O: Write>(
 fn begin<D: Disk, R: MacroFunctions>(store: &mut Store<D, R>) -> Result<u64, Ended>
     requires answers { R.answers store.old.macros }
     requires whole { are_registered R.Meaning.functions (R.functions store.old.macros) ≡ true }
+    ensures begun { (w : WorldState) → store.old.world ≡ Some w → IfOk result (λ position. (first : WorldState)
+        × MessagesBegin R.Meaning.functions D.state store.old store.new w position first) }
+    ensures fault { IfErr result EndsByFault }
     ensures macros { store.new.macros ≡ store.old.macros }
 {
     match store.begin_messages() {
         Ok(position) => Ok(position),
-        Err(LOG_FULL) => {
-            match renew(store) {
-                Ok(()) => {}
-                Err(ended) => return Err(ended),
-            }
-            match store.begin_messages() {
-                Ok(position) => Ok(position),
-                Err(number) => Err(Ended::Fault(number)),
-            }
-        }
+        Err(LOG_FULL) => begin_anew(store),
+        Err(number) => Err(Ended::Fault(number)),
+    }
+}
+
+// Begins with messages in a half that is made anew.
+fn begin_anew<D: Disk, R: MacroFunctions>(store: &mut Store<D, R>) -> Result<u64, Ended>
+    requires answers { R.answers store.old.macros }
+    requires whole { are_registered R.Meaning.functions (R.functions store.old.macros) ≡ true }
+    ensures begun { (w : WorldState) → store.old.world ≡ Some w → IfOk result (λ position. (first : WorldState)
+        × MessagesBegin R.Meaning.functions D.state store.old store.new w position first) }
+    ensures fault { IfErr result EndsByFault }
+    ensures macros { store.new.macros ≡ store.old.macros }
+{
+    match renew(store) {
+        Ok(()) => {}
+        Err(ended) => return Err(ended),
+    }
+    match store.begin_messages() {
+        Ok(position) => Ok(position),
         Err(number) => Err(Ended::Fault(number)),
     }
 }
@@ -83,64 +111,87 @@ fn serve_frames<D: Disk, R: MacroFunctions, I: Read, O: Write>(
 ) -> Ended
     requires answers { R.answers store.old.macros }
     requires whole { are_registered R.Meaning.functions (R.functions store.old.macros) ≡ true }
+    ensures serves { (w : WorldState) → store.old.world ≡ Some w
+        → AnswersFramesOfInput R.Meaning.functions course.last w store.new
+        (I.remaining input.old) (I.remaining input.new) (O.contents output.old) (O.contents output.new) result }
     ensures macros { store.new.macros ≡ store.old.macros }
 {
+    its_world_is_sound(store);
     let Ok(mut piece) = vec![in alloc; 0u8; PIECE] else {
         return Ended::Fault(NO_MEMORY);
     };
     let mut session = Session {
         alloc,
         held: Held::new(alloc),
-        passed: 0,
         course,
     };
-    'pieces: for _ in 0..u64::MAX {
-        let Ok(count) = input.read(piece.as_mut_slice()) else {
-            return Ended::Fault(INPUT);
+    let mut came = 0u64;
+    let mut reads = 0u64;
+    'pieces: while reads < MOST_READS {
+        reads += 1;
+        let count = match read_piece(input, &mut session.held, piece.as_mut_slice()) {
+            Ok(0) => return Ended::End,
+            Ok(count) => count,
+            Err(number) => return Ended::Fault(number),
         };
-        if count == 0 {
-            return Ended::End;
-        }
-        if session.held.feed(&piece[..count]).is_err() {
-            return Ended::Fault(NO_MEMORY);
-        }
+        came += count as u64;
         match session.answer_whole(store, output) {
-            Ok(()) => {}
+            Ok(true) => {}
+            Ok(false) => {
+                return Ended::NoFrame(came.saturating_sub(session.held.bytes().len() as u64));
+            }
             Err(ended) => return ended,
         }
     }
-    Ended::End
+    Ended::Fault(INPUT)
 }
 
-// The bytes that were read and not answered yet, how many were before them, and how far the session has come.
+// Reads a piece of the input, and holds it. Gives how many bytes came: none at the end of the input.
+fn read_piece<I: Read>(input: &mut I, held: &mut Held, buffer: &mut [u8]) -> Result<usize, u16>
+    requires { 0 < length buffer.old }
+    ensures takes { TakesPiece (I.remaining input.old) (I.remaining input.new) held.old held.new result }
+    ensures most { IfOk result (λ count. count ≤ length buffer.old) }
+{
+    let Ok(count) = input.read(buffer) else {
+        return Err(INPUT);
+    };
+    match held.feed(&buffer[..count]) {
+        Ok(()) => Ok(count),
+        Err(_) => Err(NO_MEMORY),
+    }
+}
+
+// The bytes that were read and not answered yet, and how far the session has come.
 #[derive(Drop)]
 struct Session {
     alloc: Global,
     held: Held,
-    passed: u64,
     course: Course,
 }
 
 impl Session {
-    // Answers the frames that stand whole.
+    // Answers the frames that stand whole. Tells whether more bytes may make a frame of what is left.
     fn answer_whole<D: Disk, R: MacroFunctions, O: Write>(
         &mut self,
         store: &mut Store<D, R>,
         output: &mut O,
-    ) -> Result<(), Ended>
+    ) -> Result<bool, Ended>
         requires answers { R.answers store.old.macros }
         requires whole { are_registered R.Meaning.functions (R.functions store.old.macros) ≡ true }
+        ensures answers { (w : WorldState) → store.old.world ≡ Some w
+            → AnswersAllHeld R.Meaning.functions self.old self.new w store.new
+            (O.contents output.old) (O.contents output.new) result }
         ensures macros { store.new.macros ≡ store.old.macros }
     {
-        'rounds: for _ in 0..u64::MAX {
+        its_world_is_sound(store);
+        'rounds: loop {
             match self.answer_some(store, output) {
                 Ok(Next::Unread) => {}
-                Ok(Next::Begun) => return Ok(()),
-                Ok(Next::Malformed) => return Err(Ended::NoFrame(self.passed)),
+                Ok(Next::Begun) => return Ok(true),
+                Ok(Next::Malformed) => return Ok(false),
                 Err(ended) => return Err(ended),
             }
         }
-        Ok(())
     }
 
     // Answers the frames that stand whole, as many at once as may be. Gives what comes after them.
@@ -151,23 +202,25 @@ impl Session {
     ) -> Result<Next, Ended>
         requires answers { R.answers store.old.macros }
         requires whole { are_registered R.Meaning.functions (R.functions store.old.macros) ≡ true }
+        ensures answers { (w : WorldState) → store.old.world ≡ Some w
+            → AnswersSomeHeld R.Meaning.functions self.old self.new w store.new
+            (O.contents output.old) (O.contents output.new) result }
+        ensures fewer { IfOk result (λ after. after ≡ next.Unread
+            → length self.new.held < length self.old.held) }
         ensures macros { store.new.macros ≡ store.old.macros }
     {
         let most = self.course.most();
         let Ok(whole) = self.held.frames(self.alloc, TEXT_LIMIT, most) else {
             return Err(Ended::Fault(NO_MEMORY));
         };
-        let (bytes, next) = (whole.bytes.min(self.held.bytes().len()), whole.next);
-        if !whole.frames.is_empty() {
-            let frames = whole.frames.as_slice();
-            match answer_frames(self.alloc, store, &mut self.course, frames, output) {
-                Ok(()) => {}
-                Err(ended) => return Err(ended),
-            }
+        let (bytes, next) = (whole.bytes, whole.next);
+        let frames = whole.frames.as_slice();
+        match answer_frames(self.alloc, store, &mut self.course, frames, output) {
+            Ok(()) => {}
+            Err(ended) => return Err(ended),
         }
         drop(whole);
         self.held.pass(bytes);
-        self.passed = self.passed.saturating_add(bytes as u64);
         Ok(next)
     }
 }

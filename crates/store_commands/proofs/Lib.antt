@@ -1,3 +1,4 @@
+pub mod Accounts
 pub mod AtTerminal
 pub mod FolderLaws
 pub mod Reports

@@ -1,13 +1,14 @@
 -- From what is written of an open store to what the commands promise.
-use Rattle.std.proofs.Common.{◌≡◌, ℕ, true, List, [], ◌++◌, Option, Some, Result, Ok, Err, refl, sym, ap, subst, ◌∙◌, inl, inr, append-nil, arith}
-use Rattle.std.specs.Option.{IfSome}
+use Rattle.std.proofs.Common.{◌≡◌, ℕ, true, List, [], ◌++◌, Option, None, Some, Result, Ok, Err, refl, sym, ap, subst, ◌∙◌, inl, inr, append-nil, arith}
+use Rattle.std.specs.Option.{IfSome, option_and_then}
 use Rattle.disk_trait.specs.Disk.{State}
 use Rattle.lisp_object.specs.declared.refusal.TheConstants.{OUTPUT, NO_MEMORY}
 use Rattle.plist_state.specs.State.{WorldState}
 use Rattle.world_text.specs.Snapshot.{snapshot}
+use Rattle.prevalence_store.specs.messages.Position.{position}
 use Rattle.user_macros.specs.Functions.{Functions}
 use Rattle.store_commands.specs.Commands.{TaskBreaksOff, TaskWrites, is_of_opening}
-use Rattle.store_commands.specs.Report.{DumpsWorld, IsReport, TellsHalf}
+use Rattle.store_commands.specs.Report.{DumpsWorld, IsReport, TellsHalfAndPosition}
 use Rattle.store_commands.specs.Status.{HasFaultNumber, IsFaultNumber, TakesWords, status_of_output}
 use Rattle.diagnostics.specs.Texts.{WritesOut}
 use Rattle.store_commands.specs.Texts.{TellsText}
@@ -25,6 +26,12 @@ pub tells_world : (status : Status) (known : Option WorldState) (world : WorldSt
     → TellsText status held written bytes → IfSome known (λ w. TellsText status held written (snapshot w))
 tells_world status known world held written bytes is are told =
     subst (λ (o : Option WorldState). IfSome o (λ w. TellsText status held written (snapshot w))) (sym is) (subst (TellsText status held written) are told)
+
+-- what was written is told of the position of this world
+pub tells_position : (status : Status) (known : Option WorldState) (found : Option ℕ) (text : Option ℕ → List ℕ) (held written : Option (List ℕ)) → found ≡ option_and_then position known
+    → TellsText status held written (text found) → IfSome known (λ w. TellsText status held written (text (position w)))
+tells_position status None found text held written is told = tt
+tells_position status (Some w) found text held written is told = subst (λ (f : Option ℕ). TellsText status held written (text f)) is told
 
 -- how it ends after a text that was written whole, or not
 pub told_by : (status : Status) (written : Result Unit Unwritten) (held now : Option (List ℕ)) (text : List ℕ) → status ≡ status_of_output written
@@ -83,8 +90,8 @@ module _ (functions : Functions) {D R : Type 0} (state : D → State) (disk : D)
   dump_writes WordsRefused told = tt
   dump_writes LeftOut told = absurd told.tells
 
-  verify_writes : (status : Status) → IsReport functions state Verify disk macros held written status back → TellsHalf status had written
-  verify_writes Done told = (told.opened.half, told.opened.generation, told.opened.record_count, told.tells had holds)
+  verify_writes : (status : Status) → IsReport functions state Verify disk macros held written status back → TellsHalfAndPosition status had written
+  verify_writes Done told = (told.opened.half, told.opened.generation, told.opened.record_count, position told.is_opened.world, told.tells had holds)
   verify_writes (Fault number) told = tt
   verify_writes Helped told = tt
   verify_writes FormRefused told = absurd told.tells
@@ -102,4 +109,4 @@ module _ (functions : Functions) {D R : Type 0} (state : D → State) (disk : D)
       → TaskBreaksOff functions (Tell report) input had written
   report_breaks Dump status number input is told = (told.is_opened.world, text_front held written _ status number had holds is told.tells)
   report_breaks Verify status number input is told =
-      (told.opened.half, told.opened.generation, told.opened.record_count, text_front held written _ status number had holds is told.tells)
+      (told.opened.half, told.opened.generation, told.opened.record_count, position told.is_opened.world, text_front held written _ status number had holds is told.tells)

@@ -1,5 +1,5 @@
 -- From what a task does to all that is promised of it.
-use Rattle.std.proofs.Common.{◌≡◌, ◌⊎◌, ℕ, Bool, true≢false, List, [], Option, None, Some, refl, sym, ap, subst, ◌∙◌, inl, inr, append-nil, arith}
+use Rattle.std.proofs.Common.{◌≡◌, ◌⊎◌, ◌++◌, ℕ, Bool, true≢false, List, [], Option, None, Some, refl, sym, ap, subst, ◌∙◌, inl, inr, append-nil, arith}
 use Rattle.disk_trait.specs.Disk.{State}
 use Rattle.disk_trait.specs.declared.half.Half.TheVariants.{A}
 use Rattle.lisp_object.specs.declared.refusal.TheConstants.{DEVICE, INPUT, NO_MEMORY}
@@ -12,7 +12,7 @@ use Rattle.prevalence_store.specs.declared.outcome.Ended.{Ended}
 use Rattle.prevalence_store.specs.declared.outcome.Ended.TheVariants.{End, Store, Unaccepted, Unreadable}
 use Rattle.session_words.specs.declared.wanted.Wanted.{Wanted}
 use Rattle.store_commands.specs.Commands.{CarriesOut, DoesOn, IsEarlyFault, IsUntouched, Performs, TaskBreaksOff, TaskReads, TaskWrites, TellsUnopened}
-use Rattle.store_commands.specs.Report.{IsExport, IsReport, IsSnapshot, IsUpgrade, half_line, version_line}
+use Rattle.store_commands.specs.Report.{IsExport, IsReport, IsSnapshot, IsUpgrade, half_line, position_line, version_line}
 use Rattle.prevalence_store.specs.calls.Open.{IsUnopened}
 use Rattle.prevalence_store.specs.calls.Serve.{ServesWanted}
 use Rattle.store_commands.specs.Session.{AnswersInput, IsSession, IsStatusAfter, ReadsToEnd, half_limit}
@@ -45,7 +45,7 @@ module _ (functions : Functions) (input had : List ℕ) (left written : Option (
   breaks_nothing Upgrade holds = (0, ([], version_line 0, refl, holds ∙ ap (λ l. Some l) (sym (append-nil had))))
   breaks_nothing (Export content) holds = (initial, ([], forms initial content, refl, holds ∙ ap (λ l. Some l) (sym (append-nil had))))
   breaks_nothing (Tell Dump) holds = (initial, ([], snapshot initial, refl, holds ∙ ap (λ l. Some l) (sym (append-nil had))))
-  breaks_nothing (Tell Verify) holds = (A, 0, 0, ([], half_line A 0 0, refl, holds ∙ ap (λ l. Some l) (sym (append-nil had))))
+  breaks_nothing (Tell Verify) holds = (A, 0, 0, None, ([], half_line A 0 0 ++ position_line None, refl, holds ∙ ap (λ l. Some l) (sym (append-nil had))))
 
   reads_nothing : (task : Task) (number : ℕ) → left ≡ Some input → TaskReads task (Fault number) input left
   reads_nothing Snapshot number holds = holds
@@ -233,6 +233,13 @@ module _ (functions : Functions) {D R : Type 0} (state : D → State) (macros : 
   does_run disk back task status wanted ended is ends tells session =
       subst (λ (t : Task). DoesOn functions state macros whole remaining contents input left held written disk back t status told) (sym is)
       (inl (ended, ends, tells, session))
+
+  -- what was asked for is a session
+  pub does_asked : (disk back : D) (task : Task) (status : Status) (wanted : Wanted) → task ≡ Run wanted
+      → DoesOn functions state macros whole remaining contents input left held written disk back (Run wanted) status told
+      → DoesOn functions state macros whole remaining contents input left held written disk back task status told
+  does_asked disk back task status wanted is does =
+      subst (λ (t : Task). DoesOn functions state macros whole remaining contents input left held written disk back t status told) (sym is) does
 
   pub does_snapshot : (disk back : D) (task : Task) (status : Status) → task ≡ Snapshot
       → IsSnapshot functions state disk macros (contents held) (contents written) status back → left ≡ input

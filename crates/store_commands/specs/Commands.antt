@@ -12,7 +12,7 @@ use Rattle.user_macros.specs.Functions.{Functions}
 use Rattle.prevalence_store.specs.calls.Open.{IsUnopened}
 use Rattle.prevalence_store.specs.declared.outcome.Ended.{Ended}
 use Rattle.session_words.specs.declared.wanted.Wanted.{Wanted}
-use Rattle.store_commands.specs.Report.{DumpsWorld, IsExport, IsReport, IsSnapshot, IsUpgrade, TellsHalf, TellsVersion, WritesForms, half_line, version_line}
+use Rattle.store_commands.specs.Report.{DumpsWorld, IsExport, IsReport, IsSnapshot, IsUpgrade, TellsHalf, TellsHalfAndPosition, TellsVersion, WritesForms, half_line, position_line, version_line}
 use Rattle.store_commands.specs.Session.{AnswersInput, IsBrokenOff, IsSession, IsStatusAfter, ReadsToEnd, half_limit}
 use Rattle.store_commands.specs.Sessions.{AreSessions}
 use Rattle.store_commands.specs.Status.{HasFaultNumber, IsCarriedOut, TakesWords, status_of_ended, status_of_host}
@@ -64,7 +64,7 @@ module _ (functions : Functions) where
   TaskWrites Upgrade status told input held written = TellsVersion status held written
   TaskWrites (Export content) status told input held written = WritesForms content status (left_out_of told) held written
   TaskWrites (Tell Dump) status told input held written = DumpsWorld status held written
-  TaskWrites (Tell Verify) status told input held written = TellsHalf status held written
+  TaskWrites (Tell Verify) status told input held written = TellsHalfAndPosition status held written
 
   -- what a command wrote that met a fault is the first part of what it would have written, over the store of some world
   abbrev pub TaskBreaksOff : Task → List ℕ → List ℕ → Option (List ℕ) → Type 0
@@ -73,7 +73,8 @@ module _ (functions : Functions) where
   TaskBreaksOff Upgrade input held written = (version : ℕ) × IsFront held written (version_line version)
   TaskBreaksOff (Export content) input held written = (world : WorldState) × IsFront held written (forms world content)
   TaskBreaksOff (Tell Dump) input held written = (world : WorldState) × IsFront held written (snapshot world)
-  TaskBreaksOff (Tell Verify) input held written = (half : Half) × (generation : ℕ) × (records : ℕ) × IsFront held written (half_line half generation records)
+  TaskBreaksOff (Tell Verify) input held written =
+      (half : Half) × (generation : ℕ) × (records : ℕ) × (found : Option ℕ) × IsFront held written (half_line half generation records ++ position_line found)
 
 -- The store that a disk holds was not opened, all macro functions registered or not, and the status tells why; the disk is left as
 -- the opening left it.

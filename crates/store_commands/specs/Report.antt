@@ -1,5 +1,5 @@
 -- What `dump`, `verify`, `snapshot`, `upgrade` and `export` tell of a store.
-use Rattle.std.specs.Prelude.{◌≡◌, ◌≢◌, ℕ, List, [], ◌∷◌, ◌++◌, Option, Some, codes, decimal}
+use Rattle.std.specs.Prelude.{◌≡◌, ◌≢◌, ℕ, List, [], ◌∷◌, ◌++◌, Option, None, Some, codes, decimal}
 use Rattle.disk_trait.specs.Disk.{State}
 use Rattle.disk_trait.specs.declared.half.Half.{Half}
 use Rattle.disk_trait.specs.declared.half.Half.TheVariants.{A, B}
@@ -15,6 +15,7 @@ use Rattle.prevalence_store.specs.calls.Store.{StoreView}
 use Rattle.prevalence_store.specs.declared.outcome.Outcome.{Outcome}
 use Rattle.prevalence_store.specs.declared.outcome.Outcome.TheVariants.{Accepted, Snapshotted, Refused}
 use Rattle.prevalence_store.specs.calls.Streams.{Writes}
+use Rattle.prevalence_store.specs.messages.Position.{position}
 use Rattle.store_commands.specs.Texts.{TellsText}
 use Rattle.store_commands.specs.Session.{half_limit}
 use Rattle.store_commands.specs.declared.status.Status.{Status}
@@ -35,10 +36,16 @@ half_line half generation records = codes "half " ++ (letter_of half ++ (codes "
 abbrev pub half_line_of : {D R : Type 0} → StoreView D R → List ℕ
 half_line_of store = half_line store.half store.generation store.record_count
 
--- what is told of an open store with this world: `dump` writes the text of it, and `verify` the line on the half in use
+-- the line on the position, where there is one
+abbrev pub position_line : Option ℕ → List ℕ
+position_line None = []
+position_line (Some number) = codes "position " ++ (decimal number ++ 10 ∷ [])
+
+-- what is told of an open store with this world: `dump` writes the text of it, and `verify` the line on the half in use, and that on
+-- the position of messages
 abbrev pub text_of : Report → {D R : Type 0} → StoreView D R → WorldState → List ℕ
 text_of Dump store world = snapshot world
-text_of Verify store world = half_line_of store
+text_of Verify store world = half_line_of store ++ position_line (position world)
 
 -- The store that a disk holds was opened with these macro functions, this was told of it, and it was closed: this is its disk.
 pub record IsReport (functions : Functions) {D R : Type 0} (state : D → State) (report : Report) (disk : D) (macros : R)
@@ -130,6 +137,17 @@ DumpsWorld Helped held written = Unit {0}
 DumpsWorld WordsRefused held written = Unit {0}
 DumpsWorld LeftOut held written = ⊥
 DumpsWorld (Fault number) held written = Unit {0}
+
+-- and the line on some half, and that on a position
+abbrev pub TellsHalfAndPosition : Status → List ℕ → Option (List ℕ) → Type 0
+TellsHalfAndPosition Done held written =
+    (half : Half) × (generation : ℕ) × (records : ℕ) × (found : Option ℕ) × (written ≡ Some (held ++ (half_line half generation records ++ position_line found)))
+TellsHalfAndPosition FormRefused held written = ⊥
+TellsHalfAndPosition Unanswered held written = ⊥
+TellsHalfAndPosition Helped held written = Unit {0}
+TellsHalfAndPosition WordsRefused held written = Unit {0}
+TellsHalfAndPosition LeftOut held written = ⊥
+TellsHalfAndPosition (Fault number) held written = Unit {0}
 
 -- and the line on some half
 abbrev pub TellsHalf : Status → List ℕ → Option (List ℕ) → Type 0

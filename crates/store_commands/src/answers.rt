@@ -1,8 +1,7 @@
 // What was answered, as the output sees it, and an input that knows whether anything was.
-ghost use Rattle.std.specs.Prelude.{◌≡◌, ◌==◌};
-ghost use Rattle.readtable_core.specs.Characters.{standard_syntax, syntax_number};
-ghost use Rattle.readtable_core.specs.declared.characters.Syntax.TheVariants.{Whitespace};
+ghost use Rattle.std.specs.Prelude.{◌≡◌};
 
+use crate::given::Given;
 use diagnostics::{Places, Spot};
 use std::cell::Cell;
 use std::io;
@@ -51,12 +50,13 @@ impl<O: Write> Write for Answers<'_, O> {
     }
 }
 
-/// An input that is no terminal, of which it is known whether it gave text and nothing was answered.
+/// An input that is no terminal, of which it is known whether it gave text and nothing was answered. What the standard readtable takes for
+/// comments is no text.
 #[derive(Drop)]
 pub struct Piped<'a, I> {
     input: I,
     heard: &'a Cell<Heard>,
-    gave_text: bool,
+    given: Given,
 }
 
 impl<'a, I> Piped<'a, I> {
@@ -67,18 +67,8 @@ impl<'a, I> Piped<'a, I> {
         Piped {
             input,
             heard,
-            gave_text: false,
+            given: Given::Nothing,
         }
-    }
-}
-
-/// Whether the standard readtable has this character as whitespace.
-pub(crate) fn is_blank(c: u8) -> bool
-    ensures { result ≡ syntax_number (standard_syntax c) == syntax_number Whitespace }
-{
-    match c {
-        b'\t' | b'\n' | 12 | b'\r' | b' ' | 127 => true,
-        _ => false,
     }
 }
 
@@ -87,9 +77,7 @@ impl<I: Read> Read for Piped<'_, I> {
 
     fn read(&mut self, buf: &mut [u8]) -> io::Result<usize> {
         let count = self.input.read(buf)?;
-        if !self.gave_text {
-            self.gave_text = !buf[..count].iter().all(|c| is_blank(*c));
-        }
+        self.given = self.given.after_all(&buf[..count]);
         Ok(count)
     }
 }
@@ -100,6 +88,6 @@ impl<I: Places> Places for Piped<'_, I> {
     }
 
     fn is_unanswered(&self) -> bool {
-        self.gave_text && self.heard.get() == Heard::Nothing
+        self.given.is_text() && self.heard.get() == Heard::Nothing
     }
 }

@@ -1,34 +1,30 @@
 // What the words of the command line ask for.
-ghost use Rattle.std.specs.Prelude.{◌≡◌, ◌⊎◌, ◌<◌, ◌-◌, ◌^◌, Bool, [], map, Err, IfOk};
+ghost use Rattle.std.specs.Prelude.{◌≡◌, ◌⊎◌, Bool, [], map, None, Err, IfOk};
 ghost use Rattle.clap.specs.Words.{Text, kind_of};
 ghost use Rattle.user_macros.specs.Functions.{are_registered};
 ghost use Rattle.command_words.specs.declared.words.Task.{Task};
 ghost use Rattle.command_words.specs.CommandLine.{AsksFor, IsTaken, faults_of};
-ghost use Rattle.store_commands.specs.Commands.{DoesAfter, DoesOn, OpensFolder, Performs, PerformsAtTerminal, PerformsInTurn, PerformsNone, SitsAfter};
+ghost use Rattle.store_commands.specs.Commands.{DoesAfter, OpensFolder, Performs, PerformsAtTerminal, PerformsInTurn, PerformsNone, SitsAfter};
 ghost use Rattle.store_commands.specs.Folders.{OpensStore};
 ghost use Rattle.store_commands.specs.Status.{EndsAfter, HasFaultNumber, IsAfterWords, IsOfWords, IsQuiet, TakesWords};
 ghost use Rattle.store_commands.specs.Told.{TellsFault, left_out_of};
 ghost use Rattle.store_commands.specs.declared.told.Told.{Told};
 
-use crate::export::export_on;
 use crate::folders::{Folders, TellsCause, open_folder};
-use crate::report::report_on;
-use crate::session::serve_on;
+use crate::on_disk::carry_out_on;
+use crate::opening::Opening;
 use crate::sessions::sessions_on;
-use crate::snapshot::snapshot_on;
 use crate::status::Status;
 use crate::terminal::Sessions;
 use crate::told::{Told, end_with, end_with_told};
-use crate::upgrade::upgrade_on;
 use clap::Error;
 use command_words::{Asked, Task, asked_in};
 use diagnostics::Places;
-use disk_trait::{Disk, HostError};
+use disk_trait::HostError;
 use lisp_object::refusal::{INPUT, NO_MEMORY, OUTPUT};
 use plist_state::Seed;
-use prevalence_store::{Unopened, Wanted};
+use prevalence_store::{Recipient, Wanted};
 use program_streams::Shown;
-use std::alloc::Global;
 use std::convert::AsStr;
 use std::fmt::Write as WriteText;
 use std::io::Write;
@@ -191,8 +187,9 @@ where
     R: Folders + RandomSource + AllocGlobal,
     M: MacroFunctions + Drop,
     I: Sessions,
-    O: Write,
+    O: Recipient<R::Disk, M>,
     requires answers { M.answers macros }
+    requires keeps_none { (recipient : O) → O.account recipient ≡ None }
     ensures performs { PerformsInTurn M.Meaning.functions I.remaining O.contents
         input.old input.new output.old output.new asked.entry.folder.now wanted result.0 result.1 }
     ensures opened { OpensFolder input.old input.new output.old output.new
@@ -210,7 +207,14 @@ where
         Ok(disk) => disk,
         Err(error) => return (Status::of_host(&error), Told::Cause(error)),
     };
-    match sessions_on(rt.alloc(), disk, macros, seed, wanted, input, output) {
+    let alloc = rt.alloc();
+    let opening = Opening {
+        alloc,
+        disk,
+        macros,
+        seed,
+    };
+    match sessions_on(opening, wanted, input, output) {
         Ok((ended, disk, _macros)) => (
             Status::of_ended(ended),
             told_after(Told::of_session(ended, input), &disk),
@@ -284,15 +288,14 @@ where
         Ok(disk) => disk,
         Err(error) => return (Status::of_host(&error), Told::Cause(error)),
     };
-    let (status, disk, told) = carry_out_on(
-        rt.alloc(),
+    let alloc = rt.alloc();
+    let opening = Opening {
+        alloc,
         disk,
         macros,
         seed,
-        asked.task,
-        input,
-        output,
-    );
+    };
+    let (status, disk, told) = carry_out_on(opening, asked.task, input, output);
     (status, told_after(told, &disk))
 }
 
@@ -314,62 +317,4 @@ fn cause_of<D: TellsCause>(disk: &D) -> Told
         Some(error) => Told::Cause(HostError::System(error)),
         None => Told::Nothing,
     }
-}
-
-// Carries a task out over the store that a disk holds, and gives the disk back as the store left it, and what is to be told of a
-// refusal that ended a session, or of what was left out of an export.
-fn carry_out_on<D, M, I, O>(
-    alloc: Global,
-    disk: D,
-    macros: M,
-    seed: Seed,
-    task: Task,
-    input: &mut I,
-    output: &mut O,
-) -> (Status, D, Told)
-where
-    D: Disk + Drop,
-    M: MacroFunctions + Drop,
-    I: Places,
-    O: Write,
-    requires room { (D.state disk).failures < 2 ^ 64 - 1 }
-    requires answers { M.answers macros }
-    ensures { DoesOn M.Meaning.functions D.state macros
-        (are_registered M.Meaning.functions (M.functions macros)) I.remaining O.contents
-        input.old input.new output.old output.new disk result.1 task result.0 result.2 }
-{
-    match task {
-        Task::Run(wanted) => match serve_on(alloc, disk, macros, seed, wanted, input, output) {
-            Ok((ended, disk, _macros)) => (
-                Status::after_session(ended, wanted.strict, input.is_unanswered()),
-                disk,
-                Told::of_session(ended, input),
-            ),
-            Err(unopened) => without_store(unopened),
-        },
-        Task::Snapshot => match snapshot_on(alloc, disk, macros, seed, output) {
-            Ok((status, disk, _macros)) => (status, disk, Told::Nothing),
-            Err(unopened) => without_store(unopened),
-        },
-        Task::Upgrade => match upgrade_on(alloc, disk, macros, seed, output) {
-            Ok((status, disk, _macros)) => (status, disk, Told::Nothing),
-            Err(unopened) => without_store(unopened),
-        },
-        Task::Export(content) => match export_on(alloc, disk, macros, seed, content, output) {
-            Ok((status, disk, _macros, left_out)) => (status, disk, Told::LeftOut(left_out)),
-            Err(unopened) => without_store(unopened),
-        },
-        Task::Tell(report) => match report_on(alloc, disk, macros, seed, report, output) {
-            Ok((status, disk, _macros)) => (status, disk, Told::Nothing),
-            Err(unopened) => without_store(unopened),
-        },
-    }
-}
-
-// A store was not opened: the status, and the disk.
-fn without_store<D: Drop, M: Drop>(unopened: Unopened<D, M>) -> (Status, D, Told)
-    ensures status { result.0 ≡ Status.Fault unopened.number }
-    ensures disk { result.1 ≡ unopened.disk }
-{
-    (Status::Fault(unopened.number), unopened.disk, Told::Nothing)
 }

@@ -7,12 +7,11 @@ ghost use Rattle.world_forms.specs.Properties.{left_out_lines};
 ghost use Rattle.store_commands.specs.Report.{IsExport, TellsForms};
 ghost use Rattle.store_commands.specs.Session.{half_limit};
 
-use crate::session::HALF_LIMIT;
+use crate::opening::Opening;
 use crate::status::Status;
 use diagnostics::write_out;
 use disk_trait::Disk;
 use lisp_object::refusal::{NO_MEMORY, OUTPUT, REOPEN};
-use plist_state::Seed;
 use prevalence_store::{Store, Unopened};
 use std::alloc::Global;
 use std::io::Write;
@@ -26,10 +25,7 @@ use world_forms::{Content, Export, all_forms};
 ///
 /// Those of opening the store. Nothing is written then, and the disk and the macro functions are given back.
 pub fn export_on<D, M, O>(
-    alloc: Global,
-    disk: D,
-    macros: M,
-    seed: Seed,
+    opening: Opening<D, M>,
     content: Content,
     output: &mut O,
 ) -> Result<(Status, D, M, Vec<u8>), Unopened<D, M>>
@@ -37,17 +33,18 @@ where
     D: Disk,
     M: MacroFunctions,
     O: Write,
-    requires room { (D.state disk).failures < 2 ^ 64 - 1 }
-    requires answers { M.answers macros }
+    requires room { (D.state opening.disk).failures < 2 ^ 64 - 1 }
+    requires answers { M.answers opening.macros }
     ensures exports { IfOk result (λ p. IsExport M.Meaning.functions D.state content
-        disk macros (O.contents output.old) (O.contents output.new) p.0 p.1 p.3.items) }
-    ensures kept { IfOk result (λ p. p.2 ≡ macros) }
-    ensures refused { IfErr result (λ e. IsUnopened M.Meaning.functions D.state disk
-        (are_registered M.Meaning.functions (M.functions macros)) half_limit e.number e.disk
+        opening.disk opening.macros (O.contents output.old) (O.contents output.new) p.0 p.1 p.3.items) }
+    ensures kept { IfOk result (λ p. p.2 ≡ opening.macros) }
+    ensures refused { IfErr result (λ e. IsUnopened M.Meaning.functions D.state opening.disk
+        (are_registered M.Meaning.functions (M.functions opening.macros)) half_limit e.number e.disk
         × (output.new ≡ output.old)) }
-    ensures given_back { IfErr result (λ e. e.macros ≡ macros) }
+    ensures given_back { IfErr result (λ e. e.macros ≡ opening.macros) }
 {
-    let store = Store::open_with_seed(alloc, disk, macros, HALF_LIMIT, seed)?;
+    let alloc = opening.alloc;
+    let store = opening.open()?;
     let (status, left_out) = write_forms(alloc, &store, content, output);
     let (disk, macros) = store.close();
     Ok((status, disk, macros, left_out))

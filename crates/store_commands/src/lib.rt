@@ -2,12 +2,13 @@
 //! world, or tell the half in use.
 //!
 //! - `program` does what the words of the command line ask for, and answers a `Status`; `program_at_terminal` the same at a terminal,
-//!   where `run` is sessions in a row (module `commands`).
+//!   where `run` is sessions in a row (modules `commands` and `on_disk`).
 //! - `serve_on` serves forms over any disk, `snapshot_on` takes a snapshot, `upgrade_on` takes one of files of version 1, `export_on`
 //!   writes the forms that make the world, and `report_on` writes what is told of a store (modules `session`, `snapshot`, `upgrade`,
-//!   `export` and `report`).
+//!   `export` and `report`). What the store is opened with is handed to them as an `Opening` (module `opening`).
 //! - `sessions_on` serves sessions in a row (module `sessions`), and `terminal` has the input that asks for them, with its prompts.
-//! - `answers` has an output that tells what was answered, and an input that knows whether anything was.
+//! - `answers` has an output that tells what was answered, and an input that knows whether anything was; `given` tells comments from
+//!   text there.
 //! - `command_words` has the command line; `diagnostics` writes the line of a fault, and that on the refusal that ended a session, and
 //!   has the input that tells lines and columns; `half_line` writes that on the half in use.
 //! - `folders` has what opens the files of a folder, and the disk that they are; `looking` opens what they hold at one moment in their
@@ -23,9 +24,12 @@ mod answers;
 mod commands;
 mod export;
 mod folders;
+mod given;
 mod half_line;
 mod laws;
 mod looking;
+mod on_disk;
+mod opening;
 mod report;
 mod session;
 mod sessions;
@@ -47,8 +51,9 @@ pub use folders::{Folders, TellsCause, holds_store, open_folder};
 pub use half_line::write_half_line;
 pub use laws::existing_stores_are_open;
 pub use looking::Looking;
+pub use opening::{HALF_LIMIT, Opening};
 pub use report::{report_on, status_of_output};
-pub use session::{HALF_LIMIT, serve_on};
+pub use session::serve_on;
 pub use sessions::sessions_on;
 pub use snapshot::snapshot_on;
 pub use status::Status;

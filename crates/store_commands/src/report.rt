@@ -1,21 +1,21 @@
 // What is told of the store that a disk holds.
-ghost use Rattle.std.specs.Prelude.{◌≡◌, ◌<◌, ◌-◌, ◌^◌, IsSome, IfSome, IfOk, IfErr};
+ghost use Rattle.std.specs.Prelude.{◌≡◌, ◌++◌, ◌<◌, ◌-◌, ◌^◌, IsSome, IfSome, IfOk, IfErr};
 ghost use Rattle.prevalence_store.specs.calls.Open.{IsUnopened};
+ghost use Rattle.prevalence_store.specs.messages.Position.{position};
 ghost use Rattle.user_macros.specs.Functions.{are_registered};
 ghost use Rattle.world_text.specs.Snapshot.{snapshot};
-ghost use Rattle.store_commands.specs.Report.{IsReport, half_line_of, text_of};
+ghost use Rattle.store_commands.specs.Report.{IsReport, half_line_of, position_line, text_of};
 ghost use Rattle.store_commands.specs.Session.{half_limit};
 ghost use Rattle.store_commands.specs.Status.{status_of_output};
 ghost use Rattle.store_commands.specs.Texts.{TellsText};
 
-use crate::half_line::write_half_line;
-use crate::session::HALF_LIMIT;
+use crate::half_line::{write_half_and_position, write_half_line};
+use crate::opening::Opening;
 use crate::status::Status;
 use command_words::Report;
 use diagnostics::{Unwritten, write_out};
 use disk_trait::Disk;
 use lisp_object::refusal::{NO_MEMORY, OUTPUT, REOPEN};
-use plist_state::Seed;
 use prevalence_store::{Store, Unopened};
 use std::alloc::Global;
 use std::io::Write;
@@ -28,10 +28,7 @@ use user_macros::MacroFunctions;
 ///
 /// Those of opening the store. Nothing is written then, and the disk and the macro functions are given back.
 pub fn report_on<D, M, O>(
-    alloc: Global,
-    disk: D,
-    macros: M,
-    seed: Seed,
+    opening: Opening<D, M>,
     report: Report,
     output: &mut O,
 ) -> Result<(Status, D, M), Unopened<D, M>>
@@ -39,17 +36,18 @@ where
     D: Disk,
     M: MacroFunctions,
     O: Write,
-    requires room { (D.state disk).failures < 2 ^ 64 - 1 }
-    requires answers { M.answers macros }
+    requires room { (D.state opening.disk).failures < 2 ^ 64 - 1 }
+    requires answers { M.answers opening.macros }
     ensures reports { IfOk result (λ p. IsReport M.Meaning.functions D.state report
-        disk macros (O.contents output.old) (O.contents output.new) p.0 p.1) }
-    ensures kept { IfOk result (λ p. p.2 ≡ macros) }
-    ensures refused { IfErr result (λ e. IsUnopened M.Meaning.functions D.state disk
-        (are_registered M.Meaning.functions (M.functions macros)) half_limit e.number e.disk
+        opening.disk opening.macros (O.contents output.old) (O.contents output.new) p.0 p.1) }
+    ensures kept { IfOk result (λ p. p.2 ≡ opening.macros) }
+    ensures refused { IfErr result (λ e. IsUnopened M.Meaning.functions D.state opening.disk
+        (are_registered M.Meaning.functions (M.functions opening.macros)) half_limit e.number e.disk
         × (output.new ≡ output.old)) }
-    ensures given_back { IfErr result (λ e. e.macros ≡ macros) }
+    ensures given_back { IfErr result (λ e. e.macros ≡ opening.macros) }
 {
-    let store = Store::open_with_seed(alloc, disk, macros, HALF_LIMIT, seed)?;
+    let alloc = opening.alloc;
+    let store = opening.open()?;
     let status = write_report(alloc, &store, report, output);
     let (disk, macros) = store.close();
     Ok((status, disk, macros))
@@ -68,7 +66,7 @@ fn write_report<D: Disk, M: MacroFunctions, O: Write>(
 {
     match report {
         Report::Dump => write_world(alloc, store, output),
-        Report::Verify => write_half(store, output),
+        Report::Verify => write_verified(store, output),
     }
 }
 
@@ -90,6 +88,41 @@ fn write_world<D: Disk, M: MacroFunctions, O: Write>(
         return Status::Fault(NO_MEMORY);
     };
     status_of_output(write_out(output, text.as_slice()))
+}
+
+// Writes the line on the half in use of an open store, and that on its position.
+fn write_verified<D: Disk, M: MacroFunctions, O: Write>(
+    store: &Store<D, M>,
+    output: &mut O,
+) -> Status
+    requires known { IsSome store.now.world }
+    ensures { IfSome store.now.world (λ world. TellsText result (O.contents output.old) (O.contents output.new)
+        (half_line_of store.now ++ position_line (position world))) }
+{
+    match store.position() {
+        Ok(position) => write_position(store, position, output),
+        Err(_) => Status::Fault(NO_MEMORY),
+    }
+}
+
+// Writes the line on the half in use, and that on this position.
+fn write_position<D: Disk, M: MacroFunctions, O: Write>(
+    store: &Store<D, M>,
+    position: Option<u64>,
+    output: &mut O,
+) -> Status
+    ensures { TellsText result (O.contents output.old) (O.contents output.new)
+        (half_line_of store.now ++ position_line position) }
+{
+    let half = store.half();
+    let written = write_half_and_position(
+        output,
+        half,
+        store.generation(),
+        store.record_count(),
+        position,
+    );
+    status_of_output(written)
 }
 
 /// Writes the line on the half in use of an open store, and answers how that ended.

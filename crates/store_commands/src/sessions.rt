@@ -1,5 +1,5 @@
 // Sessions in a row over the store that a disk holds.
-ghost use Rattle.std.specs.Prelude.{◌≡◌, ◌<◌, ◌-◌, ◌^◌, Some, true, IfOk, IfErr};
+ghost use Rattle.std.specs.Prelude.{◌≡◌, ◌<◌, ◌-◌, ◌^◌, None, Some, true, IfOk, IfErr};
 ghost use Rattle.plist_state.specs.State.{WorldState};
 ghost use Rattle.prevalence_store.specs.calls.Open.{IsUnopened};
 ghost use Rattle.user_macros.specs.Functions.{are_registered};
@@ -7,27 +7,21 @@ ghost use Rattle.store_commands.specs.Commands.{IsUntouched};
 ghost use Rattle.store_commands.specs.Session.{half_limit};
 ghost use Rattle.store_commands.specs.Sessions.{AreSessions, InTurn};
 
-use crate::session::HALF_LIMIT;
+use crate::opening::Opening;
 use crate::terminal::Sessions;
 use diagnostics::Refusal;
 use disk_trait::Disk;
-use plist_state::Seed;
-use prevalence_store::{Ended, Store, Unopened, Wanted};
-use std::alloc::Global;
-use std::io::Write;
+use prevalence_store::{Ended, Recipient, Store, Unopened, Wanted};
 use user_macros::MacroFunctions;
 
 /// Sessions in a row over the store that a disk holds, as `serve_on` has one: after each one that a refusal ended the input is
-/// asked for another. The end is that of the last one.
+/// asked for another. The end is that of the last one. An account is that of one session, so these recipients keep none.
 ///
 /// # Errors
 ///
 /// Those of opening the store. Nothing is read or written then, and the disk and the macro functions are given back.
 pub fn sessions_on<D, M, I, O>(
-    alloc: Global,
-    disk: D,
-    macros: M,
-    seed: Seed,
+    opening: Opening<D, M>,
     wanted: Wanted,
     input: &mut I,
     output: &mut O,
@@ -36,19 +30,20 @@ where
     D: Disk,
     M: MacroFunctions,
     I: Sessions,
-    O: Write,
-    requires room { (D.state disk).failures < 2 ^ 64 - 1 }
-    requires answers { M.answers macros }
+    O: Recipient<D, M>,
+    requires room { (D.state opening.disk).failures < 2 ^ 64 - 1 }
+    requires answers { M.answers opening.macros }
+    requires keeps_none { (recipient : O) → O.account recipient ≡ None }
     ensures served { IfOk result (λ p. AreSessions M.Meaning.functions wanted
-        D.state disk macros (I.remaining input.old) (I.remaining input.new)
+        D.state opening.disk opening.macros (I.remaining input.old) (I.remaining input.new)
         (O.contents output.old) (O.contents output.new) p.0 p.1) }
-    ensures kept { IfOk result (λ p. p.2 ≡ macros) }
-    ensures refused { IfErr result (λ e. IsUnopened M.Meaning.functions D.state disk
-        (are_registered M.Meaning.functions (M.functions macros)) half_limit e.number e.disk
+    ensures kept { IfOk result (λ p. p.2 ≡ opening.macros) }
+    ensures refused { IfErr result (λ e. IsUnopened M.Meaning.functions D.state opening.disk
+        (are_registered M.Meaning.functions (M.functions opening.macros)) half_limit e.number e.disk
         × IsUntouched input.old input.new output.old output.new) }
-    ensures given_back { IfErr result (λ e. e.macros ≡ macros) }
+    ensures given_back { IfErr result (λ e. e.macros ≡ opening.macros) }
 {
-    let mut store = Store::open_with_seed(alloc, disk, macros, HALF_LIMIT, seed)?;
+    let mut store = opening.open()?;
     let ended = serve_in_turn(&mut store, wanted, input, output);
     let (disk, macros) = store.close();
     Ok((ended, disk, macros))
@@ -65,8 +60,9 @@ where
     D: Disk,
     M: MacroFunctions,
     I: Sessions,
-    O: Write,
+    O: Recipient<D, M>,
     requires answers { M.answers store.old.macros }
+    requires keeps_none { (recipient : O) → O.account recipient ≡ None }
     requires whole { are_registered M.Meaning.functions (M.functions store.old.macros) ≡ true }
     ensures serves { (world : WorldState) → store.old.world ≡ Some world
         → InTurn M.Meaning.functions wanted D.state store.old store.new world

@@ -5,13 +5,11 @@ ghost use Rattle.user_macros.specs.Functions.{are_registered};
 ghost use Rattle.store_commands.specs.Report.{HasNoValue, IsSnapshot, TellsSnapshot};
 ghost use Rattle.store_commands.specs.Session.{half_limit};
 
+use crate::opening::Opening;
 use crate::report::write_half;
-use crate::session::HALF_LIMIT;
 use crate::status::Status;
 use disk_trait::Disk;
-use plist_state::Seed;
 use prevalence_store::{Outcome, Store, Unopened};
-use std::alloc::Global;
 use std::io::Write;
 use user_macros::MacroFunctions;
 
@@ -22,27 +20,24 @@ use user_macros::MacroFunctions;
 ///
 /// Those of opening the store. Nothing is written then, and the disk and the macro functions are given back.
 pub fn snapshot_on<D, M, O>(
-    alloc: Global,
-    disk: D,
-    macros: M,
-    seed: Seed,
+    opening: Opening<D, M>,
     output: &mut O,
 ) -> Result<(Status, D, M), Unopened<D, M>>
 where
     D: Disk,
     M: MacroFunctions,
     O: Write,
-    requires room { (D.state disk).failures < 2 ^ 64 - 1 }
-    requires answers { M.answers macros }
+    requires room { (D.state opening.disk).failures < 2 ^ 64 - 1 }
+    requires answers { M.answers opening.macros }
     ensures snapshots { IfOk result (λ p. IsSnapshot M.Meaning.functions D.state
-        disk macros (O.contents output.old) (O.contents output.new) p.0 p.1) }
-    ensures kept { IfOk result (λ p. p.2 ≡ macros) }
-    ensures refused { IfErr result (λ e. IsUnopened M.Meaning.functions D.state disk
-        (are_registered M.Meaning.functions (M.functions macros)) half_limit e.number e.disk
+        opening.disk opening.macros (O.contents output.old) (O.contents output.new) p.0 p.1) }
+    ensures kept { IfOk result (λ p. p.2 ≡ opening.macros) }
+    ensures refused { IfErr result (λ e. IsUnopened M.Meaning.functions D.state opening.disk
+        (are_registered M.Meaning.functions (M.functions opening.macros)) half_limit e.number e.disk
         × (output.new ≡ output.old)) }
-    ensures given_back { IfErr result (λ e. e.macros ≡ macros) }
+    ensures given_back { IfErr result (λ e. e.macros ≡ opening.macros) }
 {
-    let mut store = Store::open_with_seed(alloc, disk, macros, HALF_LIMIT, seed)?;
+    let mut store = opening.open()?;
     let outcome = store.snapshot();
     let status = write_outcome(&store, &outcome, output);
     let (disk, macros) = store.close();

@@ -2,7 +2,8 @@
 ghost use Rattle.std.specs.Prelude.{◌≡◌};
 ghost use Rattle.store_commands.specs.Sessions.{Drops, DropsByte};
 
-use crate::answers::{Heard, is_blank};
+use crate::answers::Heard;
+use crate::given::is_blank;
 use arrayvec::ArrayVec;
 use diagnostics::{Places, Refusal, Spot, write_refusal, write_text};
 use std::cell::Cell;

@@ -7,15 +7,13 @@ ghost use Rattle.store_commands.specs.Report.{HasNoValue, IsUpgrade, TellsUpgrad
 ghost use Rattle.store_commands.specs.Session.{half_limit};
 ghost use Rattle.diagnostics.specs.Texts.{WritesOut};
 
+use crate::opening::Opening;
 use crate::report::status_of_output;
-use crate::session::HALF_LIMIT;
 use crate::status::Status;
 use arrayvec::ArrayString;
 use diagnostics::{Unwritten, write_out};
 use disk_trait::Disk;
-use plist_state::Seed;
 use prevalence_store::{Outcome, Store, Unopened};
-use std::alloc::Global;
 use std::fmt::Write as WriteText;
 use std::io::Write;
 use user_macros::MacroFunctions;
@@ -27,27 +25,24 @@ use user_macros::MacroFunctions;
 ///
 /// Those of opening the store. Nothing is written then, and the disk and the macro functions are given back.
 pub fn upgrade_on<D, M, O>(
-    alloc: Global,
-    disk: D,
-    macros: M,
-    seed: Seed,
+    opening: Opening<D, M>,
     output: &mut O,
 ) -> Result<(Status, D, M), Unopened<D, M>>
 where
     D: Disk,
     M: MacroFunctions,
     O: Write,
-    requires room { (D.state disk).failures < 2 ^ 64 - 1 }
-    requires answers { M.answers macros }
+    requires room { (D.state opening.disk).failures < 2 ^ 64 - 1 }
+    requires answers { M.answers opening.macros }
     ensures upgrades { IfOk result (λ p. IsUpgrade M.Meaning.functions D.state
-        disk macros (O.contents output.old) (O.contents output.new) p.0 p.1) }
-    ensures kept { IfOk result (λ p. p.2 ≡ macros) }
-    ensures refused { IfErr result (λ e. IsUnopened M.Meaning.functions D.state disk
-        (are_registered M.Meaning.functions (M.functions macros)) half_limit e.number e.disk
+        opening.disk opening.macros (O.contents output.old) (O.contents output.new) p.0 p.1) }
+    ensures kept { IfOk result (λ p. p.2 ≡ opening.macros) }
+    ensures refused { IfErr result (λ e. IsUnopened M.Meaning.functions D.state opening.disk
+        (are_registered M.Meaning.functions (M.functions opening.macros)) half_limit e.number e.disk
         × (output.new ≡ output.old)) }
-    ensures given_back { IfErr result (λ e. e.macros ≡ macros) }
+    ensures given_back { IfErr result (λ e. e.macros ≡ opening.macros) }
 {
-    let mut store = Store::open_with_seed(alloc, disk, macros, HALF_LIMIT, seed)?;
+    let mut store = opening.open()?;
     let outcome = upgraded(&mut store);
     let status = write_upgrade(&store, &outcome, output);
     let (disk, macros) = store.close();

@@ -31,7 +31,7 @@ use std::random::RandomSource;
 use std::rt::Files;
 use std::time::Clock;
 use store_commands::{
-    Folders, HALF_LIMIT, Status, TellsCause, Told, answer_words, end_with, end_with_told,
+    Folders, HALF_LIMIT, Opening, Status, TellsCause, Told, answer_words, end_with, end_with_told,
     open_folder, report_on, status_of_output,
 };
 use store_reports::{BackupError, LogPart, backup, log_lines};
@@ -218,7 +218,13 @@ where
         (are_registered M.Meaning.functions (M.functions macros)) (looking.Dump place) sight) }
 {
     let cut = cut_after(alloc, sight, place.number, place.generation)?;
-    match report_on(alloc, cut, macros, seed, Report::Dump, output) {
+    let opening = Opening {
+        alloc,
+        disk: cut,
+        macros,
+        seed,
+    };
+    match report_on(opening, Report::Dump, output) {
         Ok((status, _sight, _macros)) => Ok(status),
         Err(unopened) => Err(Unlooked::Fault(unopened.number)),
     }

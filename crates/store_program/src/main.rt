@@ -11,7 +11,7 @@ ghost use Rattle.user_macros.specs.Functions.{are_registered};
 use crate::opening::Telling;
 use command_words::{Way, asks_for_quiet, way_of};
 use lisp_object::refusal::NO_MEMORY;
-use message_command::{asks_for_messages, run_messages};
+use message_command::run_messages;
 use program_streams::{Cleared, Progress, Refusals, Uninterrupted, write_counts};
 use readtable_core::FnName;
 use six_functions::{SixFunctions, macro_functions};
@@ -81,16 +81,16 @@ fn serve_words<M: MacroFunctions + Drop, F: Write>(
         return end_with(faults, Status::Fault(NO_MEMORY));
     }
     let mut output = Uninterrupted::new(rt.stdout());
-    if asks_for_messages(words) {
-        let mut input = Uninterrupted::new(rt.stdin());
-        let folders = Telling::new(rt, rt);
-        return run_messages(&folders, macros, words, &mut input, &mut output, faults);
-    }
     match way_of(words) {
         Way::Look => look(rt, &Looking::new(rt), macros, words, &mut output, faults),
         Way::Check => {
             let mut input = Uninterrupted::new(rt.stdin());
             check(rt, macros, words, &mut input, &mut output, faults)
+        }
+        Way::Messages => {
+            let mut input = Uninterrupted::new(rt.stdin());
+            let folders = Telling::new(rt, rt);
+            run_messages(&folders, macros, words, &mut input, &mut output, faults)
         }
         Way::See => serve_pipe(
             rt,
@@ -99,9 +99,8 @@ fn serve_words<M: MacroFunctions + Drop, F: Write>(
             words,
             output,
         ),
-        Way::Serve if rt.stdin().is_terminal() => serve_at_terminal(rt, macros, words, faults),
         Way::Serve if asks_for_quiet(words) => serve_quietly(rt, macros, words, faults),
-        Way::Serve => serve_pipe(rt, &Telling::new(rt, rt), macros, words, output),
+        Way::Serve => serve_input(rt, macros, words, output),
     }
 }
 
@@ -115,7 +114,7 @@ fn serve_quietly<M: MacroFunctions + Drop, F: Write>(
     requires answers { M.answers macros }
 {
     let mut output = Refusals::new(rt.alloc(), Uninterrupted::new(rt.stdout()));
-    let status = serve_pipe(rt, &Telling::new(rt, rt), macros, words, &mut output);
+    let status = serve_input(rt, macros, words, &mut output);
     match status {
         Status::Helped | Status::WordsRefused => {}
         _ => {
@@ -123,6 +122,20 @@ fn serve_quietly<M: MacroFunctions + Drop, F: Write>(
         }
     }
     status
+}
+
+// The same of a terminal or of another input, with this output.
+fn serve_input<M, O>(rt: &HostRuntime, macros: M, words: &[String], output: O) -> Status
+where
+    M: MacroFunctions + Drop,
+    O: Write + Drop,
+    requires answers { M.answers macros }
+{
+    if rt.stdin().is_terminal() {
+        serve_at_terminal(rt, macros, words, output)
+    } else {
+        serve_pipe(rt, &Telling::new(rt, rt), macros, words, output)
+    }
 }
 
 // The same where standard input is no terminal, and folders are opened by another system. At a terminal standard error has a line on how far
@@ -169,20 +182,26 @@ fn size_of_input(rt: &HostRuntime) -> Option<u64> {
 }
 
 // The same at a terminal, whose prompts go to standard error.
-fn serve_at_terminal<M: MacroFunctions + Drop, F: Write>(
-    rt: &HostRuntime,
-    macros: M,
-    words: &[String],
-    faults: &mut F,
-) -> Status
+fn serve_at_terminal<M, O>(rt: &HostRuntime, macros: M, words: &[String], output: O) -> Status
+where
+    M: MacroFunctions + Drop,
+    O: Write + Drop,
     requires answers { M.answers macros }
 {
     let heard = Cell::new(Heard::Nothing);
     let lines = Lines::new(rt.alloc(), Uninterrupted::new(rt.stdin()));
     let mut input = Terminal::new(lines, rt.stderr(), &heard);
-    let mut output = Answers::new(Uninterrupted::new(rt.stdout()), &heard);
+    let mut output = Answers::new(output, &heard);
     let folders = Telling::new(rt, rt);
-    program_at_terminal(&folders, macros, words, &mut input, &mut output, faults)
+    let mut faults = rt.stderr();
+    program_at_terminal(
+        &folders,
+        macros,
+        words,
+        &mut input,
+        &mut output,
+        &mut faults,
+    )
 }
 
 // What comes of registering a function whose name is known and not taken: only memory can refuse it.

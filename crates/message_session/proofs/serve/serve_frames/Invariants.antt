@@ -1,6 +1,23 @@
-use Rattle.std.proofs.Common.{◌≡◌}
+use Rattle.std.proofs.Common.{◌≡◌, ◌≤◌, ◌*◌, ◌-◌, Some, length}
+use Rattle.std.specs.Prelude.{◌^◌}
+use Rattle.message_frames.specs.Frames.{IsBegun}
+use Rattle.message_session.specs.Sessions.{text_limit}
+use Rattle.message_session.proofs.Pieces.{HasCome}
+use Rattle.plist_state.specs.State.{WorldState}
 use Rattle.message_session.proofs.serve.serve_frames.Given as goal
 
--- the macro functions stay
+-- all frames were answered that stand whole in what came, and the macro functions stay
 abbrev pub invariant-pieces : goal.invariant-pieces
-invariant-pieces g l = record { macros : l.store.macros ≡ l.fn.store.macros }
+invariant-pieces g l = record {
+  macros : l.store.macros ≡ l.fn.store.macros;
+  buffer : length l.piece.items ≡ 65536;
+  reads : l.reads ≤ 2 ^ 40;
+  count : l.came ≤ l.reads * 65536;
+  answered : (w : WorldState) → l.fn.store.world ≡ Some w
+      → HasCome g.R.Meaning.Meaning.functions l.fn.course.last w (g.I.Read.remaining l.fn.input) (g.I.Read.remaining l.input)
+      (g.O.Write.contents l.fn.output) (g.O.Write.contents l.output) l.store l.session.course.last l.session.held l.came
+      × IsBegun text_limit l.session.held;
+}
+
+abbrev pub decreases-pieces : goal.decreases-pieces
+decreases-pieces g l = 2 ^ 40 - l.reads

@@ -1,6 +1,15 @@
 use Rattle.std.proofs.Common.{◌∙◌}
+use Rattle.store_commands.proofs.Accounts.{keeps_none}
 use Rattle.store_commands.proofs.Turns.{ends_refused, first_turn, last_turn, no_more_turns, turn_after}
 use Rattle.store_commands.proofs.sessions.serve_in_turn.Goals as goal
+
+pub serve_wanted-ended-requires-clause-begins : goal.serve_wanted-ended-requires-clause-begins
+serve_wanted-ended-requires-clause-begins g c = λ world known kept is.
+    absurd (keeps_none (g.O.Recipient.account c.args.output.now) kept (c.requires.keeps_none c.args.output.now) is)
+
+pub serve_wanted-ended-requires-in-sessions-clause-begins : goal.serve_wanted-ended-requires-in-sessions-clause-begins
+serve_wanted-ended-requires-in-sessions-clause-begins g c = λ world known kept is.
+    absurd (keeps_none (g.O.Recipient.account c.sessions.output) kept (c.requires.keeps_none c.sessions.output) is)
 
 pub sessions-init : goal.sessions-init
 sessions-init g c = (

@@ -9,4 +9,4 @@ invariant-sessions g l =
     (l.store.macros ≡ l.fn.store.macros)
     × ((world : WorldState) → l.fn.store.world ≡ Some world
     → Row g.M.Meaning.Meaning.functions l.fn.wanted g.D.Disk.state l.fn.store world
-    (g.I.Read.remaining l.fn.input) (g.O.Write.contents l.fn.output) l.store (g.I.Read.remaining l.input) (g.O.Write.contents l.output) l.ended)
+    (g.I.Read.remaining l.fn.input) (g.O.Recipient.contents l.fn.output) l.store (g.I.Read.remaining l.input) (g.O.Recipient.contents l.output) l.ended)

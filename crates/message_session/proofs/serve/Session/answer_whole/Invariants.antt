@@ -1,6 +1,17 @@
-use Rattle.std.proofs.Common.{◌≡◌}
+use Rattle.std.proofs.Common.{◌≡◌, List, Some, length}
+use Rattle.message_frames.specs.Frames.{Sent}
+use Rattle.message_session.specs.Steps.{PassesFrames}
+use Rattle.plist_state.specs.State.{WorldState}
 use Rattle.message_session.proofs.serve.Session.answer_whole.Given as goal
 
--- the macro functions stay
+-- the first frames were answered and passed, and the macro functions stay
 abbrev pub invariant-rounds : goal.invariant-rounds
-invariant-rounds g l = record { macros : l.store.macros ≡ l.fn.store.macros }
+invariant-rounds g l = record {
+  macros : l.store.macros ≡ l.fn.store.macros;
+  answered : (w : WorldState) → l.fn.store.world ≡ Some w
+      → (frames : List Sent) × PassesFrames g.R.Meaning.Meaning.functions l.fn.self l.self w l.store (g.O.Write.contents l.fn.output) (g.O.Write.contents l.output) frames;
+}
+
+-- each round passes a frame, which has bytes
+abbrev pub decreases-rounds : goal.decreases-rounds
+decreases-rounds g l = length l.self.held

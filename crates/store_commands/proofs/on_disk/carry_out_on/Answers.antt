@@ -1,26 +1,19 @@
 use Rattle.std.proofs.Common.{refl}
-use Rattle.store_commands.proofs.Statuses.{status_so}
-use Rattle.store_commands.proofs.Tasks.{does_export, does_not, does_run, does_snapshot, does_tell, does_upgrade}
-use Rattle.store_commands.proofs.commands.carry_out_on.Goals as goal
+use Rattle.store_commands.proofs.Tasks.{does_asked, does_export, does_not, does_snapshot, does_tell, does_upgrade}
+use Rattle.store_commands.proofs.on_disk.carry_out_on.Goals as goal
+
+pub returns-in-Run : goal.returns-in-Run
+returns-in-Run g c =
+    does_asked _ _ _ _ g.I.Read.remaining g.O.Write.contents _ _ _ _ _ _ _ c.args.task _ c.in-Run.wanted c.in-Run.is c.run_on.ensures
 
 pub returns-in-Ok : goal.returns-in-Ok
 returns-in-Ok g c =
-    does_run _ _ _ _ g.I.Read.remaining g.O.Write.contents _ _ _ _ _ _ _ c.args.task c.after_session.result c.in-Run.wanted c.in-Ok.ended c.in-Run.is
-    (status_so c.in-Run.wanted c.in-Ok.ended c.is_unanswered.result c.after_session.result c.after_session.ensures) c.of_session.ensures c.in-Ok.ensures.served
+    does_snapshot _ _ _ _ g.I.Read.remaining g.O.Write.contents _ _ _ _ _ _ _ c.args.task c.in-Ok.status c.in-Snapshot.is c.in-Ok.ensures.snapshots refl
 
 pub returns-in-Err : goal.returns-in-Err
 returns-in-Err g c =
     does_not _ _ _ _ g.I.Read.remaining g.O.Write.contents _ _ _ _ _ _ _ c.in-Err.unopened.disk c.args.task _ c.in-Err.unopened.number
-    c.without_store.ensures.status c.without_store.ensures.disk c.in-Err.ensures.refused.0 c.in-Err.ensures.refused.1
-
-pub returns-in-Ok-snapshot_on : goal.returns-in-Ok-snapshot_on
-returns-in-Ok-snapshot_on g c =
-    does_snapshot _ _ _ _ g.I.Read.remaining g.O.Write.contents _ _ _ _ _ _ _ c.args.task c.in-Ok-snapshot_on.status c.in-Snapshot.is c.in-Ok-snapshot_on.ensures.snapshots refl
-
-pub returns-in-Err-snapshot_on : goal.returns-in-Err-snapshot_on
-returns-in-Err-snapshot_on g c =
-    does_not _ _ _ _ g.I.Read.remaining g.O.Write.contents _ _ _ _ _ _ _ c.in-Err-snapshot_on.unopened.disk c.args.task _ c.in-Err-snapshot_on.unopened.number
-    c.without_store-in-Err-snapshot_on.ensures.status c.without_store-in-Err-snapshot_on.ensures.disk c.in-Err-snapshot_on.ensures.refused.0 (refl, c.in-Err-snapshot_on.ensures.refused.1)
+    c.without_store.ensures.status c.without_store.ensures.disk c.in-Err.ensures.refused.0 (refl, c.in-Err.ensures.refused.1)
 
 pub returns-in-Ok-upgrade_on : goal.returns-in-Ok-upgrade_on
 returns-in-Ok-upgrade_on g c =

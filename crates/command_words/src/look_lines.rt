@@ -1,0 +1,138 @@
+// The command lines of the commands that only look into a store.
+ghost use Rattle.std.specs.Prelude.{◌≡◌, false, IfOk};
+ghost use Rattle.clap.specs.Words.{app_of};
+ghost use Rattle.clap.specs.declared.builder.command.Command.TheViews.{out-Command as fields_of};
+ghost use Rattle.command_words.specs.LookLine.{backup_line, dump_line, log_line, looking_line, show_line, telling_line};
+ghost use Rattle.command_words.specs.Rules.{bare_line, folder_line};
+
+use crate::help::{
+    BACKUP_HELP, BACKUP_USAGE, DUMP_HELP, DUMP_USAGE, INFO_HELP, INFO_USAGE, LOG_HELP, LOG_USAGE,
+    SHOW_HELP, SHOW_USAGE, USAGE,
+};
+use crate::looks::{
+    AT, BACKUP, DESTINATION, FORMS, FROM, INDICATOR, INFO, LIKE, LOG, PACKAGE, PLACES, SHOW,
+};
+use crate::rules::{Help, PROGRAM, flag, folder_command, option, place};
+use crate::words::DUMP;
+use clap::Command;
+use std::alloc::{AllocError, Global};
+
+// The program with these commands alone.
+pub(crate) fn looking_command<'a>(alloc: Global) -> Result<Command<'a>, AllocError>
+    ensures { IfOk result (λ command. app_of command ≡ looking_line) }
+{
+    let with_log = telling_command(alloc)?;
+    let backup = backup_command(alloc)?;
+    let with_backup = with_log.subcommand(backup)?;
+    let dump = dump_command(alloc)?;
+    with_backup.subcommand(dump)
+}
+
+// The program with those that tell something alone.
+fn telling_command<'a>(alloc: Global) -> Result<Command<'a>, AllocError>
+    ensures { IfOk result (λ command. app_of command ≡ telling_line) }
+{
+    let show = show_command(alloc)?;
+    let with_show = bare_command(alloc).subcommand(show)?;
+    let help = Help {
+        about: "Tells figures of a store and of its files",
+        usage: INFO_USAGE,
+        end: INFO_HELP,
+    };
+    let info = store_command(alloc, INFO, help)?;
+    let with_info = with_show.subcommand(info)?;
+    let log = log_command(alloc)?;
+    with_info.subcommand(log)
+}
+
+// The program without its commands, of which one has to be there.
+pub(crate) fn bare_command<'a>(alloc: Global) -> Command<'a>
+    ensures line { app_of result ≡ bare_line }
+    ensures local { (fields_of result).has_globals ≡ false }
+{
+    Command::new(alloc, PROGRAM)
+        .override_usage(USAGE)
+        .subcommand_required(true)
+}
+
+// A command with its folder, into which it only looks.
+fn store_command<'a>(
+    alloc: Global,
+    name: &'a str,
+    help: Help<'a>,
+) -> Result<Command<'a>, AllocError>
+    ensures line { IfOk result (λ command. app_of command ≡ folder_line name.entry.now) }
+    ensures local { IfOk result (λ command. (fields_of command).has_globals ≡ false) }
+{
+    folder_command(
+        alloc,
+        name,
+        help,
+        "The folder of the store",
+        "Refuse a folder that holds no store, and only look",
+    )
+}
+
+fn show_command<'a>(alloc: Global) -> Result<Command<'a>, AllocError>
+    ensures line { IfOk result (λ command. app_of command ≡ show_line) }
+    ensures local { IfOk result (λ command. (fields_of command).has_globals ≡ false) }
+{
+    let help = Help {
+        about: "Shows properties of a store, as lines or as forms",
+        usage: SHOW_USAGE,
+        end: SHOW_HELP,
+    };
+    let command = store_command(alloc, SHOW, help)?;
+    let help = "Those of the symbols of this package";
+    let command = command.arg(option(alloc, PACKAGE, "NAME", help))?;
+    let help = "Those with an indicator of this name";
+    let command = command.arg(option(alloc, INDICATOR, "NAME", help))?;
+    let help = "Those of symbols whose names have this text";
+    let command = command.arg(option(alloc, LIKE, "NAME", help))?;
+    command.arg(flag(alloc, FORMS, "Write the forms that set them"))
+}
+
+fn log_command<'a>(alloc: Global) -> Result<Command<'a>, AllocError>
+    ensures line { IfOk result (λ command. app_of command ≡ log_line) }
+    ensures local { IfOk result (λ command. (fields_of command).has_globals ≡ false) }
+{
+    let help = Help {
+        about: "Writes the records of the half in use, a line each",
+        usage: LOG_USAGE,
+        end: LOG_HELP,
+    };
+    let command = store_command(alloc, LOG, help)?;
+    let help = "From this record on, counted from 1; G.N is that of generation G";
+    let command = command.arg(option(alloc, FROM, "N", help))?;
+    let help = "Write each number with the generation of the half before it, as G.N";
+    command.arg(flag(alloc, PLACES, help))
+}
+
+fn backup_command<'a>(alloc: Global) -> Result<Command<'a>, AllocError>
+    ensures line { IfOk result (λ command. app_of command ≡ backup_line) }
+    ensures local { IfOk result (λ command. (fields_of command).has_globals ≡ false) }
+{
+    let help = Help {
+        about: "Makes a new store with the world of a store",
+        usage: BACKUP_USAGE,
+        end: BACKUP_HELP,
+    };
+    let command = store_command(alloc, BACKUP, help)?;
+    let help = "The folder of the new store, which must not be there";
+    command.arg(place(alloc, DESTINATION, help))
+}
+
+fn dump_command<'a>(alloc: Global) -> Result<Command<'a>, AllocError>
+    ensures line { IfOk result (λ command. app_of command ≡ dump_line) }
+    ensures local { IfOk result (λ command. (fields_of command).has_globals ≡ false) }
+{
+    let help = Help {
+        about: "Writes the text of the world",
+        usage: DUMP_USAGE,
+        end: DUMP_HELP,
+    };
+    let command = store_command(alloc, DUMP, help)?;
+    let help =
+        "The world after the first N records of the half in use; G.N of that of generation G";
+    command.arg(option(alloc, AT, "N", help))
+}

@@ -1,0 +1,58 @@
+-- What requests are answered that frames are.
+use Rattle.std.proofs.Common.{◌≡◌, ℕ, Bool, true, false, List, [], map, None, Err, refl, sym, ap, subst, ◌∙◌}
+use Rattle.std.specs.List.{flat_map}
+use Rattle.std.specs.Prelude.{IsSome}
+use Rattle.disk_trait.specs.Disk.{State}
+use Rattle.message_frames.specs.Frames.{Sent, answer_bytes}
+use Rattle.message_laws.specs.Batches.{at_first, with_batch}
+use Rattle.message_laws.specs.Near.{Near}
+use Rattle.message_laws.proofs.Together.{StandsAt, one_stands, stands_first}
+use Rattle.message_laws.proofs.Tidy.{sound_tidy}
+use Rattle.message_session.specs.Answers.{answered_bytes, answers_to, each_frame}
+use Rattle.message_session.specs.Sessions.{HasCarriedOut}
+use Rattle.message_session.specs.Steps.{parts_of_frame, parts_of_request}
+use Rattle.message_session.proofs.Rounds.{same_rounds}
+use Rattle.plist_state.specs.Sound.{IsSound}
+use Rattle.plist_state.specs.State.{WorldState}
+use Rattle.prevalence_store.specs.calls.Store.{StoreView}
+use Rattle.prevalence_store.specs.declared.messages.request.Replies.{Replies}
+use Rattle.prevalence_store.specs.declared.messages.request.Request.{Request}
+use Rattle.prevalence_store.specs.messages.Answers.{Round, answered, begun, each_request}
+use Rattle.prevalence_store.specs.messages.Calls.{AnswersRequests, AreAnswered, left_after}
+use Rattle.prevalence_store.specs.messages.Rounds.{told_in}
+use Rattle.prevalence_store.specs.steps.Failure.{is_device}
+use Rattle.user_macros.specs.Functions.{Functions}
+
+module _ (functions : Functions) {D R : Type 0} (state : D → State) (old new : StoreView D R) (w : WorldState) (last : ℕ) where
+  module _ (sound : IsSound w) (frames : List Sent) (requests : List Request) (same : map parts_of_request requests ≡ map parts_of_frame frames)
+      (replies : Replies) (given : AreAnswered functions state old new w (answered functions (begun last w) requests) replies) where
+    stands : StandsAt functions (each_request functions (begun last w) requests) (with_batch (at_first last w) (answered functions (begun last w) requests))
+    stands =
+        let first = stands_first functions last w (sound_tidy w sound) in
+        let again : begun (begun last w).last w ≡ begun last w = λ i. record { told = []; last = first.raised i; left = w; entries = []; wrote = false } in
+        subst (λ (b : Round). StandsAt functions (each_request functions (begun last w) requests) (with_batch (at_first last w) (answered functions b requests))) again
+        (one_stands functions requests (begun last w) (at_first last w) first)
+
+    rounds : each_request functions (begun last w) requests ≡ each_frame functions (begun last w) frames
+    rounds = same_rounds functions requests frames (begun last w) same
+
+    pub bytes_are : flat_map answer_bytes (answers_to frames (map told_in replies.answers.items)) ≡ answered_bytes functions last w frames
+    bytes_are =
+        ap (λ ts. flat_map answer_bytes (answers_to frames ts)) (given.told ∙ sym stands.told ∙ ap (λ (r : Round). r.told) rounds)
+
+    pub carried_out : HasCarriedOut functions last w frames replies.last new
+    carried_out = record {
+      left = left_after (answered functions (begun last w) requests).wrote w (answered functions (begun last w) requests).left;
+      known = given.logs.left;
+      near = subst (λ (r : Round). Near r (begun replies.last (left_after (answered functions (begun last w) requests).wrote w (answered functions (begun last w) requests).left))) rounds
+          (subst (λ n. Near (each_request functions (begun last w) requests) (begun n (left_after (answered functions (begun last w) requests).wrote w (answered functions (begun last w) requests).left)))
+          (sym given.last) stands.near);
+    }
+
+  by_device : (failed : Bool) → (failed ≡ false → new ≡ old) → (failed ≡ true → new.world ≡ None) → IsSome new.world → new ≡ old
+  by_device false same unknown known = same refl
+  by_device true same unknown known = absurd (cc (subst IsSome (unknown refl) known))
+
+  -- requests that were not answered left the store as it was, if it has a world
+  pub left_alone : (requests : List Request) (number : ℕ) → AnswersRequests functions state old new w last requests (Err number) → IsSome new.world → new ≡ old
+  left_alone requests number left known = by_device (is_device left.0) left.2.unchanged (λ device. (left.2.stopped device).failed.unknown) known

@@ -1,0 +1,108 @@
+-- Frames that are answered after others.
+--     same_rounds      what requests make, the frames make that they are of
+--     first_after, more_after      frames after none, and after others
+--     bytes_of_both, bytes_of_first      the bytes of all, and of the first
+use Rattle.std.proofs.Common.{◌≡◌, ℕ, Bool, List, [], ◌∷◌, ◌++◌, Option, Some, length, map, fold, refl, sym, ap, subst, ◌∙◌, append_assoc, length-append, arith}
+use Rattle.std.specs.List.{flat_map}
+use Rattle.std.proofs.lemmas.Grind.{flat_map-append}
+use Rattle.std.proofs.lemmas.List.{append-nil}
+use Rattle.std.proofs.lemmas.List.Sums.{fold-append}
+use Rattle.message_frames.specs.Frames.{Sent, answer_bytes}
+use Rattle.message_laws.specs.Near.{IsTidy, Near}
+use Rattle.message_laws.proofs.Together.{More, near_itself, near_on, one_near}
+use Rattle.message_session.specs.Answers.{answered_bytes, answers_to, each_frame, message_number, one_frame}
+use Rattle.message_session.specs.Sessions.{HasCarriedOut}
+use Rattle.message_session.specs.Steps.{parts_of_frame, parts_of_request}
+use Rattle.plist_state.specs.State.{WorldState}
+use Rattle.prevalence_store.specs.calls.Store.{StoreView}
+use Rattle.prevalence_store.specs.declared.messages.request.Request.{Request}
+use Rattle.prevalence_store.specs.messages.Answers.{Round, begun, by_number, each_request, one_request}
+use Rattle.user_macros.specs.Functions.{Functions}
+
+answers_append : (xs ys : List Sent) (ts us : List (List ℕ × Bool)) → length ts ≡ length xs → answers_to (xs ++ ys) (ts ++ us) ≡ answers_to xs ts ++ answers_to ys us
+answers_append [] ys [] us same = refl
+answers_append [] ys (t ∷ ts) us same = absurd (omega (arith, same))
+answers_append (x ∷ xs) ys [] us same = absurd (omega (arith, same))
+answers_append (x ∷ xs) ys (t ∷ ts) us same = let less : length ts ≡ length xs = omega (arith, same) in ap (λ l. (x.0, t.0) ∷ l) (answers_append xs ys ts us less)
+
+module _ (functions : Functions) where
+  -- ---- requests
+
+  abbrev each_pair : Round → List (Option ℕ × List ℕ) → Round
+  each_pair round pairs = fold (λ (far : Round) pair. by_number functions far pair.0 pair.1) round pairs
+
+  of_requests : (requests : List Request) (round : Round) → each_request functions round requests ≡ each_pair round (map parts_of_request requests)
+  of_requests [] round = refl
+  of_requests (request ∷ requests) round = of_requests requests (one_request functions round request)
+
+  of_frames : (frames : List Sent) (round : Round) → each_frame functions round frames ≡ each_pair round (map parts_of_frame frames)
+  of_frames [] round = refl
+  of_frames (frame ∷ frames) round = of_frames frames (one_frame functions round frame)
+
+  pub same_rounds : (requests : List Request) (frames : List Sent) (round : Round) → map parts_of_request requests ≡ map parts_of_frame frames → each_request functions round requests ≡ each_frame functions round frames
+  same_rounds requests frames round same = of_requests requests round ∙ ap (each_pair round) same ∙ sym (of_frames frames round)
+
+  -- ---- frames
+
+  each_near : (frames : List Sent) (a b : Round) → Near a b → More (length frames) a b (each_frame functions a frames) (each_frame functions b frames)
+  each_near [] a b near = record { told = []; count = refl; here = sym (append-nil a.told); there = sym (append-nil b.told); near = near }
+  each_near (frame ∷ frames) a b near =
+      let one = one_near functions a b near (message_number frame.0) frame.1 in
+      let rest = each_near frames (one_frame functions a frame) (one_frame functions b frame) one.near in
+      record {
+        told = one.told ++ rest.told;
+        count = omega (arith, length-append one.told rest.told, one.count, rest.count);
+        here = rest.here ∙ ap (λ ts. ts ++ rest.told) one.here ∙ append_assoc a.told one.told rest.told;
+        there = rest.there ∙ ap (λ ts. ts ++ rest.told) one.there ∙ append_assoc b.told one.told rest.told;
+        near = rest.near;
+      }
+
+  both_rounds : (xs ys : List Sent) (round : Round) → each_frame functions round (xs ++ ys) ≡ each_frame functions (each_frame functions round xs) ys
+  both_rounds xs ys round = fold-append (λ (far : Round) frame. one_frame functions far frame) round xs ys
+
+  module _ (last : ℕ) (w : WorldState) (tidy : IsTidy w.properties) where
+    itself : Near (begun last w) (begun last w)
+    itself = near_itself functions (begun last w) tidy
+
+    -- the bytes of frames, by what is told of each
+    by_told : (frames more : List Sent) (ts : List (List ℕ × Bool)) → (each_frame functions (each_frame functions (begun last w) frames) more).told ≡ (each_frame functions (begun last w) frames).told ++ ts
+        → answered_bytes functions last w (frames ++ more) ≡ answered_bytes functions last w frames ++ flat_map answer_bytes (answers_to more ts)
+    by_told frames more ts told =
+        let far = each_frame functions (begun last w) frames in
+        let here = each_near frames (begun last w) (begun last w) itself in
+        let count : length far.told ≡ length frames = ap length here.here ∙ here.count in
+        ap (λ (r : Round). flat_map answer_bytes (answers_to (frames ++ more) r.told)) (both_rounds frames more (begun last w))
+        ∙ ap (λ us. flat_map answer_bytes (answers_to (frames ++ more) us)) told
+        ∙ ap (flat_map answer_bytes) (answers_append frames more far.told ts count)
+        ∙ flat_map-append answer_bytes (answers_to frames far.told) (answers_to more ts)
+
+    -- the bytes of the first frames come first
+    pub bytes_of_first : (frames more : List Sent) → (rest : List ℕ) × (answered_bytes functions last w (frames ++ more) ≡ answered_bytes functions last w frames ++ rest)
+    bytes_of_first frames more =
+        let far = each_frame functions (begun last w) frames in
+        let here = each_near frames (begun last w) (begun last w) itself in
+        let later = each_near more far far (near_itself functions far here.near.tidy) in
+        (flat_map answer_bytes (answers_to more later.told), by_told frames more later.told later.here)
+
+    pub first_after : {D R : Type 0} (store : StoreView D R) → store.world ≡ Some w → HasCarriedOut functions last w [] last store
+    first_after store known = record { left = w; known = known; near = itself }
+
+    module _ {D R : Type 0} (frames : List Sent) (mid_last : ℕ) (mid : StoreView D R) (before : HasCarriedOut functions last w frames mid_last mid) (more : List Sent) where
+      -- what was told of the first is told after them of the others
+      pub bytes_of_both : answered_bytes functions last w (frames ++ more) ≡ answered_bytes functions last w frames ++ answered_bytes functions mid_last before.left more
+      bytes_of_both =
+          let far = each_frame functions (begun last w) frames in
+          let here = each_near more far (begun mid_last before.left) before.near in
+          by_told frames more here.told here.here
+          ∙ ap (λ ts. answered_bytes functions last w frames ++ flat_map answer_bytes (answers_to more ts)) (sym here.there)
+
+      pub more_after : (new_last : ℕ) (new : StoreView D R) → HasCarriedOut functions mid_last before.left more new_last new → HasCarriedOut functions last w (frames ++ more) new_last new
+      more_after new_last new after =
+          let far = each_frame functions (begun last w) frames in
+          let here = each_near more far (begun mid_last before.left) before.near in
+          record {
+            left = after.left;
+            known = after.known;
+            near = subst (λ (r : Round). Near r (begun new_last after.left)) (sym (both_rounds frames more (begun last w)))
+                (near_on functions _ _ _ here.near after.near);
+          }

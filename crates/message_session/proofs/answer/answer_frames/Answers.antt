@@ -1,0 +1,22 @@
+use Rattle.std.proofs.Common.{◌≡◌, ℕ, List, [], ◌∷◌, Option, Some, length, map, sym, arith, eqb-true}
+use Rattle.message_frames.specs.Frames.{sent}
+use Rattle.message_frames.specs.declared.frame.Frame.{Frame}
+use Rattle.message_laws.specs.Near.{IsTidy}
+use Rattle.message_laws.proofs.Tidy.{sound_tidy}
+use Rattle.message_session.specs.Answers.{answered_bytes}
+use Rattle.message_session.specs.Sessions.{AreFramesAnswered}
+use Rattle.message_session.proofs.Frames.{none_answered}
+use Rattle.plist_state.specs.State.{WorldState}
+use Rattle.prevalence_store.specs.calls.Store.{StoreView}
+use Rattle.user_macros.specs.Functions.{Functions}
+use Rattle.message_session.proofs.answer.answer_frames.Goals as goal
+
+nothing : (functions : Functions) (last : ℕ) (w : WorldState) (tidy : IsTidy w.properties) {D R : Type 0} (store : StoreView D R) (known : store.world ≡ Some w) (held : Option (List ℕ)) (frames : List Frame)
+    → length frames ≡ 0 → AreFramesAnswered functions last w store held held (answered_bytes functions last w) (map sent frames) last
+nothing functions last w tidy store known held [] none = none_answered functions last w tidy store known held
+nothing functions last w tidy store known held (frame ∷ frames) none = absurd (omega (arith, none))
+
+pub returns-then-is_empty-clause-answers : goal.returns-then-is_empty-clause-answers
+returns-then-is_empty-clause-answers g c = λ w known.
+    nothing g.R.Meaning.Meaning.functions c.args.course.now.last w (sound_tidy w (c.its_world_is_sound.ensures w known)) c.args.store.now known (g.O.Write.contents c.args.output.now) c.args.frames.now
+    (eqb-true (length c.args.frames.now) 0 (sym c.if-is_empty.ensures))

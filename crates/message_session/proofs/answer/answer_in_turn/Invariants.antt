@@ -1,0 +1,15 @@
+use Rattle.std.proofs.Common.{◌≡◌, Some, map, take}
+use Rattle.message_frames.specs.Frames.{sent}
+use Rattle.message_session.specs.Answers.{answered_bytes}
+use Rattle.message_session.specs.Sessions.{AreFramesAnswered}
+use Rattle.plist_state.specs.State.{WorldState}
+use Rattle.message_session.proofs.answer.answer_in_turn.Given as goal
+
+-- the first frames were answered, and the macro functions stay
+abbrev pub invariant-frames : goal.invariant-frames
+invariant-frames g l = record {
+  macros : l.store.macros ≡ l.fn.store.macros;
+  answered : (w : WorldState) → l.fn.store.world ≡ Some w
+      → AreFramesAnswered g.R.Meaning.Meaning.functions l.fn.course.last w l.store (g.O.Write.contents l.fn.output) (g.O.Write.contents l.output)
+      (answered_bytes g.R.Meaning.Meaning.functions l.fn.course.last w) (map sent (take l.i l.frames)) l.course.last;
+}

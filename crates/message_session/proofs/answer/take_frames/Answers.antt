@@ -1,0 +1,69 @@
+use Rattle.std.proofs.Common.{◌≡◌, Some, map, sym, ap, subst, ◌∙◌}
+use Rattle.std.specs.List.{flat_map}
+use Rattle.message_frames.specs.Frames.{answer_bytes, sent}
+use Rattle.message_session.specs.Answers.{answered_bytes, answers_to}
+use Rattle.message_session.specs.Sessions.{EndsByFault, HasCarriedOut, WritesFirstOf}
+use Rattle.message_session.specs.Steps.{parts_of_request}
+use Rattle.message_session.proofs.Requests.{bytes_are, carried_out}
+use Rattle.message_session.proofs.Stops.{untaken}
+use Rattle.message_session.proofs.Streams.{front_of_all, front_of_part}
+use Rattle.plist_state.specs.State.{WorldState}
+use Rattle.prevalence_store.specs.calls.Streams.{Writes}
+use Rattle.prevalence_store.specs.messages.Rounds.{told_in}
+use Rattle.message_session.proofs.answer.take_frames.Given.{Over}
+use Rattle.message_session.proofs.answer.take_frames.Goals as goal
+use Rattle.message_session.proofs.answer.take_frames.Goals.{In-Ok-bytes_of}
+
+-- the bytes that are to be written
+bytes_made : (g : Over) (c : In-Ok-bytes_of g) (w : WorldState) → c.args.store.now.world ≡ Some w
+    → c.in-Ok-bytes_of.bytes.items ≡ answered_bytes g.R.Meaning.Meaning.functions c.args.course.now.last w (map sent c.args.frames.now)
+bytes_made g c w known =
+    c.in-Ok-bytes_of.ensures
+    ∙ ap (λ answers. flat_map answer_bytes (answers_to (map sent c.args.frames.now) (map told_in answers))) c.as_slice-2.ensures.value
+    ∙ bytes_are g.R.Meaning.Meaning.functions g.D.Disk.state c.args.store.now c.answer_requests.new.self w c.args.course.now.last
+    (c.its_world_is_sound.ensures w known) (map sent c.args.frames.now) c.as_slice.result.now
+    (ap (map parts_of_request) c.as_slice.ensures.value ∙ c.in-Ok.ensures)
+    c.in-Ok-answer_requests.replies (c.in-Ok-answer_requests.ensures.answer w known)
+
+-- the store after the requests
+stands : (g : Over) (c : In-Ok-bytes_of g) (w : WorldState) → c.args.store.now.world ≡ Some w
+    → HasCarriedOut g.R.Meaning.Meaning.functions c.args.course.now.last w (map sent c.args.frames.now) c.in-Ok-answer_requests.replies.last c.answer_requests.new.self
+stands g c w known =
+    carried_out g.R.Meaning.Meaning.functions g.D.Disk.state c.args.store.now c.answer_requests.new.self w c.args.course.now.last
+    (c.its_world_is_sound.ensures w known) (map sent c.args.frames.now) c.as_slice.result.now
+    (ap (map parts_of_request) c.as_slice.ensures.value ∙ c.in-Ok.ensures)
+    c.in-Ok-answer_requests.replies (c.in-Ok-answer_requests.ensures.answer w known)
+
+pub returns-in-Err-write_whole-clause-takes : goal.returns-in-Err-write_whole-clause-takes
+returns-in-Err-write_whole-clause-takes g c = λ w known. (
+  subst EndsByFault (sym c.in-Err-write_whole.ensures.fault) tt,
+  subst (WritesFirstOf (g.O.Write.contents c.args.output.now) (g.O.Write.contents c.write_whole.new.output))
+      (c.as_slice-3.ensures.value ∙ bytes_made g (goal.at.returns-in-Err-write_whole-clause-takes g c).In-Ok-bytes_of w known)
+      (front_of_part _ _ c.as_slice-3.result.now c.in-Err-write_whole.ensures.part),
+)
+
+pub returns-in-Ok-renew_if_due-clause-takes : goal.returns-in-Ok-renew_if_due-clause-takes
+returns-in-Ok-renew_if_due-clause-takes g c = λ w known.
+    let far = stands g (goal.at.returns-in-Ok-renew_if_due-clause-takes g c).In-Ok-bytes_of w known in
+    record {
+      after = subst (λ n. HasCarriedOut g.R.Meaning.Meaning.functions c.args.course.now.last w (map sent c.args.frames.now) n c.renew_if_due.new.store)
+          (sym c.in-Ok-renew_if_due.ensures.last)
+          (record { left = far.left; known = c.in-Ok-renew_if_due.ensures.same far.left far.known; near = far.near });
+      output = subst (Writes (g.O.Write.contents c.args.output.now) (g.O.Write.contents c.write_whole.new.output))
+          (c.as_slice-3.ensures.value ∙ bytes_made g (goal.at.returns-in-Ok-renew_if_due-clause-takes g c).In-Ok-bytes_of w known)
+          c.in-Ok-write_whole.ensures.whole;
+    }
+
+pub returns-clause-takes : goal.returns-clause-takes
+returns-clause-takes g c = λ w known. (
+  c.in-Err-renew_if_due.ensures.fault,
+  subst (WritesFirstOf (g.O.Write.contents c.args.output.now) (g.O.Write.contents c.write_whole.new.output))
+      (c.as_slice-3.ensures.value ∙ bytes_made g (goal.at.returns-clause-takes g c).In-Ok-bytes_of w known)
+      (front_of_all _ _ c.as_slice-3.result.now c.in-Ok-write_whole.ensures.whole),
+)
+
+pub returns-in-Err-clause-takes : goal.returns-in-Err-clause-takes
+returns-in-Err-clause-takes g c = λ w known.
+    untaken g.R.Meaning.Meaning.functions c.args.course.now.last w g.D.Disk.state c.args.store.now c.answer_requests.new.self (g.O.Write.contents c.args.output.now)
+    (map sent c.args.frames.now) c.as_slice.result.now c.in-Err.number c.stop_after.result
+    (c.in-Err.ensures.answer w known) c.stop_after.ensures

@@ -1,0 +1,33 @@
+use Rattle.std.proofs.Common.{ℕ, ◌<◌, List, length, map, drop, sym, subst}
+use Rattle.message_frames.specs.Frames.{AreFrames, sent}
+use Rattle.message_frames.specs.declared.frame.Frame.{Frame}
+use Rattle.message_session.specs.Sessions.{text_limit}
+use Rattle.message_session.specs.Steps.{ComesAfter}
+use Rattle.message_session.proofs.Held.{comes_after, shorter}
+use Rattle.message_session.proofs.serve.Session.answer_some.Goals as goal
+
+pub returns-clause-answers : goal.returns-clause-answers
+returns-clause-answers g c = λ w known.
+    let held = c.args.self.now.held in
+    let whole = c.in-Ok.ensures.whole in (
+      map sent c.as_slice-frames.result.now,
+      record {
+        parts = subst (λ rest. AreFrames text_limit (map sent c.as_slice-frames.result.now) rest held) (sym c.pass.ensures)
+            (subst (λ (fs : List Frame). AreFrames text_limit (map sent fs) (drop c.in-Ok.whole.bytes held) held) (sym c.as_slice-frames.ensures.value) whole.frames);
+        answered = c.in-Ok-answer_frames.ensures.answers w known;
+      },
+      subst (λ rest. ComesAfter (map sent c.as_slice-frames.result.now) rest c.in-Ok.whole.next) (sym c.pass.ensures)
+          (subst (λ (fs : List Frame). ComesAfter (map sent fs) (drop c.in-Ok.whole.bytes held) c.in-Ok.whole.next) (sym c.as_slice-frames.ensures.value)
+          (comes_after c.most-most.result c.in-Ok.whole.frames.items (drop c.in-Ok.whole.bytes held) c.in-Ok.whole.next c.most-most.ensures whole.follows)),
+    )
+
+pub returns-clause-fewer : goal.returns-clause-fewer
+returns-clause-fewer g c = λ unread.
+    let held = c.args.self.now.held in
+    let whole = c.in-Ok.ensures.whole in
+    let items = c.in-Ok.whole.frames.items in
+    let rest = drop c.in-Ok.whole.bytes held in
+    subst (λ (left : List ℕ). length left < length held) (sym c.pass.ensures)
+    (shorter (map sent items) rest held
+    (subst (ComesAfter (map sent items) rest) unread (comes_after c.most-most.result items rest c.in-Ok.whole.next c.most-most.ensures whole.follows))
+    whole.frames.parts)

@@ -1,0 +1,35 @@
+-- What is answered to frames one after the other, and what a session writes.
+use Rattle.std.specs.Prelude.{ℕ, Bool, List, [], ◌∷◌, ◌++◌, Option, None, Some, fold}
+use Rattle.std.specs.List.{flat_map}
+use Rattle.message_frames.specs.Frames.{Sent, answer_bytes, position_bytes}
+use Rattle.message_frames.specs.declared.frame.Kind.{Kind}
+use Rattle.message_frames.specs.declared.frame.Kind.TheVariants.{Do, Ask}
+use Rattle.plist_state.specs.State.{WorldState}
+use Rattle.prevalence_store.specs.messages.Answers.{Round, begun, by_number}
+use Rattle.user_macros.specs.Functions.{Functions}
+
+-- a message has a number, a question none
+abbrev pub message_number : Kind → Option ℕ
+message_number (Do number) = Some number
+message_number Ask = None
+
+-- a round with the answer to one frame more, and to frames one after the other
+abbrev pub one_frame : Functions → Round → Sent → Round
+one_frame functions round frame = by_number functions round (message_number frame.0) frame.1
+
+abbrev pub each_frame : Functions → Round → List Sent → Round
+each_frame functions round frames = fold (λ far frame. one_frame functions far frame) round frames
+
+-- each answer with the kind of its frame
+abbrev pub answers_to : List Sent → List (List ℕ × Bool) → List Sent
+answers_to [] told = []
+answers_to (frame ∷ frames) [] = []
+answers_to (frame ∷ frames) (one ∷ more) = (frame.0, one.0) ∷ answers_to frames more
+
+-- the bytes that answer frames, after the message of this number, in a world
+abbrev pub answered_bytes : Functions → ℕ → WorldState → List Sent → List ℕ
+answered_bytes functions last world frames = flat_map answer_bytes (answers_to frames (each_frame functions (begun last world) frames).told)
+
+-- What a session writes that begins in this world, with this position: the position, and the answer to each frame.
+abbrev pub session_bytes : Functions → ℕ → WorldState → List Sent → List ℕ
+session_bytes functions position world frames = position_bytes position ++ answered_bytes functions position world frames
