@@ -86,8 +86,11 @@ impl Pending {
     }
 }
 
-// The front of a piece to the parenthesis that closes the first one, outside of texts, if it begins with one. This is where a
-// form may end; whether it does, the reader says.
+/// How far a plain form is looked for at most, in bytes: where none is found the next form looks again.
+const LONGEST_PLAIN: usize = 2_048;
+
+// The front of a piece to the parenthesis that closes the first one, outside of texts, if it begins with one and has none of the characters
+// that plain forms do not have. This is where a form may end; whether it does, the reader says.
 fn first_list(piece: &[u8]) -> Option<&[u8]>
     ensures some { IfSome result (λ front. 0 < length front.now) }
     ensures front { IfSome result (λ front. front.now ≡ take (length front.now) piece.now) }
@@ -102,6 +105,7 @@ fn first_list(piece: &[u8]) -> Option<&[u8]>
             b'"' => in_text = !in_text,
             b'(' if !in_text => depth = depth.saturating_add(1),
             b')' if !in_text => depth = depth.saturating_sub(1),
+            b'#' | b'|' | b';' | b'\\' if !in_text => return None,
             _ => {}
         }
         if depth == 0 {
@@ -110,6 +114,9 @@ fn first_list(piece: &[u8]) -> Option<&[u8]>
             } else {
                 None
             };
+        }
+        if count == LONGEST_PLAIN {
+            return None;
         }
     }
     None
