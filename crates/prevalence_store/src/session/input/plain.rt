@@ -16,6 +16,7 @@ use form_reader::Limits;
 use plain_reader::read_plain;
 use plist_state::World;
 use readtable_core::Readtable;
+use readtable_core::standard_names::{STD_CLOSE, STD_LIST};
 use session_words::Mode;
 use std::alloc::{AllocError, Global};
 
@@ -48,6 +49,9 @@ impl Pending {
         ensures count { fed self.new.reader ≤ fed self.old.reader }
     {
         if !self.text.is_empty() {
+            return Ok(None);
+        }
+        if !has_lists(readtable) {
             return Ok(None);
         }
         let Some(front) = first_list(piece) else {
@@ -86,8 +90,20 @@ impl Pending {
     }
 }
 
+// Whether parentheses are those of lists. Where they are not, no plain form is looked for.
+fn has_lists(readtable: &Readtable) -> bool {
+    calls(readtable, b'(', STD_LIST) && calls(readtable, b')', STD_CLOSE)
+}
+
+fn calls(readtable: &Readtable, c: u8, name: &[u8]) -> bool {
+    match readtable.macro_of(c) {
+        Some(function) => function.as_bytes() == name,
+        None => false,
+    }
+}
+
 /// How far a plain form is looked for at most, in bytes: where none is found the next form looks again.
-const LONGEST_PLAIN: usize = 2_048;
+const LONGEST_PLAIN: usize = 1_024;
 
 // The front of a piece to the parenthesis that closes the first one, outside of texts, if it begins with one and has none of the characters
 // that plain forms do not have. This is where a form may end; whether it does, the reader says.
