@@ -1,8 +1,8 @@
 -- What the evaluator's calls answer, of the forms that they are handed.
 --     symbol_form, constant_form, uninterned_form      atoms
 --     head_at, arguments_proper, arguments_count, head_form, head_refused      a list by its head
---     ordinary_left, ordinary_is, place_refused, gathered_refused, performed      operators
---     plain_gathered, arguments_from, place_given, place_first, before_given      what operators take
+--     ordinary_is, performed      operators
+--     arguments_from, place_given, place_first, before_given      what operators take
 --     choice_refused, choice_true, choice_none, choice_other      IF
 use Rattle.std.proofs.Common.{◌≡◌, ◌<◌, ◌≤◌, ◌-◌, ℕ, Bool, true, false, cond, not, ◌&&◌, suc, zero, List, [], ◌∷◌, ◌++◌, Result, Ok, Err, Option, Some, None, map, length, drop, get_or, refl, sym, ap, subst, ◌∙◌, arith}
 use Rattle.std.proofs.lemmas.Bool.{false≢true, and_parts}
@@ -33,7 +33,7 @@ use Rattle.evaluator.specs.declared.place.Place.TheVariants.{Property, Case, Rea
 use Rattle.evaluator.specs.Operations.{action_of, is_ordinary, set_at, function_of}
 use Rattle.lisp_operators.specs.Evaluated.{Answers, done}
 use Rattle.evaluator.specs.Gathered.{all_done}
-use Rattle.evaluator.specs.Gathered.{arguments_of, parts, followed, subforms, gathered, refusal_of_place, list_place, place_of, IsHead, IsRefusal}
+use Rattle.evaluator.specs.Gathered.{arguments_of, parts, followed, subforms, gathered, refusal_of_place, list_place, place_of, IsHead}
 use Rattle.evaluator.specs.Gathered.{operation_value}
 use Rattle.evaluator.specs.declared.place.Place.{Place}
 use Rattle.evaluator.specs.declared.wanted.Wanted.{Wanted}
@@ -83,32 +83,6 @@ head_refused names s t items xs x (Refused code) same some is head =
 head_refused names s t items xs x OutOfMemory same some is head = tt
 
 -- ---- operators
-pub ordinary_left : (operation : Operation) → (operation ≡ Quote → ⊥) → (operation ≡ Progn → ⊥) → (operation ≡ If → ⊥) → (operation ≡ InPackage → ⊥) → is_ordinary operation ≡ true
-ordinary_left Quote q p f g = absurd (q refl)
-ordinary_left Progn q p f g = absurd (p refl)
-ordinary_left If q p f g = absurd (f refl)
-ordinary_left MakeList q p f g = refl
-ordinary_left Get q p f g = refl
-ordinary_left Setf q p f g = refl
-ordinary_left Remprop q p f g = refl
-ordinary_left SymbolPlist q p f g = refl
-ordinary_left Incf q p f g = refl
-ordinary_left Push q p f g = refl
-ordinary_left MakePackage q p f g = refl
-ordinary_left InPackage q p f g = absurd (g refl)
-ordinary_left Export q p f g = refl
-ordinary_left Import q p f g = refl
-ordinary_left UsePackage q p f g = refl
-ordinary_left Intern q p f g = refl
-ordinary_left CopyReadtable q p f g = refl
-ordinary_left InReadtable q p f g = refl
-ordinary_left SetSyntaxFromChar q p f g = refl
-ordinary_left SetMacroCharacter q p f g = refl
-ordinary_left GetMacroCharacter q p f g = refl
-ordinary_left MakeDispatchMacroCharacter q p f g = refl
-ordinary_left SetDispatchMacroCharacter q p f g = refl
-ordinary_left GetDispatchMacroCharacter q p f g = refl
-ordinary_left ReadtableCase q p f g = refl
 
 any_place : (names : List Name) (s : WorldState) (arguments : Object) → action_value s (action_of names Setf) arguments (parts names s arguments)
     ≡ unless (refusal_of_place Setf arguments) (and_then (gathered names s Setf arguments) (function_of names Setf (place_of Setf arguments)))
@@ -126,7 +100,7 @@ pub ordinary_is : (names : List Name) (operation : Operation) (s : WorldState) (
 ordinary_is names Quote s arguments e = absurd (false≢true e)
 ordinary_is names Progn s arguments e = absurd (false≢true e)
 ordinary_is names If s arguments e = absurd (false≢true e)
-ordinary_is names MakeList s arguments e = refl
+ordinary_is names MakeList s arguments e = absurd (false≢true e)
 ordinary_is names Get s arguments e = refl
 ordinary_is names Setf s arguments e = any_place names s arguments
 ordinary_is names Remprop s arguments e = refl
@@ -149,15 +123,6 @@ ordinary_is names SetDispatchMacroCharacter s arguments e = refl
 ordinary_is names GetDispatchMacroCharacter s arguments e = refl
 ordinary_is names ReadtableCase s arguments e = refl
 
-pub place_refused : (refusal : Option ℕ) (e : EvaluationError) (t : WorldState) (o : Evaluation Object) → IsRefusal {A = Bool} refusal (Err e) → Answers done (Err e) t (unless refusal o)
-place_refused refusal (Refused code) t o h = ap (λ r. unless r o) h
-place_refused refusal OutOfMemory t o h = tt
-
-pub gathered_refused : (e : EvaluationError) (t u : WorldState) (refusal : Option ℕ) (o : Evaluation (List Object)) (next : List Object → WorldState → Evaluation Object) → refusal ≡ None → Answers all_done (Err e) t o
-    → Answers done (Err e) u (unless refusal (and_then o next))
-gathered_refused (Refused code) t u refusal o next none h = ap (λ r. unless r (and_then o next)) none ∙ ap (λ x. and_then x next) h
-gathered_refused OutOfMemory t u refusal o next none h = tt
-
 pub performed : (wanted : Wanted) (names : List Name) (operation : Operation) (place : Place) (s t u : WorldState) (arguments : Object) (v : Values) (r : Result Evaluated EvaluationError) → is_ordinary operation ≡ true
     → refusal_of_place operation arguments ≡ None → place ≡ place_of operation arguments → gathered names s operation arguments ≡ Ok (all_done v t)
     → Answers done r u (also v.wrote (seen wanted (function_of names operation place (map object_of v.values.items) t))) → Answers done r u (seen wanted (operation_value names operation arguments s))
@@ -175,34 +140,6 @@ performed wanted names operation place s t u arguments v r ordinary none at is h
 pub arguments_from : (xs : List Datum) → arguments_of (map object_of xs) ≡ list_of (map object_of (drop 1 xs))
 arguments_from [] = refl
 arguments_from (x ∷ xs) = refl
-
-pub plain_gathered : (names : List Name) (s : WorldState) (operation : Operation) (arguments : Object) → (operation ≡ Setf → ⊥) → (operation ≡ Incf → ⊥) → (operation ≡ Push → ⊥)
-    → gathered names s operation arguments ≡ values names s arguments
-plain_gathered names s Quote arguments e f g = refl
-plain_gathered names s Progn arguments e f g = refl
-plain_gathered names s If arguments e f g = refl
-plain_gathered names s MakeList arguments e f g = refl
-plain_gathered names s Get arguments e f g = refl
-plain_gathered names s Setf arguments e f g = absurd (e refl)
-plain_gathered names s Remprop arguments e f g = refl
-plain_gathered names s SymbolPlist arguments e f g = refl
-plain_gathered names s Incf arguments e f g = absurd (f refl)
-plain_gathered names s Push arguments e f g = absurd (g refl)
-plain_gathered names s MakePackage arguments e f g = refl
-plain_gathered names s InPackage arguments e f g = refl
-plain_gathered names s Export arguments e f g = refl
-plain_gathered names s Import arguments e f g = refl
-plain_gathered names s UsePackage arguments e f g = refl
-plain_gathered names s Intern arguments e f g = refl
-plain_gathered names s CopyReadtable arguments e f g = refl
-plain_gathered names s InReadtable arguments e f g = refl
-plain_gathered names s SetSyntaxFromChar arguments e f g = refl
-plain_gathered names s SetMacroCharacter arguments e f g = refl
-plain_gathered names s GetMacroCharacter arguments e f g = refl
-plain_gathered names s MakeDispatchMacroCharacter arguments e f g = refl
-plain_gathered names s SetDispatchMacroCharacter arguments e f g = refl
-plain_gathered names s GetDispatchMacroCharacter arguments e f g = refl
-plain_gathered names s ReadtableCase arguments e f g = refl
 
 -- the first of the arguments, and the first two
 pub one_argument : (items : List Datum) (x : Datum) → 2 ≤ length items → x ≡ get_or items 1 x → arguments_of (map object_of items) ≡ pair (object_of x) (list_of (map object_of (drop 2 items)))

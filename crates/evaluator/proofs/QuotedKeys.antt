@@ -1,20 +1,18 @@
 -- Forms that are carried out as they stand.
---     call_object, call_proper, only_argument, both_arguments      a list that is headed by a symbol of COMMON-LISP
+--     call_proper, both_arguments      a list that is headed by a symbol of COMMON-LISP
 --     quoted_literal, quoted_some, constant_literal      forms that have the same value in every state
 --     get_of_key, set_of_key, assignment_given      GET and SETF of a property that two quoted symbols name
 --     key_symbols      both of them are there
-use Rattle.std.proofs.Common.{◌≡◌, ℕ, true, false, List, [], ◌∷◌, Option, Some, None, is_some, map, length, get_or, unwrap_or, codes, bytes_eq, refl, sym, ap, subst, ◌∙◌, arith}
-use Rattle.std.specs.Cmp.Lexicographic.{bytes_decides}
+use Rattle.std.proofs.Common.{◌≡◌, true, List, [], ◌∷◌, Option, Some, None, map, length, get_or, unwrap_or, codes, refl, sym, ap, subst, ◌∙◌, arith}
 use Rattle.std.specs.List.{list_all}
 use Rattle.std.specs.Option.{IfSome}
 use Rattle.std.specs.Borrow.{Bor}
-use Rattle.std.proofs.lemmas.Bool.{false≢true, and_parts}
+use Rattle.std.proofs.lemmas.Bool.{and_parts}
 use Rattle.std.proofs.lemmas.List.Elements.{All-cons, All-nil}
 use Rattle.lisp_object.specs.declared.datum.Datum
 use Rattle.lisp_object.specs.declared.datum.Datum.{Datum}
-use Rattle.lisp_object.specs.Object.{Object, integer, rational, character, text, symbol, uninterned, pair, vector, nil}
+use Rattle.lisp_object.specs.Object.{Object, symbol, pair, nil}
 use Rattle.lisp_object.specs.Datum.{object_of, is_proper}
-use Rattle.lisp_object.proofs.Objects.{object_of-List}
 use Rattle.lisp_object.proofs.ProperLists.{items_of_proper}
 use Rattle.package_table.specs.Table.{Name, Table, common_lisp}
 use Rattle.plist_state.specs.Properties.{Symbol}
@@ -25,34 +23,12 @@ use Rattle.lisp_operators.specs.Evaluation.{gives, writes}
 use Rattle.lisp_operators.specs.Evaluated.{IsProper, AreProper, object_of_symbol}
 use Rattle.lisp_operators.proofs.Storable.{value_parts, symbol_kind}
 use Rattle.evaluator.specs.declared.operation.Operation.TheVariants.{Get, Setf}
-use Rattle.evaluator.specs.Operators.{is_standard}
 use Rattle.evaluator.specs.Value.{value_by}
 use Rattle.evaluator.specs.Gathered.{arguments_of, operation_value}
 use Rattle.evaluator.specs.Direct.{quoted, quoted_key, IsLiteral}
-use Rattle.evaluator.proofs.Forms.{head_at}
 use Rattle.evaluator.proofs.Steps.{is_constant, value_constant}
 
 -- ---- lists by their heads
-standard_symbol : (name : List ℕ) (x : Object) → is_standard name x ≡ true → x ≡ symbol common_lisp name
-standard_symbol name (symbol h n) is =
-    let both = and_parts (bytes_eq h common_lisp) (bytes_eq n name) is in
-    λ i. symbol ((bytes_decides h common_lisp).0 both.0 i) ((bytes_decides n name).0 both.1 i)
-standard_symbol name (integer n) is = absurd (false≢true is)
-standard_symbol name (rational n d) is = absurd (false≢true is)
-standard_symbol name (character c) is = absurd (false≢true is)
-standard_symbol name (text b) is = absurd (false≢true is)
-standard_symbol name (uninterned n) is = absurd (false≢true is)
-standard_symbol name (pair a b) is = absurd (false≢true is)
-standard_symbol name (vector xs) is = absurd (false≢true is)
-
-pub call_object : (d : Datum) (items xs : List Datum) (tail : Option Datum) (x : Datum) (name : List ℕ) → d ≡ Datum.List items tail → is_proper d ≡ true → is_some tail ≡ false → xs ≡ items → x ≡ get_or xs 0 x
-    → is_standard name (object_of x) ≡ true → object_of d ≡ pair (symbol common_lisp name) (arguments_of (map object_of xs))
-call_object d items xs (Some end) x name is proper none same first standard = absurd (false≢true (sym none))
-call_object d items xs None x name is proper none same first standard =
-    ap object_of is ∙ object_of-List items
-    ∙ head_at items xs x same ((items_of_proper items None (ap is_proper (sym is) ∙ proper)).0) first
-    ∙ ap (λ h. pair h (arguments_of (map object_of xs))) (standard_symbol name (object_of x) standard)
-
 items_proper : (xs : List Datum) → list_all is_proper xs ≡ true → AreProper xs
 items_proper [] all = All-nil IsProper
 items_proper (x ∷ xs) all =
@@ -61,13 +37,6 @@ items_proper (x ∷ xs) all =
 
 pub call_proper : (d : Datum) (items xs : List Datum) (tail : Option Datum) → d ≡ Datum.List items tail → is_proper d ≡ true → xs ≡ items → AreProper xs
 call_proper d items xs tail is proper same = subst AreProper (sym same) (items_proper items (items_of_proper items tail (ap is_proper (sym is) ∙ proper)).1)
-
--- the one argument, and both
-pub only_argument : (items : List Datum) (x : Datum) → length items ≡ 2 → x ≡ get_or items 1 x → arguments_of (map object_of items) ≡ pair (object_of x) nil
-only_argument [] x two is = absurd (omega arith)
-only_argument (a ∷ []) x two is = absurd (omega arith)
-only_argument (a ∷ b ∷ []) x two is = ap (λ d. pair (object_of d) nil) (sym is)
-only_argument (a ∷ b ∷ e ∷ es) x two is = absurd (omega arith)
 
 pub both_arguments : (items : List Datum) (x y : Datum) → length items ≡ 3 → x ≡ get_or items 1 x → y ≡ get_or items 2 y → arguments_of (map object_of items) ≡ pair (object_of x) (pair (object_of y) nil)
 both_arguments [] x y three is at = absurd (omega arith)

@@ -15,11 +15,7 @@ use Rattle.lisp_operators.specs.Evaluated.{Answers, done}
 use Rattle.lisp_operators.specs.Evaluation.{Evaluation, gives, also, and_then}
 use Rattle.evaluator.specs.Value.{last, value, values, value_by}
 use Rattle.evaluator.specs.Gathered.{arguments_of, sequence_value}
-use Rattle.evaluator.proofs.Steps.{forms_from, value_first}
-
-or_false : (b : Bool) → (b || false) ≡ b
-or_false true = refl
-or_false false = refl
+use Rattle.evaluator.proofs.Steps.{or_false, forms_from, value_first}
 
 or_or : (a b : Bool) → ((a || b) || false) ≡ (a || (b || false))
 or_or true b = refl

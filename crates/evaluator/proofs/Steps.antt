@@ -6,7 +6,7 @@ use Rattle.std.proofs.Common.{◌≡◌, ◌<◌, ◌+◌, ℕ, Bool, true, fals
 use Rattle.std.proofs.Math.Seq.{drop-cons, drop-length}
 use Rattle.std.proofs.Math.Bool.{and-false}
 use Rattle.std.specs.List.{list_all}
-use Rattle.std.proofs.lemmas.Bool.{and_parts, and_from, false≢true}
+use Rattle.std.proofs.lemmas.Bool.{and_parts, false≢true}
 use Rattle.std.proofs.lemmas.List.Elements.{All-append, All-cons, All-nil, All-head, All-tail}
 use Rattle.lisp_object.specs.declared.datum.Datum
 use Rattle.lisp_object.specs.declared.datum.Datum.{Datum}
@@ -97,16 +97,16 @@ pub good_value : (names : List Name) (s : WorldState) (x : Object) (d : Done Obj
 good_value names s x d all sound is e = (subst (Goods IsValue s) e (value_safe names all s x sound is)).good
 
 -- ---- forms one after the other
+pub or_false : (b : Bool) → (b || false) ≡ b
+or_false true = refl
+or_false false = refl
+
 also_nothing : {A : Type 0} (o : Evaluation A) → also false o ≡ o
 also_nothing (Ok d) = refl
 also_nothing (Err code) = refl
 
 same_values : (o : Evaluation (List Object)) → and_then o (λ ys end'. gives ([] ++ ys) end') ≡ o
 same_values (Ok d) = ap (λ b. Ok (record { value = d.value; state = d.state; wrote = b })) (or_false d.wrote)
-  where
-    or_false : (b : Bool) → (b || false) ≡ b
-    or_false true = refl
-    or_false false = refl
 same_values (Err code) = refl
 
 pub followed_start : (names : List Name) (s : WorldState) (forms : Object) → followed names [] false s forms ≡ values names s forms
@@ -171,14 +171,6 @@ followed_end names xs w s forms =
     whole : (zs : List Object) → zs ++ [] ≡ zs
     whole [] = refl
     whole (z ∷ zs) = ap (λ l. z ∷ l) (whole zs)
-
-    or_false : (b : Bool) → (b || false) ≡ b
-    or_false true = refl
-    or_false false = refl
-
-pub are_proper : (u : Table) (xs : List Datum) → All (IsArgument u) xs → list_all is_proper xs ≡ true
-are_proper u [] all = refl
-are_proper u (x ∷ xs) all = and_from (is_proper x) (list_all is_proper xs) ((All-head (IsArgument u) x xs all).proper) (are_proper u xs (All-tail (IsArgument u) x xs all))
 
 pub all_more : (v : Table) (xs ys : List Datum) (x : Datum) → ys ≡ xs ++ x ∷ [] → All (IsArgument v) xs → IsArgument v x → All (IsArgument v) ys
 all_more v xs ys x is all one = subst (All (IsArgument v)) (sym is) (All-append (IsArgument v) xs (x ∷ []) all (All-cons (IsArgument v) x [] one (All-nil (IsArgument v))))

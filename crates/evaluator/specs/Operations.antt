@@ -109,6 +109,7 @@ abbrev pub is_ordinary : Operation → Bool
 is_ordinary Quote = false
 is_ordinary Progn = false
 is_ordinary If = false
+is_ordinary MakeList = false
 is_ordinary InPackage = false
 is_ordinary _ = true
 
@@ -126,6 +127,7 @@ abbrev pub function_of : List Name → Operation → Place → List Object → W
 function_of names Setf place xs s = set_at place xs s
 function_of names Incf place xs s = increment xs s
 function_of names Push place xs s = push xs s
+function_of names MakeList place xs s = Err ARGUMENT_KIND
 function_of names operation place xs s = of_values (action_of names operation) xs s
 
 -- the operators of control and on data, by their names

@@ -17,9 +17,7 @@ use lisp_object::refusal::ARGUMENT_KIND;
 use lisp_operators::EvaluationError::Refused;
 use lisp_operators::read_base::set_base;
 use lisp_operators::readtables::{get_dispatch, make_dispatch, set_dispatch, set_macro};
-use lisp_operators::{
-    Evaluated, EvaluationError, package_lists, packages, properties, readtables, values,
-};
+use lisp_operators::{Evaluated, EvaluationError, package_lists, packages, properties, readtables};
 use plist_state::World;
 use readtable_core::FnName;
 use std::alloc::Global;
@@ -69,7 +67,6 @@ pub(crate) fn carry_out(
     ensures marked { world.new.1 ≡ world.old.1 }
 {
     match operation {
-        Operation::MakeList => values::list(alloc, values),
         Operation::Get => properties::get(alloc, world, values),
         Operation::Setf => put(alloc, world, place, values),
         Operation::Remprop => properties::remove(alloc, world, values),
@@ -98,6 +95,7 @@ pub(crate) fn carry_out(
         Operation::Quote => Err(Refused(ARGUMENT_KIND)),
         Operation::Progn => Err(Refused(ARGUMENT_KIND)),
         Operation::If => Err(Refused(ARGUMENT_KIND)),
+        Operation::MakeList => Err(Refused(ARGUMENT_KIND)),
         Operation::InPackage => Err(Refused(ARGUMENT_KIND)),
     }
 }

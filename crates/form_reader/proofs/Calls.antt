@@ -5,7 +5,7 @@ use Rattle.std.specs.Prelude.{◌&&◌, ◌||◌}
 use Rattle.std.specs.List.{list_all}
 use Rattle.std.proofs.Math.Bool.{and_assoc}
 use Rattle.lisp_object.specs.declared.datum.Datum.{Datum}
-use Rattle.lisp_object.specs.Object.{Object, pairs, nil}
+use Rattle.lisp_object.specs.Object.{Object, pairs}
 use Rattle.lisp_object.specs.Datum.{object_of, is_proper}
 use Rattle.package_table.specs.Table.{Table as Packages}
 use Rattle.lisp_reading.specs.Answering.{are_known}
@@ -16,9 +16,9 @@ use Rattle.lisp_reading.specs.declared.limits.Limits.{Limits}
 use Rattle.form_reader.specs.declared.state.Event.{Event}
 use Rattle.form_reader.specs.declared.state.Event.TheVariants.{Open as IsAt, Gives as IsGiven, Refused as IsRefused}
 use Rattle.form_reader.specs.declared.value.Return.{Return}
-use Rattle.form_reader.specs.declared.value.Return.TheVariants.{Waits, Gives as ReturnGives, Refused as ReturnRefused}
+use Rattle.form_reader.specs.declared.value.Return.TheVariants.{Refused as ReturnRefused}
 use Rattle.lisp_reading.specs.declared.found.Found.{Found}
-use Rattle.form_reader.specs.State.{space, lookahead, IsReady, IsEnd, Brings}
+use Rattle.form_reader.specs.State.{space, IsReady, IsEnd, Brings}
 use Rattle.form_reader.specs.Value.{IsReturnAt}
 use Rattle.lisp_object.specs.declared.refusal.TheConstants.{DOT_CONTEXT}
 use Rattle.std_macros.specs.Values.{Material, many, dotted}
@@ -40,9 +40,6 @@ known_pairs packages [] end = refl
 known_pairs packages (x ∷ xs) end =
     ap (λ b. are_known packages (object_of x) && b) (known_pairs packages xs end)
     ∙ sym (and_assoc (are_known packages (object_of x)) (list_all (λ d. are_known packages (object_of d)) xs) (are_known packages end))
-
-pub known_nil : (packages : Packages) → are_known packages nil ≡ true
-known_nil packages = refl
 
 pub all_proper : (items : List Datum) → list_all is_proper items ≡ true → All (λ datum. is_proper datum ≡ true) items
 all_proper [] h = All-nil (λ datum. is_proper datum ≡ true)
@@ -84,12 +81,6 @@ or_space false false = omega arith
 -- ---- what one open call makes of it
 
 module _ (less most at : ℕ) (received : Return) where
-  pub stays_within : (token : Bool) → received ≡ Waits token → IsReturnAt less at received → less ≤ most → space token ≤ most
-  stays_within token e h le = let here : space token ≤ less = subst (λ (t : Return). IsReturnAt less at t) e h in omega (arith, here, le)
-
-  pub gives_within : (found : Found) → received ≡ ReturnGives found → IsReturnAt less at received → less ≤ most → lookahead found ≤ most
-  gives_within found e h le = let here : lookahead found ≤ less = subst (λ (t : Return). IsReturnAt less at t) e h in omega (arith, here, le)
-
   pub refused_within : (code offset : ℕ) → received ≡ ReturnRefused code offset → IsReturnAt less at received → offset ≤ at
   refused_within code offset e h = subst (λ (t : Return). IsReturnAt less at t) e h
 

@@ -152,14 +152,6 @@ none_begins setting stack call at offset cs e p =
     ap (λ (o : Option Way). run setting.table setting.limits (outer_plan setting stack (gathered_by setting (length stack) (inner_at setting (length stack)) call o)) at cs) e
     ∙ refused_is setting stack call at cs OUT_OF_PROFILE 1 ∙ ap (λ (n : ℕ). fault OUT_OF_PROFILE n) (sym p)
 
-pub some_begins : (setting : Setting) (stack after : List Frame) (call : InvokedCall) (way : Way) (at : ℕ) (cs : List ℕ) (event : Event) → way_in setting call ≡ Some way
-    → Gathers setting after stack call way at cs event → Begins setting after stack call at cs event
-some_begins setting stack after call way at cs event e gathers =
-    let same : run setting.table setting.limits (outer_plan setting stack (called setting (length stack) (inner_at setting (length stack)) call)) at cs
-    ≡ OpensWith setting stack call way (inner_at setting (length stack)) at cs =
-    ap (λ (o : Option Way). run setting.table setting.limits (outer_plan setting stack (gathered_by setting (length stack) (inner_at setting (length stack)) call o)) at cs) e in
-    subst (λ (r : Read Found). Brings setting after at cs event r) (sym same) gathers
-
 pub refusal_comes : (setting : Setting) (stack : List Frame) (completed : CallValue) (code back at offset : ℕ) (cs : List ℕ) → completed ≡ Refused code back → offset ≡ at - back
     → run setting.table setting.limits (outer_plan setting stack (plan_of completed)) at cs ≡ fault code offset
 refusal_comes setting stack completed code back at offset cs e p =

@@ -1,11 +1,7 @@
 -- What a step and the end of the text are to a reader, from what a change is to the outcome; where a reader is between forms.
-use Rattle.std.proofs.Common.{◌≡◌, ℕ, ◌+◌, ◌≤◌, true, List, [], ◌∷◌, ◌++◌, length, Result, Ok, Err, IfOk, take, drop, sym, ap, subst, ◌∙◌, append_assoc, append-nil, length-append, arith, refl}
-use Rattle.std.proofs.lemmas.List.{take-append-drop}
-use Rattle.lisp_object.specs.declared.datum.Datum.{Datum}
-use Rattle.lisp_object.specs.Object.{Object, IsSound}
-use Rattle.lisp_object.specs.Datum.{object_of, is_proper}
+use Rattle.std.proofs.Common.{◌≡◌, ℕ, ◌+◌, ◌≤◌, List, [], ◌∷◌, ◌++◌, length, Result, Ok, Err, IfOk, sym, ap, subst, ◌∙◌, append_assoc, append-nil, length-append, arith, refl}
+use Rattle.lisp_object.specs.Object.{Object}
 use Rattle.form_reader.specs.declared.stack.Frame.{Frame}
-use Rattle.lisp_reading.specs.declared.limits.Limits.{Limits}
 use Rattle.form_reader.specs.declared.reader.FormReader.{FormReader}
 use Rattle.form_reader.specs.declared.reader.ReaderState.{ReaderState}
 use Rattle.form_reader.specs.declared.reader.ReaderState.TheVariants.{Open, Refused, OutOfMemory}
@@ -21,11 +17,11 @@ use Rattle.lisp_reading.specs.Plans.{Read, fault, gives}
 use Rattle.std.specs.declared.alloc.AllocError.{AllocError}
 use Rattle.form_reader.specs.declared.step.object.Passed.{Passed}
 use Rattle.form_reader.specs.declared.step.object.Passed.TheVariants.{Done as PassedDone}
-use Rattle.form_reader.specs.Step.{Passes, outcome_of, rest_of, verdict_of, ChangesTo, IsStanding, IsReadyChange, BeginsFrom, Settles, BeginsAnew}
+use Rattle.form_reader.specs.Step.{Passes, outcome_of, rest_of, verdict_of, ChangesTo, IsReadyChange, Settles, BeginsAnew}
 use Rattle.form_reader.specs.State.{state_gives, Brings}
 use Rattle.lisp_reading.specs.Setting.{Setting}
 use Rattle.lisp_reading.specs.Reading.{form, refused, reads, Outcome, empty, reads_at}
-use Rattle.form_reader.specs.Reader.{fed, begun, MayGoOn, DecideNothing, IsNew, IsAfter, IsAfterIn, Steps, BeginsLater, IsSoundStep, Becomes, IsBetween, LeavesBetween}
+use Rattle.form_reader.specs.Reader.{fed, begun, IsNew, IsAfter, IsAfterIn, Steps, Becomes, IsBetween, LeavesBetween}
 use Rattle.form_reader.proofs.Deciding.{may_go_on, decide_nothing}
 use Rattle.lisp_reading.proofs.Forms.{reads_is, stood}
 use Rattle.form_reader.specs.declared.state.Event.{Event}
@@ -77,25 +73,6 @@ module _ (setting : Setting) (old mid new : FormReader) (state : State) (bytes :
   stepped (ChangeForm x start «end» next) (AdvanceRefused code offset) a turns ready takes same = absurd takes
   stepped (ChangeRefused from code offset) step a turns ready takes same =
       subst (λ (s : Advance). Steps setting new fed_now s) (sym takes.0) (λ cs. one_more a cs ∙ (λ i. (turns cs i).0), takes.1)
-
--- at most one byte more was fed
-pub fed_taking : (mid new : FormReader) (after : List Frame) (limits : Limits) (count : ℕ) (change : Change) (step : Advance) → Becomes change mid new step → IsReadyChange limits after count change
-    → mid.start + mid.at + 1 ≡ count → fed new ≤ count
-fed_taking mid new after limits count (Goes start at st) step takes ready many = omega (arith, takes.1, takes.2, ready.1)
-fed_taking mid new after limits count (ChangeForm x start «end» next) (AdvanceForm datum s e n) takes ready many = omega (arith, takes.5, takes.6, many)
-fed_taking mid new after limits count (ChangeForm x start «end» next) AdvanceMore takes ready many = absurd takes
-fed_taking mid new after limits count (ChangeForm x start «end» next) (AdvanceRefused code offset) takes ready many = absurd takes
-fed_taking mid new after limits count (ChangeRefused from code offset) step takes ready many = omega (arith, takes.3, many)
-
--- what is open after a change began no earlier
-pub begins_taking : (mid new : FormReader) (change : Change) (step : Advance) → Becomes change mid new step → BeginsFrom mid.start change → BeginsLater mid new step
-begins_taking mid new (Goes start at st) step takes from =
-    subst (λ (s : Advance). BeginsLater mid new s) (sym takes.0) (omega (arith, takes.1, from), omega (arith, takes.1))
-begins_taking mid new (ChangeForm x start «end» next) (AdvanceForm datum s e n) takes from = (omega (arith, takes.2, from), takes.5)
-begins_taking mid new (ChangeForm x start «end» next) AdvanceMore takes from = absurd takes
-begins_taking mid new (ChangeForm x start «end» next) (AdvanceRefused code offset) takes from = absurd takes
-begins_taking mid new (ChangeRefused start code offset) step takes from =
-    subst (λ (s : Advance). BeginsLater mid new s) (sym takes.0) (omega (arith, takes.2, from), omega arith)
 
 -- a form begins where the attempt that is open began, or later
 begins_from : (setting : Setting) (start : ℕ) (r : Read Found) (x : Object) (from «end» next : ℕ) → outcome_of setting start r ≡ form x from «end» next → start ≤ from

@@ -22,7 +22,7 @@ use Rattle.std.specs.Prelude.{nat_lt}
 use Rattle.lisp_reading.proofs.Forms.{reads_is}
 use Rattle.lisp_reading.proofs.Deciding.{decided_is}
 use Rattle.readtable_core.specs.declared.characters.Syntax.{Syntax}
-use Rattle.readtable_core.specs.declared.characters.Syntax.TheVariants.{Whitespace, Constituent, TerminatingMacro, NonTerminatingMacro, SingleEscape, MultipleEscape, Invalid}
+use Rattle.readtable_core.specs.declared.characters.Syntax.TheVariants.{Whitespace}
 use Rattle.readtable_core.specs.Tables.{entry_at}
 use Rattle.form_reader.specs.declared.state.State.{State}
 use Rattle.form_reader.proofs.Objects.{attempts, alone_by}
@@ -69,12 +69,7 @@ nothing_before setting start at c cs found token after result e turns =
 
 blank_is : (s : Syntax) → is_blank s ≡ true → s ≡ Whitespace
 blank_is Whitespace e = refl
-blank_is Constituent e = cc
-blank_is TerminatingMacro e = cc
-blank_is NonTerminatingMacro e = cc
-blank_is SingleEscape e = cc
-blank_is MultipleEscape e = cc
-blank_is Invalid e = cc
+blank_is _ e = absurd cc
 
 -- no call is open
 pub none_open : (stack : List Frame) → length stack ≡ 0 → stack ≡ []

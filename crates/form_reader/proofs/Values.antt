@@ -6,7 +6,7 @@ use Rattle.lisp_object.specs.declared.refusal.TheConstants.{DOT_CONTEXT, END_OF_
 use Rattle.std_macros.specs.Values.{one as one_object}
 use Rattle.form_reader.specs.declared.call.CallValue.{CallValue}
 use Rattle.form_reader.specs.declared.value.Return.{Return}
-use Rattle.form_reader.specs.declared.value.Return.TheVariants.{Gives as ReturnGives, Waits, Refused as ReturnRefused}
+use Rattle.form_reader.specs.declared.value.Return.TheVariants.{Gives as ReturnGives, Waits}
 use Rattle.lisp_reading.specs.declared.found.Found.{Found}
 use Rattle.lisp_reading.specs.declared.found.Found.TheVariants.{Nothing as nothing, One as one, LoneDot as lone_dot, TheEnd as the_end}
 use Rattle.form_reader.specs.declared.stack.Frame.{Frame}
@@ -263,12 +263,6 @@ as_many (f ∷ fs) after found e = by (with_found f.part found) refl
 
 pub stays_open : (stack after : List Frame) (found : Found) (token : Bool) → calls_with stack found ≡ Some after → Shortens stack after (Waits token)
 stays_open stack after found token e = let many : length after ≡ length stack = as_many stack after found e in omega (arith, many)
-
--- the innermost ended
-pub fewer_open : (stack after : List Frame) (received : Return) → length after < length stack → Shortens stack after received
-fewer_open stack after (Waits token) less = omega (arith, less)
-fewer_open stack after (ReturnGives found) less = less
-fewer_open stack after (ReturnRefused code offset) less = omega (arith, less)
 
 -- ---- call after call
 

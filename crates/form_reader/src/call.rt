@@ -1,6 +1,6 @@
 //! What a call gives for what was gathered, where it ends.
-ghost use Rattle.std.specs.Prelude.{◌≡◌, ◌+◌, ◌&&◌, true, nat_le, IfOk, ◌≤◌, ◌||◌, ℕ, false, List, length, Ok, ◌<◌};
-ghost use Rattle.lisp_object.specs.Object.{object_depth};
+ghost use Rattle.std.specs.Prelude.{◌≡◌, ◌+◌, ◌&&◌, true, nat_le, IfOk, IsTrue, ◌≤◌, ◌||◌, ℕ, false, List, length, Ok, ◌<◌};
+ghost use Rattle.lisp_object.specs.Object.{IsSound, object_depth};
 ghost use Rattle.lisp_object.specs.Datum.{object_of, is_proper};
 ghost use Rattle.user_macros.specs.Calls.{call_of, answer_of, material_of};
 ghost use Rattle.user_macros.specs.Sound.{IsSoundCall, IsProperMaterial};
@@ -147,8 +147,9 @@ fn user_value(
 /// Whether a datum may be answered at this depth, within the nesting.
 #[tactic(auto, using(crate::proofs::Fits::too_deep, crate::proofs::Fits::within_nesting))]
 fn fits(packages: &Packages, nesting: u32, depth: usize, datum: &Datum) -> bool
-    ensures { result ≡ (is_proper datum.now && (may_be_answered packages.now.0 (object_of datum.now)
+    ensures value { result ≡ (is_proper datum.now && (may_be_answered packages.now.0 (object_of datum.now)
         && nat_le (object_depth (object_of datum.now) + depth) nesting)) }
+    ensures sound { IsTrue result → IsSound (object_of datum.now) }
 {
     let nesting = u64::from(nesting);
     let depth = depth as u64;

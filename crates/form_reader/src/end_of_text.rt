@@ -183,7 +183,7 @@ fn done_last(found: Found, start: usize, at: usize) -> ReadOutcome
         Found::One(_, x) => {
             let end = start + at;
             ReadOutcome::Form {
-                datum: x.into_sound_datum(),
+                datum: x.into_datum(),
                 start,
                 end,
                 next: end,

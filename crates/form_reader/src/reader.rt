@@ -202,7 +202,7 @@ impl FormReader {
                 self.at = 0;
                 self.state = ReaderState::Open(State::Object);
                 Advance::Form {
-                    datum: x.into_sound_datum(),
+                    datum: x.into_datum(),
                     start,
                     end,
                     next,

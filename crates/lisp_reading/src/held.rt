@@ -1,17 +1,20 @@
-//! What a reader holds while calls are open: proper objects, and characters.
-ghost use Rattle.std.specs.Prelude.{◌≡◌, ◌<◌, [], ◌∷◌, ◌++◌, true, false, map, length, Some, None, is_some, nat_le, ◌≤◌, IfSome, OnOk, IsTrue};
+//! What a reader holds while calls are open: proper and sound objects, and characters.
+ghost use Rattle.std.specs.Prelude.{◌≡◌, ◌<◌, [], ◌∷◌, ◌++◌, true, false, codes, pos, map, length, All, Some, None, is_some, nat_le, ◌≤◌, IfOk, IfSome, OnOk, IsTrue};
 ghost use Rattle.readtable_core.specs.Characters.{is_digit};
 ghost use Rattle.lisp_reading.specs.Gathering.{next_digit};
 ghost use Rattle.std.specs.List.{list_all};
 ghost use Rattle.lisp_object.specs.Ascii.{is_ascii};
-ghost use Rattle.lisp_object.specs.Object.{IsSound};
+ghost use Rattle.lisp_object.specs.Object.{IsSound, integer, text, symbol, list_of};
 ghost use Rattle.lisp_object.specs.Datum.{object_of, is_proper};
+ghost use Rattle.package_table.specs.Symbols.{are_there};
+ghost use Rattle.std_macros.specs.Values.{headed};
 
 use lisp_object::{Bytes, Datum, Items};
+use package_table::Packages;
 use std::alloc::{AllocError, Global};
 use std::marker::Model;
 
-/// A proper datum, which contracts see as its object.
+/// A proper datum whose object is sound, so that nothing looks at it once more. Contracts see it as its object.
 #[derive(Drop)]
 pub struct HeldObject {
     datum: Datum,
@@ -19,7 +22,7 @@ pub struct HeldObject {
 
 impl Model for HeldObject {
     ghost use Rattle.std.specs.Prelude.{◌≡◌, true};
-    ghost use Rattle.lisp_object.specs.Object.{Object};
+    ghost use Rattle.lisp_object.specs.Object.{Object, IsSound};
     ghost use Rattle.lisp_object.specs.ObjectCode.{object_code};
 
     ghost Value = { Object };
@@ -30,50 +33,112 @@ impl Model for HeldObject {
 
     ghost view = { λ h. object_of h.datum };
 
-    ghost invariant = { λ h. is_proper h.datum ≡ true };
+    ghost invariant = { λ h. (is_proper h.datum ≡ true) × IsSound (object_of h.datum) };
 }
 
 impl HeldObject {
-    /// Holds `datum`, which is proper.
+    /// Holds `datum`, which is proper and sound.
+    #[inline(always)]
     pub fn new(datum: Datum) -> HeldObject
-        requires { is_proper datum ≡ true }
+        requires proper { is_proper datum ≡ true }
+        requires sound { IsSound (object_of datum) }
         ensures { result ≡ object_of datum }
     {
         HeldObject { datum }
     }
 
-    /// The datum, moved out.
-    pub fn into_datum(self) -> Datum
-        ensures object { object_of result ≡ self }
-        ensures proper { is_proper result ≡ true }
+    /// A text.
+    pub fn text(bytes: Bytes) -> HeldObject
+        requires { list_all is_ascii bytes ≡ true }
+        ensures { result ≡ text bytes }
     {
-        let HeldObject { datum } = self;
-        datum
+        HeldObject {
+            datum: Datum::Text(bytes),
+        }
     }
 
-    /// The datum, moved out, and seen to be sound. It looks at each part of the object once.
-    pub fn into_sound_datum(self) -> Datum
+    /// An integer.
+    pub fn integer(n: u64) -> HeldObject
+        ensures { result ≡ integer (pos n) }
+    {
+        HeldObject {
+            datum: Datum::Integer(i128::from(n)),
+        }
+    }
+
+    /// The symbol of this home and name.
+    #[tactic(auto, using(lisp_object::proofs::Objects::object_laws, lisp_object::proofs::Properness::proper_laws))]
+    #[inline(always)]
+    pub fn symbol(alloc: Global, home: &[u8], name: Bytes) -> Result<HeldObject, AllocError>
+        requires home { list_all is_ascii home.now ≡ true }
+        requires name { list_all is_ascii name ≡ true }
+        ensures { IfOk result (λ x. x ≡ symbol home.now name) }
+    {
+        let package = Bytes::from_slice(alloc, home)?;
+        Ok(HeldObject {
+            datum: Datum::Symbol { package, name },
+        })
+    }
+
+    /// The list of QUOTE and this object.
+    pub fn quoted(self, alloc: Global) -> Result<HeldObject, AllocError>
+        ensures { IfOk result (λ x. x ≡ headed (codes "QUOTE") self) }
+    {
+        let mut items = HeldObjects::with_capacity(alloc, 2)?;
+        items.push(quote(alloc)?)?;
+        items.push(self)?;
+        items.into_list(alloc)
+    }
+
+    /// Whether each of its interned symbols is one of these packages. Of a list and a vector it does not tell.
+    pub fn is_there(&self, packages: &Packages) -> bool
+        ensures { result ≡ true → are_there packages.now.0 self.now ≡ true }
+    {
+        match &self.datum {
+            Datum::Symbol { package, name } => {
+                packages.is_symbol(package.as_slice(), name.as_slice())
+            }
+            Datum::List { items: _, tail: _ } => false,
+            Datum::Vector(_) => false,
+            Datum::Integer(_) => true,
+            Datum::Rational(_) => true,
+            Datum::Char(_) => true,
+            Datum::Text(_) => true,
+            Datum::Uninterned(_) => true,
+        }
+    }
+
+    /// The datum, moved out.
+    #[inline(always)]
+    pub fn into_datum(self) -> Datum
         ensures object { object_of result ≡ self }
         ensures proper { is_proper result ≡ true }
         ensures sound { IsSound (object_of result) }
     {
-        let datum = self.into_datum();
-        let _proper = datum.is_proper();
+        let HeldObject { datum } = self;
         datum
     }
 }
 
-/// Proper data in order, which contracts see as their objects.
+/// The symbol QUOTE.
+fn quote(alloc: Global) -> Result<HeldObject, AllocError>
+    ensures { IfOk result (λ x. x ≡ symbol (codes "COMMON-LISP") (codes "QUOTE")) }
+{
+    let name = Bytes::from_slice(alloc, b"QUOTE")?;
+    HeldObject::symbol(alloc, b"COMMON-LISP", name)
+}
+
+/// Such data in order, which contracts see as their objects.
 #[derive(Drop)]
 pub struct HeldObjects {
     data: Vec<Datum>,
 }
 
 impl Model for HeldObjects {
-    ghost use Rattle.std.specs.Prelude.{◌≡◌, true, List, map};
+    ghost use Rattle.std.specs.Prelude.{◌≡◌, true, List, map, All};
     ghost use Rattle.std.specs.List.{list_all};
     ghost use Rattle.std.specs.Coded.{coded_list};
-    ghost use Rattle.lisp_object.specs.Object.{Object};
+    ghost use Rattle.lisp_object.specs.Object.{Object, IsSound};
     ghost use Rattle.lisp_object.specs.ObjectCode.{object_code};
 
     ghost Value = { List Object };
@@ -84,7 +149,8 @@ impl Model for HeldObjects {
 
     ghost view = { λ h. map object_of h.data.items };
 
-    ghost invariant = { λ h. list_all is_proper h.data.items ≡ true };
+    ghost invariant = { λ h.
+        (list_all is_proper h.data.items ≡ true) × All (λ d. IsSound (object_of d)) h.data.items };
 }
 
 impl HeldObjects {
@@ -97,11 +163,22 @@ impl HeldObjects {
         }
     }
 
+    /// No objects, and room for so many.
+    pub fn with_capacity(alloc: Global, capacity: usize) -> Result<HeldObjects, AllocError>
+        ensures { IfOk result (λ xs. xs ≡ []) }
+    {
+        Ok(HeldObjects {
+            data: Vec::with_capacity(alloc, capacity)?,
+        })
+    }
+
     /// One more object, after the others.
+    #[inline(always)]
     pub fn push(&mut self, x: HeldObject) -> Result<(), AllocError>
         ensures { OnOk result (self.new ≡ self.old ++ x ∷ []) }
     {
-        self.data.push(x.into_datum())?;
+        let datum = x.into_datum();
+        self.data.push(datum)?;
         Ok(())
     }
 
@@ -113,10 +190,21 @@ impl HeldObjects {
         self.data.is_empty()
     }
 
+    /// The list of them.
+    pub fn into_list(self, alloc: Global) -> Result<HeldObject, AllocError>
+        ensures { IfOk result (λ x. x ≡ list_of self) }
+    {
+        let HeldObjects { data } = self;
+        Ok(HeldObject {
+            datum: Datum::list(alloc, data, None)?,
+        })
+    }
+
     /// The data, moved out.
     pub fn into_items(self) -> Items<Datum>
         ensures objects { map object_of result ≡ self }
         ensures proper { list_all is_proper result ≡ true }
+        ensures sound { All (λ d. IsSound (object_of d)) result }
     {
         let HeldObjects { data } = self;
         Items::from_vec(data)

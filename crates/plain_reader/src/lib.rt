@@ -9,7 +9,7 @@
 //!   specs/Tokens.antt: tokens without escapes
 //!
 //! - `plain`: `PlainForm`, `read_plain`
-//! - `context`: what reading is handed; `sound`: what is held while lists are open
+//! - `context`: what reading is handed
 //! - `objects`: lists, quoted objects, texts
 //! - `tokens`: where a token ends, and what it means; `words`: names and integers that are seen from their bytes
 #![tactic(auto)]
@@ -17,7 +17,6 @@
 mod context;
 mod objects;
 mod plain;
-mod sound;
 mod tokens;
 mod words;
 

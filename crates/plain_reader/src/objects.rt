@@ -6,9 +6,9 @@ ghost use Rattle.plain_reader.specs.Plain.{Takes, Gathers, Closes, LeavesLess, A
 ghost use Rattle.plain_reader.specs.Texts.{is_letter, IsText};
 
 use crate::context::Context;
-use crate::sound::{SoundObject, SoundObjects};
 use crate::tokens::token;
 use lisp_object::Bytes;
+use lisp_reading::{HeldObject, HeldObjects};
 use readtable_core::{Readtable, Syntax};
 use std::alloc::AllocError;
 
@@ -16,7 +16,7 @@ use std::alloc::AllocError;
 #[derive(Drop)]
 pub(crate) struct Taken<'a> {
     pub token: bool,
-    pub object: SoundObject,
+    pub object: HeldObject,
     pub rest: &'a [u8],
 }
 
@@ -59,7 +59,7 @@ pub(crate) fn list<'a>(
     if room == 0 {
         return Ok(None);
     }
-    let mut items = SoundObjects::new(with.alloc);
+    let mut items = HeldObjects::new(with.alloc);
     let mut rest = text;
     while let Some(more) = item(with, room - 1, known, &mut items, rest)? {
         rest = more;
@@ -73,7 +73,7 @@ fn item<'a>(
     with: &Context<'_>,
     room: u32,
     known: &mut bool,
-    items: &mut SoundObjects,
+    items: &mut HeldObjects,
     text: &'a [u8],
 ) -> Result<Option<&'a [u8]>, AllocError>
     ensures gathers { IfOk result (λ found. IfSome found
@@ -102,7 +102,7 @@ fn item<'a>(
 fn close<'a>(
     with: &Context<'_>,
     room: u32,
-    items: SoundObjects,
+    items: HeldObjects,
     text: &'a [u8],
 ) -> Result<Option<Taken<'a>>, AllocError>
     ensures closes { IfOk result (λ found. IfSome found (Closes with.now room items text.now)) }
@@ -162,7 +162,7 @@ fn string<'a>(with: &Context<'_>, text: &'a [u8]) -> Result<Option<Taken<'a>>, A
         None => Ok(None),
         Some(count) => Ok(Some(Taken {
             token: false,
-            object: SoundObject::text(Bytes::from_slice(with.alloc, &text[..count])?),
+            object: HeldObject::text(Bytes::from_slice(with.alloc, &text[..count])?),
             rest: &text[count + 1..],
         })),
     }

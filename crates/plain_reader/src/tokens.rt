@@ -9,9 +9,8 @@ ghost use Rattle.plain_reader.specs.Tokens.{IsRun, IsToken, marks_of};
 
 use crate::context::Context;
 use crate::objects::Taken;
-use crate::sound::SoundObject;
 use crate::words::{decimal, is_word, word};
-use lisp_reading::{TellError, Told, tell};
+use lisp_reading::{HeldObject, TellError, Told, tell};
 use readtable_core::{Readtable, Syntax, traits_of};
 use smallvec::SmallVec;
 use std::alloc::{AllocError, Global};
@@ -84,7 +83,7 @@ fn meaning(
     with: &Context<'_>,
     known: &mut bool,
     bytes: &[u8],
-) -> Result<Option<SoundObject>, AllocError>
+) -> Result<Option<HeldObject>, AllocError>
     requires some { 0 < length bytes.now }
     requires ascii { list_all is_ascii bytes.now ≡ true }
     ensures token { IfOk result (λ found. IfSome found (IsToken with.now bytes.now)) }
@@ -96,7 +95,7 @@ fn meaning(
             return word(with, known, bytes);
         }
         if let Some(n) = decimal(bytes) {
-            return Ok(Some(SoundObject::integer(n)));
+            return Ok(Some(HeldObject::integer(n)));
         }
     }
     through_marks(with, known, bytes)
@@ -107,7 +106,7 @@ fn through_marks(
     with: &Context<'_>,
     known: &mut bool,
     bytes: &[u8],
-) -> Result<Option<SoundObject>, AllocError>
+) -> Result<Option<HeldObject>, AllocError>
     requires some { 0 < length bytes.now }
     requires ascii { list_all is_ascii bytes.now ≡ true }
     ensures token { IfOk result (λ found. IfSome found (IsToken with.now bytes.now)) }
@@ -124,8 +123,7 @@ fn through_marks(
         with.base,
         marks,
     ) {
-        Ok(Told::Object(x)) => {
-            let object = SoundObject::of_held(x);
+        Ok(Told::Object(object)) => {
             if !object.is_there(with.packages) {
                 *known = false;
             }

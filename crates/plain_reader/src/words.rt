@@ -5,13 +5,12 @@ ghost use Rattle.lisp_object.specs.Ascii.{is_ascii};
 ghost use Rattle.readtable_core.specs.Characters.{upper_case, is_digit};
 ghost use Rattle.token_meaning.specs.Numerals.{is_numeral, value};
 ghost use Rattle.plain_reader.specs.Tokens.{IsToken};
-ghost use Rattle.lisp_object.specs.Object.{symbol};
 ghost use Rattle.plain_reader.specs.Words.{is_word};
 ghost use Rattle.plain_reader.specs.Plain.{AreThere, IfStill};
 
 use crate::context::Context;
-use crate::sound::SoundObject;
 use lisp_object::Bytes;
+use lisp_reading::HeldObject;
 use package_table::Resolved;
 use std::alloc::{AllocError, Global};
 
@@ -36,7 +35,7 @@ pub(crate) fn word(
     with: &Context<'_>,
     known: &mut bool,
     bytes: &[u8],
-) -> Result<Option<SoundObject>, AllocError>
+) -> Result<Option<HeldObject>, AllocError>
     requires standard { IsTrue with.now.standard }
     requires word { IsTrue (is_word bytes.now) }
     requires ascii { list_all is_ascii bytes.now ≡ true }
@@ -47,22 +46,13 @@ pub(crate) fn word(
     with.packages.soundness();
     let name = upcased(with.alloc, bytes)?;
     match with.current_package.resolve(name.as_slice()) {
-        Ok(Resolved::Found(home)) => Ok(Some(symbol(with.alloc, home, name)?)),
+        Ok(Resolved::Found(home)) => Ok(Some(HeldObject::symbol(with.alloc, home, name)?)),
         Ok(Resolved::New(home)) => {
             *known = false;
-            Ok(Some(symbol(with.alloc, home, name)?))
+            Ok(Some(HeldObject::symbol(with.alloc, home, name)?))
         }
         Err(_) => Ok(None),
     }
-}
-
-fn symbol(alloc: Global, home: &[u8], name: Bytes) -> Result<SoundObject, AllocError>
-    requires home { list_all is_ascii home.now ≡ true }
-    requires name { list_all is_ascii name ≡ true }
-    ensures { IfOk result (λ x. x ≡ symbol home.now name) }
-{
-    let home = Bytes::from_slice(alloc, home)?;
-    Ok(SoundObject::symbol(home, name))
 }
 
 fn upcased(alloc: Global, bytes: &[u8]) -> Result<Bytes, AllocError>

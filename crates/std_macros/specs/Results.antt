@@ -1,8 +1,9 @@
 -- What the calls are handed and answer.
-use Rattle.std.specs.Prelude.{◌≡◌, ℕ, true, map, Option, Some, None, Result, Ok, Err, IsTrue}
+use Rattle.std.specs.Prelude.{◌≡◌, ℕ, List, true, map, All, Option, Some, None, Result, Ok, Err, IsTrue}
 use Rattle.std.specs.List.{list_all}
 use Rattle.lisp_object.specs.Ascii.{is_ascii}
-use Rattle.lisp_object.specs.Object.{Object}
+use Rattle.lisp_object.specs.declared.datum.Datum.{Datum}
+use Rattle.lisp_object.specs.Object.{Object, IsSound}
 use Rattle.lisp_object.specs.Datum.{object_of, is_proper}
 use Rattle.lisp_object.specs.declared.refusal.TheConstants.{STRAY_CLOSE, NUMERIC_ARGUMENT, CHARACTER_NAME, RADIX_TOKEN, VECTOR_LENGTH, UNINTERNED_TOKEN, OUT_OF_PROFILE, NO_MEMORY}
 use Rattle.token_scan.specs.Marks.{are_ascii}
@@ -40,12 +41,19 @@ view_gathered (Dotted items tail) = dotted (map object_of items) (object_of tail
 view_gathered (Text bytes) = letters bytes
 view_gathered (Marks marks) = marked marks.items
 
--- its data are proper, and its characters below 128
+-- a datum, and all of these, are proper and sound
+abbrev pub IsSoundDatum : Datum → Type 0
+IsSoundDatum datum = (is_proper datum ≡ true) × IsSound (object_of datum)
+
+abbrev pub AreSoundData : List Datum → Type 0
+AreSoundData items = (list_all is_proper items ≡ true) × All (λ d. IsSound (object_of d)) items
+
+-- its data are proper and sound, and its characters below 128
 abbrev pub IsProperGathered : StdGathered → Type 0
 IsProperGathered GatheredNothing = Unit {0}
-IsProperGathered (GatheredOne datum) = is_proper datum ≡ true
-IsProperGathered (Many items) = list_all is_proper items ≡ true
-IsProperGathered (Dotted items tail) = (list_all is_proper items ≡ true) × (is_proper tail ≡ true)
+IsProperGathered (GatheredOne datum) = IsSoundDatum datum
+IsProperGathered (Many items) = AreSoundData items
+IsProperGathered (Dotted items tail) = AreSoundData items × IsSoundDatum tail
 IsProperGathered (Text bytes) = list_all is_ascii bytes ≡ true
 IsProperGathered (Marks marks) = IsTrue (are_ascii marks.items)
 
@@ -64,7 +72,7 @@ abbrev pub Gives : Result Finished FinishError → Value → Type 0
 Gives (Ok answer) value = value ≡ Ok (view_finished answer)
 Gives (Err error) value = Fails error value
 
--- an object that was answered is a proper datum
+-- an object that was answered is a proper and sound datum
 abbrev pub IsProperFinished : Finished → Type 0
-IsProperFinished (One datum) = is_proper datum ≡ true
+IsProperFinished (One datum) = IsSoundDatum datum
 IsProperFinished Nothing = Unit {0}

@@ -9,7 +9,7 @@ ghost use Rattle.token_meaning.specs.Meanings.{is_package_marker};
 ghost use Rattle.token_meaning.specs.Results.{view_number};
 ghost use Rattle.std_macros.specs.Values.{headed, headed_value, list_value, text_value, character_value, vector_value, is_own_name, uninterned_of, uninterned_value, rational_or_refused, rational_value, value_of};
 ghost use Rattle.std_macros.specs.declared.kind.Standard.TheVariants.{Vector};
-ghost use Rattle.std_macros.specs.Results.{view_gathered, IsProperGathered, Gives, IsProperFinished};
+ghost use Rattle.std_macros.specs.Results.{view_gathered, IsProperGathered, IsSoundDatum, Gives, IsProperFinished};
 
 use crate::characters::character;
 use crate::vectors::vector;
@@ -22,7 +22,8 @@ use token_scan::{Mark, Marks, characters};
 
 /// What a standard function gives for what was gathered, under the case of the readtable (standard 2.4): an object, nothing,
 /// or a refusal. `number` is the number of the call, which functions other than `Vector` and `Radix` ignore. What was gathered
-/// fits the way of the function; where it does not, nothing is given. The data in it are proper, and its characters below 128.
+/// fits the way of the function; where it does not, nothing is given. The data in it are proper and sound, and its characters
+/// below 128.
 ///
 /// # Errors
 ///
@@ -109,7 +110,7 @@ fn headed(alloc: Global, name: &[u8], gathered: StdGathered) -> Result<Finished,
 fn headed_list(alloc: Global, name: &[u8], x: Datum) -> Result<Datum, AllocError>
     requires name { list_all is_ascii name.now ≡ true }
     ensures object { IfOk result (λ d. object_of d ≡ headed name.now (object_of x)) }
-    ensures proper { is_proper x ≡ true → IfOk result (λ d. is_proper d ≡ true) }
+    ensures proper { IsSoundDatum x → IfOk result IsSoundDatum }
 {
     let room = Vec::with_capacity(alloc, 2)?;
     let mut items = Items::from_vec(room);
@@ -209,7 +210,11 @@ fn rational_or_refused(
     match found {
         None => Err(FinishError::Refused(StdRefusal::RadixToken)),
         Some(given) => match given {
-            Ok(datum) => Ok(Finished::One(datum)),
+            Ok(datum) => {
+                // The number is looked at: it is sound.
+                let _proper = datum.is_proper();
+                Ok(Finished::One(datum))
+            }
             Err(refusal) => Err(FinishError::Refused(StdRefusal::Rational(refusal))),
         },
     }

@@ -6,7 +6,7 @@ ghost use Rattle.lisp_object.specs.Datum.{object_of, is_proper, size};
 ghost use Rattle.lisp_object.specs.Object.{vector as vector_object, list_of};
 ghost use Rattle.std_macros.specs.declared.refusal.StdRefusal.TheVariants.{VectorLength};
 ghost use Rattle.std_macros.specs.Values.{given, vector_of};
-ghost use Rattle.std_macros.specs.Results.{Gives, IsProperFinished};
+ghost use Rattle.std_macros.specs.Results.{AreSoundData, Gives, IsProperFinished};
 
 use crate::{FinishError, Finished, StdRefusal};
 use lisp_object::{Datum, Items};
@@ -21,7 +21,7 @@ pub(crate) fn vector(
     length: u32,
     items: Items<Datum>,
 ) -> Result<Finished, FinishError>
-    requires { list_all is_proper items ≡ true }
+    requires { AreSoundData items }
     ensures value { Gives result (vector_of (Some length) (map object_of items)) }
     ensures proper { IfOk result IsProperFinished }
 {
@@ -48,7 +48,7 @@ fn repeating(
     copies: u64,
 ) -> Result<Finished, FinishError>
     requires copies { copies < 2 ^ 32 }
-    requires proper { list_all is_proper (front.items ++ replicate (copies + 1) last) ≡ true }
+    requires proper { AreSoundData (front.items ++ replicate (copies + 1) last) }
     ensures value { Gives result (if nat_le (sum (map size front.items) + (copies + 1) * size last + 1) LARGEST_REPEATED_VECTOR
         then given (vector_object (list_of (map object_of (front.items ++ replicate (copies + 1) last)))) else Err VectorLength) }
     ensures proper { IfOk result IsProperFinished }

@@ -1,8 +1,8 @@
 //! Which data a function of a user may answer.
-ghost use Rattle.std.specs.Prelude.{◌≡◌, ◌&&◌, ◌+◌, ◌≤◌, nat_le, length, All, IsTrue, IfSome};
+ghost use Rattle.std.specs.Prelude.{◌≡◌, ◌&&◌, ◌+◌, ◌≤◌, nat_le, length, All, IsTrue, IfSome, unwrap_or, option_map};
 ghost use Rattle.std.specs.List.{list_all, sum_by};
 ghost use Rattle.lisp_object.specs.Ascii.{is_ascii};
-ghost use Rattle.lisp_object.specs.Object.{is_nil, object_depth};
+ghost use Rattle.lisp_object.specs.Object.{nil, is_nil, IsSound, object_depth};
 ghost use Rattle.lisp_object.specs.Datum.{object_of, is_proper, size};
 ghost use Rattle.lisp_reading.specs.Answering.{is_known, is_home, may_be_answered};
 ghost use Rattle.form_reader.specs.Fits.{Fits, FitsEnd, end_size};
@@ -28,8 +28,9 @@ const LEVELS_COMPARED: u64 = 16;
 /// Whether a datum may be answered that may have this depth: it is proper, its size is at most 1,000,000, and each symbol in
 /// it may be answered. It looks at each part once, and takes no memory.
 pub(crate) fn may_be_answered(packages: &Packages, room: u64, datum: &Datum) -> bool
-    ensures { result ≡ (is_proper datum.now && (may_be_answered packages.now.0 (object_of datum.now)
+    ensures value { result ≡ (is_proper datum.now && (may_be_answered packages.now.0 (object_of datum.now)
         && nat_le (object_depth (object_of datum.now)) room)) }
+    ensures sound { IsTrue result → IsSound (object_of datum.now) }
 {
     let mut left = LARGEST_ANSWER;
     fits(packages, room, &mut left, datum)
@@ -40,10 +41,17 @@ pub(crate) fn may_be_answered(packages: &Packages, room: u64, datum: &Datum) -> 
 fn fits(packages: &Packages, room: u64, left: &mut u64, datum: &Datum) -> bool
     ensures fits { IsTrue result → Fits packages.now.0 room datum.now × (left.new + size datum.now ≡ left.old) }
     ensures others { Fits packages.now.0 room datum.now → size datum.now ≤ left.old → IsTrue result }
+    ensures sound { IsTrue result → IsSound (object_of datum.now) }
 {
     match datum {
-        Datum::Integer(_) => atom_fits(left, true),
-        Datum::Rational(_) => atom_fits(left, true),
+        Datum::Integer(n) => {
+            let _in_range = *n;
+            atom_fits(left, true)
+        }
+        Datum::Rational(ratio) => {
+            let _in_lowest_terms = (ratio.numerator(), ratio.denominator());
+            atom_fits(left, true)
+        }
         Datum::Char(c) => atom_fits(left, *c < 128),
         Datum::Text(bytes) => atom_fits(left, bytes.is_ascii()),
         Datum::Symbol { package, name } => atom_fits(left, symbol_fits(packages, package, name)),
@@ -91,6 +99,7 @@ fn list_fits(
         × (left.new + size (Datum.List items.now tail.now) ≡ left.old) }
     ensures others { Fits packages.now.0 room (Datum.List items.now tail.now)
         → size (Datum.List items.now tail.now) ≤ left.old → IsTrue result }
+    ensures sound { IsTrue result → IsSound (object_of (Datum.List items.now tail.now)) }
 {
     if room == 0 || items.is_empty() {
         return false;
@@ -107,6 +116,7 @@ fn vector_fits(packages: &Packages, room: u64, left: &mut u64, items: &Items<Dat
         × (left.new + size (Datum.Vector items.now) ≡ left.old) }
     ensures others { Fits packages.now.0 room (Datum.Vector items.now)
         → size (Datum.Vector items.now) ≤ left.old → IsTrue result }
+    ensures sound { IsTrue result → IsSound (object_of (Datum.Vector items.now)) }
 {
     if room == 0 || !atom_fits(left, true) {
         return false;
@@ -120,6 +130,7 @@ fn all_fit(packages: &Packages, room: u64, left: &mut u64, items: &Items<Datum>)
         × (left.new + sum_by size items.now ≡ left.old) }
     ensures others { All (Fits packages.now.0 room) items.now
         → sum_by size items.now ≤ left.old → IsTrue result }
+    ensures sound { IsTrue result → All (λ d. IsSound (object_of d)) items.now }
 {
     let items = items.as_slice();
     let mut last = None;
@@ -142,9 +153,11 @@ fn next_fits(
     last: Option<(&Datum, u64)>,
     datum: &Datum,
 ) -> bool
-    requires { IfSome last (λ l. Fits packages.now.0 room l.0.now × (size l.0.now ≡ l.1)) }
+    requires { IfSome last (λ l. Fits packages.now.0 room l.0.now × (size l.0.now ≡ l.1)
+        × IsSound (object_of l.0.now)) }
     ensures fits { IsTrue result → Fits packages.now.0 room datum.now × (left.new + size datum.now ≡ left.old) }
     ensures others { Fits packages.now.0 room datum.now → size datum.now ≤ left.old → IsTrue result }
+    ensures sound { IsTrue result → IsSound (object_of datum.now) }
 {
     // What a vector repeats is looked at once, if it is small: it is compared in place of that.
     if let Some((last, size)) = last {
@@ -174,6 +187,7 @@ fn end_fits(packages: &Packages, room: u64, left: &mut u64, tail: &Option<Boxed<
         × (left.new + end_size tail.now ≡ left.old) }
     ensures others { FitsEnd packages.now.0 room tail.now
         → end_size tail.now ≤ left.old → IsTrue result }
+    ensures sound { IsTrue result → IsSound (unwrap_or (option_map object_of tail.now) nil) }
 {
     match tail {
         None => true,

@@ -1,12 +1,13 @@
-use Rattle.std.proofs.Common.{◌≡◌, ◌<◌, ◌+◌, ◌-◌, ◌++◌, ◌∷◌, [], length, map, Some, Ok, refl, sym, ap, subst, ◌∙◌, arith}
+use Rattle.std.proofs.Common.{◌≡◌, All, ◌<◌, ◌+◌, ◌-◌, ◌++◌, ◌∷◌, [], length, map, Some, Ok, refl, sym, ap, subst, ◌∙◌, arith}
 use Rattle.std.specs.List.{list_all}
 use Rattle.std.proofs.lemmas.List.{length-map}
+use Rattle.lisp_object.specs.Object.{IsSound}
 use Rattle.lisp_object.specs.Datum.{object_of, is_proper}
 use Rattle.lisp_object.proofs.Objects.{object_of-Vector}
-use Rattle.lisp_object.proofs.Properness.{is_proper-Vector}
 use Rattle.std_macros.specs.Values.{vector_of}
 use Rattle.std_macros.specs.Results.{Gives}
 use Rattle.std_macros.proofs.Repeating.{vector_long, vector_even, vector_of_none, vector_repeats, all_proper}
+use Rattle.std_macros.proofs.SoundData.{vector_datum, all_repeated}
 use Rattle.std_macros.proofs.vectors.vector.Goals as goal
 
 pub returns-then-length-count-clause-value : goal.returns-then-length-count-clause-value
@@ -21,7 +22,7 @@ returns-then-length-count-2-clause-value c =
     ∙ ap (λ x. Ok (Some x)) (sym (object_of-Vector c.args.items))
 
 pub returns-then-length-count-2-clause-proper : goal.returns-then-length-count-2-clause-proper
-returns-then-length-count-2-clause-proper c = is_proper-Vector c.args.items ∙ c.requires
+returns-then-length-count-2-clause-proper c = vector_datum c.args.items c.requires
 
 pub returns-in_default-clause-value : goal.returns-in_default-clause-value
 returns-in_default-clause-value c =
@@ -30,7 +31,10 @@ returns-in_default-clause-value c =
 
 pub repeating-requires-clause-proper : goal.repeating-requires-clause-proper
 repeating-requires-clause-proper c =
-    all_proper c.pop.new.self.items c.in-Some.last _ (ap (list_all is_proper) (sym c.in-Some.ensures.items ∙ c.into_vec-front.ensures) ∙ c.requires)
+    let items = sym c.in-Some.ensures.items ∙ c.into_vec-front.ensures in (
+      all_proper c.pop.new.self.items c.in-Some.last _ (ap (list_all is_proper) items ∙ c.requires.0),
+      all_repeated c.pop.new.self.items c.in-Some.last _ (subst (All (λ d. IsSound (object_of d))) (sym items) c.requires.1),
+    )
 
 pub returns-clause-value : goal.returns-clause-value
 returns-clause-value c =
@@ -40,5 +44,5 @@ returns-clause-value c =
     let some : 0 < copies = omega arith in
     subst (Gives c.repeating.result)
     (sym (ap (λ xs. vector_of (Some c.args.length) (map object_of xs)) items
-    ∙ vector_repeats c.pop.new.self.items c.in-Some.last c.args.length copies _ (ap (list_all is_proper) (sym items) ∙ c.requires) all some refl))
+    ∙ vector_repeats c.pop.new.self.items c.in-Some.last c.args.length copies _ (ap (list_all is_proper) (sym items) ∙ c.requires.0) all some refl))
     c.repeating.ensures.value

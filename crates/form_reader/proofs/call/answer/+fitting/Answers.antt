@@ -1,7 +1,10 @@
-use Rattle.std.proofs.Common.{◌-◌, sym, ap, subst, refl, ◌∙◌, arith}
+use Rattle.std.proofs.Common.{◌-◌, sym, ap, subst, refl, ◌∙◌, arith, unwrap_or, option_map}
 use Rattle.std.proofs.lemmas.List.Elements.{All-more}
 use Rattle.std.proofs.lemmas.List.Sums.{sum_by_more}
-use Rattle.lisp_object.specs.Datum.{size}
+use Rattle.lisp_object.specs.declared.datum.Datum
+use Rattle.lisp_object.specs.Object.{IsSound, nil}
+use Rattle.lisp_object.specs.Datum.{object_of, size}
+use Rattle.lisp_object.proofs.Sound.{sound_List, sound_Vector, sound_nil}
 use Rattle.form_reader.specs.Fits.{Fits}
 use Rattle.form_reader.proofs.Fits.{list_size, list_made, list_parts, vector_size, vector_made, vector_parts, some_items}
 use Rattle.form_reader.proofs.call.answer.+fitting.Goals.{list_fits-then-not-atom_fits-via-then-not-atom_fits, list_fits-then-not-atom_fits-via-else-not-atom_fits+then-not-all_fit}
@@ -12,6 +15,7 @@ use Rattle.form_reader.proofs.call.answer.+fitting.Goals as goal
 pub all_fit-loop-item-preserved : goal.all_fit-loop-item-preserved
 all_fit-loop-item-preserved t c =
     let here = c.next_fits.ensures.fits c.if-not-next_fits.false in
+    let sound = c.next_fits.ensures.sound c.if-not-next_fits.false in
     record {
       fit = All-more (Fits c.args.packages.now.0 c.args.room) c.as_slice-items.result.now c.loop-item.item-index c.item-item.result c.loop-item-test.true
           c.loop-item.invariant.fit (subst (Fits c.args.packages.now.0 c.args.room) c.item-item.is here.0);
@@ -22,7 +26,9 @@ all_fit-loop-item-preserved t c =
         here.1,
         c.loop-item.invariant.left,
       );
-      last = (here.0, omega (arith, here.1));
+      sound = All-more (λ d. IsSound (object_of d)) c.as_slice-items.result.now c.loop-item.item-index c.item-item.result c.loop-item-test.true
+          c.loop-item.invariant.sound (subst (λ d. IsSound (object_of d)) c.item-item.is sound);
+      last = (here.0, omega (arith, here.1), sound);
     }
 
 -- ---- lists
@@ -55,7 +61,19 @@ list_fits-returns-clause-others t c = λ fit within.
     c.end_fits.ensures.others (list_parts c.args.packages.now.0 c.args.room c.args.items.now c.args.tail.now fit).3
     (omega (arith, within, list_size c.args.items.now c.args.tail.now, (c.atom_fits.ensures.fits c.if-not-atom_fits.false).1, (c.all_fit.ensures.fits c.if-not-all_fit.false).1))
 
+pub list_fits-returns-clause-sound : goal.list_fits-returns-clause-sound
+list_fits-returns-clause-sound t c = λ holds.
+    sound_List c.args.items.now c.args.tail.now (Datum.List c.args.items.now c.args.tail.now) refl
+    (c.all_fit.ensures.sound c.if-not-all_fit.false) (c.end_fits.ensures.sound holds)
+
+pub end_fits-returns-in-None-clause-sound : goal.end_fits-returns-in-None-clause-sound
+end_fits-returns-in-None-clause-sound t c = λ _. subst (λ o. IsSound (unwrap_or (option_map object_of o) nil)) (sym c.in-None.is) sound_nil
+
 -- ---- vectors
+
+pub vector_fits-returns-clause-sound : goal.vector_fits-returns-clause-sound
+vector_fits-returns-clause-sound t c = λ holds.
+    sound_Vector c.args.items.now (Datum.Vector c.args.items.now) refl (c.all_fit.ensures.sound holds)
 
 pub vector_fits-returns-clause-fits : goal.vector_fits-returns-clause-fits
 vector_fits-returns-clause-fits t c = λ holds.

@@ -1,6 +1,7 @@
 use Rattle.std.proofs.Common.{◌≡◌, ◌+◌, ◌*◌, take}
 use Rattle.std.specs.Prelude.{All, sum_by, IfSome}
-use Rattle.lisp_object.specs.Datum.{size}
+use Rattle.lisp_object.specs.Object.{IsSound}
+use Rattle.lisp_object.specs.Datum.{object_of, size}
 use Rattle.form_reader.specs.Fits.{Fits}
 use Rattle.form_reader.proofs.call.answer.+fitting.Given as goal
 
@@ -27,5 +28,6 @@ abbrev pub invariant-all_fit-loop-item : goal.invariant-all_fit-loop-item
 invariant-all_fit-loop-item l = record {
   fit : All (Fits l.packages.0 l.room) (take l.item-index l.items);
   left : l.left + sum_by size (take l.item-index l.items) ≡ l.fn.left;
-  last : IfSome l.last (λ p. Fits l.packages.0 l.room p.0.now × (size p.0.now ≡ p.1));
+  sound : All (λ d. IsSound (object_of d)) (take l.item-index l.items);
+  last : IfSome l.last (λ p. Fits l.packages.0 l.room p.0.now × (size p.0.now ≡ p.1) × IsSound (object_of p.0.now));
 }
