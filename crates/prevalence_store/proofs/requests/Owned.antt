@@ -1,11 +1,15 @@
 -- On the store's own forms.
 --     clearing_there, setting_there      whether the packages have each symbol of one
 --     read_parts, own_read      one that is read as what it is
---     form_taken, form_left, no_refusal, not_cleared, not_closed      why requests are refused, by what is done at one of them
---     at_request, at_end, unlogged_refused, refused_as      and by all of them
-use Rattle.std.proofs.Common.{◌≡◌, ℕ, ◌<◌, Bool, true, false, ◌&&◌, List, length, take, codes, IsSome, Result, Ok, Err, IfErr, refl, sym, ap, subst, ◌∙◌, inl, inr}
+--     form_taken, form_left, no_refusal, not_cleared, not_closed      why a form of the store's own is not carried out
+--     refuses_question, refuses_message, refuses_none      so why requests are refused before one of them
+--     at_request, at_end, unlogged_refused, refused_as      and among all of them
+--     no_device      which number is that of a device fault alone
+use Rattle.std.proofs.Common.{◌≡◌, ◌≢◌, ℕ, ◌+◌, ◌<◌, Bool, true, false, ◌&&◌, List, ◌∷◌, ◌++◌, length, take, drop, get_or, codes, None, Some, IsSome, Result, Ok, Err, IfErr, refl, sym, ap, subst, ◌∙◌, inl, inr}
 use Rattle.std.proofs.lemmas.Bool.{false≢true}
+use Rattle.std.proofs.lemmas.List.{drop_more, take-append-drop}
 use Rattle.lisp_object.specs.Datum.{object_of}
+use Rattle.lisp_object.specs.declared.refusal.TheConstants.{DEVICE}
 use Rattle.lisp_object.proofs.Objects.{object_laws}
 use Rattle.lisp_object.proofs.Restored.{datum_of, from_object}
 use Rattle.lisp_reading.specs.Reading.{form}
@@ -17,17 +21,17 @@ use Rattle.package_table.specs.Table.{Table, common_lisp, common_lisp_user}
 use Rattle.plist_state.specs.State.{WorldState}
 use Rattle.session_words.specs.declared.mode.Mode.TheVariants.{Rescue}
 use Rattle.prevalence_store.specs.declared.failure.Failure.{Failure}
-use Rattle.prevalence_store.specs.declared.failure.Failure.TheVariants.{Refused}
+use Rattle.prevalence_store.specs.declared.failure.Failure.TheVariants.{Refused, Full, DeviceFault, OutOfMemory}
 use Rattle.prevalence_store.specs.declared.messages.own.Own.{Own}
 use Rattle.prevalence_store.specs.declared.messages.own.Own.TheVariants.{Clearing, Position}
 use Rattle.prevalence_store.specs.declared.messages.request.Request.{Request}
 use Rattle.prevalence_store.specs.meaning.Acceptance.{read_in}
 use Rattle.prevalence_store.specs.messages.Answers.{Round, each_request}
-use Rattle.prevalence_store.specs.messages.Calls.{IsNotCleared, IsNotClosed, IsOwnRead, RefusesForm, RefusesOwn}
+use Rattle.prevalence_store.specs.messages.Calls.{IsNotCleared, IsNotClosed, IsNotOld, IsOwnRead, RefusesForm, RefusesOwn, RefusesRequest}
 use Rattle.prevalence_store.specs.messages.Position.{own_form, own_text, position_property}
 use Rattle.prevalence_store.specs.messages.Rounds.{IsNeeded, IsOwnForm, own_datum}
 use Rattle.prevalence_store.specs.steps.Batch.{IsNotAdded}
-use Rattle.prevalence_store.specs.steps.Failure.{is_refusal}
+use Rattle.prevalence_store.specs.steps.Failure.{failure_number, is_device, is_refusal}
 use Rattle.prevalence_store.specs.steps.Setting.{IsWholeForm}
 use Rattle.prevalence_store.proofs.requests.Making.{own_not_refused}
 use Rattle.user_macros.specs.Functions.{Functions}
@@ -121,9 +125,32 @@ module _ (functions : Functions) where
   not_closed round (Ok value) wrote refused = tt
   not_closed round (Err cause) wrote refused = λ number is. (wrote, refused number is)
 
+  -- before a request: a question, a message with a new number, and what is no refusal
+  pub refuses_question : {T : Type 0} (round : Round) (request : Request) (result : Result T Failure) → request.number ≡ None
+      → IfErr result (IsNotCleared functions round) → IfErr result (RefusesRequest functions round request)
+  refuses_question round request (Ok value) none refused = tt
+  refuses_question round request (Err cause) none refused = (λ number is. subst (IsNotOld round) (sym none) tt, refused)
+
+  pub refuses_message : {T : Type 0} (round : Round) (request : Request) (result : Result T Failure) (number : ℕ) → request.number ≡ Some number → round.last < number
+      → IfErr result (IsNotCleared functions round) → IfErr result (RefusesRequest functions round request)
+  refuses_message round request (Ok value) number some over refused = tt
+  refuses_message round request (Err cause) number some over refused = (λ n is. subst (IsNotOld round) (sym some) over, refused)
+
+  pub refuses_none : {T : Type 0} (round : Round) (request : Request) (result : Result T Failure) → IfErr result (λ cause. is_refusal cause ≡ false) → IfErr result (RefusesRequest functions round request)
+  refuses_none round request (Ok value) none = tt
+  refuses_none round request (Err cause) none = (λ number is. absurd (false≢true (sym none ∙ ap is_refusal is)), no_refusal {T = Unit} round (Err cause) none)
+
   module _ (first far : Round) (requests : List Request) where
-    pub at_request : (cause : Failure) (count : ℕ) → far ≡ each_request functions first (take count requests) → count < length requests → IsNotCleared functions far cause → RefusesOwn functions first requests cause
-    at_request cause count is within refused = inl (count, within, subst (λ (r : Round). IsNotCleared functions r cause) is refused)
+    pub at_request : (cause : Failure) (count : ℕ) (one : Request) → far ≡ each_request functions first (take count requests) → count < length requests
+        → RefusesRequest functions far (get_or requests count one) cause → RefusesOwn functions first requests cause
+    at_request cause count one is within refused =
+        inl (
+          take count requests,
+          get_or requests count one,
+          drop (count + 1) requests,
+          sym (take-append-drop count requests) ∙ ap (λ rest. take count requests ++ rest) (drop_more requests count one within),
+          subst (λ (r : Round). RefusesRequest functions r (get_or requests count one) cause) is refused,
+        )
 
     pub at_end : {T : Type 0} (result : Result T Failure) → far ≡ each_request functions first requests → IfErr result (IsNotClosed functions far) → IfErr result (RefusesOwn functions first requests)
     at_end (Ok value) is refused = tt
@@ -136,5 +163,13 @@ module _ (functions : Functions) where
   -- of a cause that is a refusal only where another is
   pub refused_as : (first : Round) (requests : List Request) (cause other : Failure) → ((number : ℕ) → other ≡ Refused number → cause ≡ Refused number) → RefusesOwn functions first requests cause
       → RefusesOwn functions first requests other
-  refused_as first requests cause other same (inl at) = inl (at.0, at.1, λ number is. at.2 number (same number is))
+  refused_as first requests cause other same (inl at) =
+      inl (at.0, at.1, at.2, at.3, (λ number is. at.4.0 number (same number is), λ number is. at.4.1 number (same number is)))
   refused_as first requests cause other same (inr at) = inr (λ number is. at number (same number is))
+
+-- what is no device fault has another number
+pub no_device : (cause : Failure) (number : ℕ) → number ≡ failure_number cause → number ≢ DEVICE → is_device cause ≡ false
+no_device (Refused code) number is other = refl
+no_device Full number is other = refl
+no_device DeviceFault number is other = absurd (other is)
+no_device OutOfMemory number is other = refl

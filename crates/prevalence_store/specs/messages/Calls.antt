@@ -1,5 +1,5 @@
 -- What the calls of a store that carries out messages answer, and what is left after them.
-use Rattle.std.specs.Prelude.{◌≡◌, ◌⊎◌, ℕ, ◌+◌, ◌<◌, ◌≤◌, Bool, true, false, List, [], length, map, take, None, Some, IsSome, Result, Ok, Err, MatchResult}
+use Rattle.std.specs.Prelude.{◌≡◌, ◌⊎◌, ℕ, ◌+◌, ◌<◌, ◌≤◌, Bool, true, false, List, [], ◌∷◌, ◌++◌, length, map, Option, None, Some, IsSome, Result, Ok, Err, MatchResult}
 use Rattle.std.specs.List.{flat_map}
 use Rattle.disk_trait.specs.Disk.{State}
 use Rattle.disk_trait.specs.Half.{opposite_of}
@@ -62,10 +62,21 @@ abbrev pub IsNotClosed : Functions → Round → Failure → Type 0
 IsNotClosed functions round cause =
     (number : ℕ) → cause ≡ failure.Refused number → (round.wrote ≡ true) × IsOwnRefused functions round.left (Position round.last) number
 
+-- a question, or a message whose number is over the last one
+abbrev pub IsNotOld : Round → Option ℕ → Type 0
+IsNotOld round None = Unit {0}
+IsNotOld round (Some number) = round.last < number
+
+-- before this request, which is not old, the position is not taken out, if this is for a refusal
+abbrev pub RefusesRequest : Functions → Round → Request → Failure → Type 0
+RefusesRequest functions round request cause =
+    ((number : ℕ) → cause ≡ failure.Refused number → IsNotOld round request.number) × IsNotCleared functions round cause
+
 -- A refusal of requests is one of a form of the store's own: before one of them, or after all.
 abbrev pub RefusesOwn : Functions → Round → List Request → Failure → Type 0
 RefusesOwn functions first requests cause =
-    ((count : ℕ) × (count < length requests) × IsNotCleared functions (each_request functions first (take count requests)) cause)
+    ((before : List Request) × (request : Request) × (later : List Request) × (requests ≡ before ++ request ∷ later)
+    × RefusesRequest functions (each_request functions first before) request cause)
     ⊎ IsNotClosed functions (each_request functions first requests) cause
 
 module _ (functions : Functions) {D R : Type 0} (state : D → State) (old new : StoreView D R) (world : WorldState) (round : Round) where

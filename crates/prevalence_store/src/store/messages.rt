@@ -1,7 +1,7 @@
 // Messages with numbers, and questions, over a store.
-ghost use Rattle.std.specs.Prelude.{◌≡◌, ℕ, true, false, None, Some, IsSome, IfOk, Err};
+ghost use Rattle.std.specs.Prelude.{◌≡◌, ◌≢◌, ℕ, true, false, None, Some, IsSome, IfOk, IfErr, Err};
 ghost use Rattle.std.specs.Option.{option_and_then};
-ghost use Rattle.lisp_object.specs.declared.refusal.TheConstants.{REOPEN as NOT_OPEN};
+ghost use Rattle.lisp_object.specs.declared.refusal.TheConstants.{DEVICE as DEVICE_FAULT, REOPEN as NOT_OPEN};
 ghost use Rattle.plist_state.specs.State.{WorldState};
 ghost use Rattle.prevalence_store.specs.messages.Calls.{AnswersRequests, BeginsMessages, TakesRound};
 ghost use Rattle.prevalence_store.specs.messages.Position.{is_hidden, position, position_property};
@@ -99,6 +99,7 @@ impl<D: Disk, R: MacroFunctions> Store<D, R> {
         ensures reopen { self.old.world ≡ None → (result ≡ Err NOT_OPEN) × (self.new ≡ self.old) }
         ensures answer { (world : WorldState) → self.old.world ≡ Some world
             → AnswersRequests R.Meaning.functions D.state self.old self.new world last requests.now result }
+        ensures unchanged { IfErr result (λ number. number ≢ DEVICE_FAULT → self.new ≡ self.old) }
         ensures honest { (D.state self.new.disk).honest ≡ (D.state self.old.disk).honest }
         ensures macros { self.new.macros ≡ self.old.macros }
     {
