@@ -1,5 +1,11 @@
 // A session of messages, as the words ask.
-ghost use Rattle.std.specs.Prelude.{◌≡◌, ◌<◌, ◌-◌, ◌^◌};
+ghost use Rattle.std.specs.Prelude.{◌≡◌, ◌<◌, ◌-◌, ◌^◌, ℕ, Bool, [], map, Some};
+ghost use Rattle.clap.specs.Words.{Text};
+ghost use Rattle.command_words.specs.MessageLine.{message_faults, messages_in};
+ghost use Rattle.store_commands.specs.Commands.{OpensFolder};
+ghost use Rattle.store_commands.specs.Folders.{OpensStore};
+ghost use Rattle.store_commands.specs.Status.{EndsAfter, TakesWords};
+ghost use Rattle.store_commands.specs.declared.told.Told.{Told};
 
 use command_words::{Messages, messages_in};
 use disk_trait::{Disk, HostError};
@@ -16,8 +22,9 @@ use store_commands::{
 };
 use user_macros::MacroFunctions;
 
-/// Serves the frames of an input over the store in a folder, as the words ask (`Way::Messages` of `command_words`), and answers how that ended. The first
-/// word is the program's name. What ends the session is told on `faults`.
+/// Serves the frames of an input over the store in a folder, as the words ask (`Way::Messages` of `command_words`), and answers how that
+/// ended. The first word is the program's name. What ends the session is told on `faults`. Where no store is opened, nothing is read or
+/// written.
 pub fn run_messages<R, M, S, I, O, F>(
     rt: &R,
     macros: M,
@@ -34,6 +41,13 @@ where
     O: Write,
     F: Write,
     requires answers { M.answers macros }
+    ensures ends { EndsAfter (message_faults (map S.text words.now)) result }
+    ensures opened { (folder : Text) (existing : Bool) (every : ℕ)
+        → message_faults (map S.text words.now) ≡ []
+        → messages_in (map S.text words.now) ≡ Some (folder, existing, every)
+        → (told : Told) × OpensFolder input.old input.new output.old output.new
+        (OpensStore R.Disk.state R.Disk.tells (R.opens rt.now)) (λ disk. Unit {0})
+        folder existing result told }
 {
     match messages_in(rt.alloc(), words) {
         Ok(messages) => serve_asked(rt, macros, messages, input, output, faults),
@@ -60,6 +74,10 @@ where
     O: Write,
     F: Write,
     requires answers { M.answers macros }
+    ensures taken { TakesWords result }
+    ensures opened { (told : Told) × OpensFolder input.old input.new output.old output.new
+        (OpensStore R.Disk.state R.Disk.tells (R.opens rt.now)) (λ disk. Unit {0})
+        messages.entry.folder.now messages.entry.existing result told }
 {
     let Ok(seed) = Seed::draw(rt) else {
         return end_with(faults, Status::Fault(INPUT));
@@ -110,7 +128,9 @@ where
 }
 
 // The status after a session that ended so; what ended it is told.
-fn end_after<D: TellsCause, F: Write>(faults: &mut F, ended: Ended, disk: &D) -> Status {
+fn end_after<D: TellsCause, F: Write>(faults: &mut F, ended: Ended, disk: &D) -> Status
+    ensures { TakesWords result }
+{
     match ended {
         Ended::End => end_with(faults, Status::Done),
         Ended::NoFrame(place) => {
