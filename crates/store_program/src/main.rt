@@ -17,7 +17,7 @@ use readtable_core::FnName;
 use six_functions::{SixFunctions, macro_functions};
 use std::alloc::AllocError;
 use std::cell::Cell;
-use std::io::{ErrorKind, IsTerminal, Write};
+use std::io::{ErrorKind, IsTerminal, Stdout, Write};
 use std::path::Path;
 use std::process::ExitCode;
 use std::random::RandomSource;
@@ -100,7 +100,8 @@ fn serve_words<M: MacroFunctions + Drop, F: Write>(
             output,
         ),
         Way::Serve if asks_for_quiet(words) => serve_quietly(rt, macros, words, faults),
-        Way::Serve => serve_input(rt, macros, words, output),
+        Way::Serve if rt.stdin().is_terminal() => serve_at_terminal(rt, macros, words, faults),
+        Way::Serve => serve_pipe(rt, &Telling::new(rt, rt), macros, words, output),
     }
 }
 
@@ -114,7 +115,11 @@ fn serve_quietly<M: MacroFunctions + Drop, F: Write>(
     requires answers { M.answers macros }
 {
     let mut output = Refusals::new(rt.alloc(), Uninterrupted::new(rt.stdout()));
-    let status = serve_input(rt, macros, words, &mut output);
+    let status = if rt.stdin().is_terminal() {
+        serve_quietly_at_terminal(rt, macros, words, &mut output, faults)
+    } else {
+        serve_pipe(rt, &Telling::new(rt, rt), macros, words, &mut output)
+    };
     match status {
         Status::Helped | Status::WordsRefused => {}
         _ => {
@@ -122,20 +127,6 @@ fn serve_quietly<M: MacroFunctions + Drop, F: Write>(
         }
     }
     status
-}
-
-// The same of a terminal or of another input, with this output.
-fn serve_input<M, O>(rt: &HostRuntime, macros: M, words: &[String], output: O) -> Status
-where
-    M: MacroFunctions + Drop,
-    O: Write + Drop,
-    requires answers { M.answers macros }
-{
-    if rt.stdin().is_terminal() {
-        serve_at_terminal(rt, macros, words, output)
-    } else {
-        serve_pipe(rt, &Telling::new(rt, rt), macros, words, output)
-    }
 }
 
 // The same where standard input is no terminal, and folders are opened by another system. At a terminal standard error has a line on how far
@@ -182,26 +173,38 @@ fn size_of_input(rt: &HostRuntime) -> Option<u64> {
 }
 
 // The same at a terminal, whose prompts go to standard error.
-fn serve_at_terminal<M, O>(rt: &HostRuntime, macros: M, words: &[String], output: O) -> Status
-where
-    M: MacroFunctions + Drop,
-    O: Write + Drop,
+fn serve_at_terminal<M: MacroFunctions + Drop, F: Write>(
+    rt: &HostRuntime,
+    macros: M,
+    words: &[String],
+    faults: &mut F,
+) -> Status
     requires answers { M.answers macros }
 {
     let heard = Cell::new(Heard::Nothing);
     let lines = Lines::new(rt.alloc(), Uninterrupted::new(rt.stdin()));
     let mut input = Terminal::new(lines, rt.stderr(), &heard);
-    let mut output = Answers::new(output, &heard);
+    let mut output = Answers::new(Uninterrupted::new(rt.stdout()), &heard);
     let folders = Telling::new(rt, rt);
-    let mut faults = rt.stderr();
-    program_at_terminal(
-        &folders,
-        macros,
-        words,
-        &mut input,
-        &mut output,
-        &mut faults,
-    )
+    program_at_terminal(&folders, macros, words, &mut input, &mut output, faults)
+}
+
+// The same with refusals alone.
+fn serve_quietly_at_terminal<M: MacroFunctions + Drop, F: Write>(
+    rt: &HostRuntime,
+    macros: M,
+    words: &[String],
+    output: &mut Refusals<Uninterrupted<Stdout>>,
+    faults: &mut F,
+) -> Status
+    requires answers { M.answers macros }
+{
+    let heard = Cell::new(Heard::Nothing);
+    let lines = Lines::new(rt.alloc(), Uninterrupted::new(rt.stdin()));
+    let mut input = Terminal::new(lines, rt.stderr(), &heard);
+    let mut output = Answers::new(&mut *output, &heard);
+    let folders = Telling::new(rt, rt);
+    program_at_terminal(&folders, macros, words, &mut input, &mut output, faults)
 }
 
 // What comes of registering a function whose name is known and not taken: only memory can refuse it.
