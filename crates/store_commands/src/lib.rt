@@ -18,6 +18,8 @@
 //! # For proofs above
 //!
 //! - proofs/Reports.antt: from what is written of an open store to what the commands promise.
+//! - proofs/FolderLaws.antt: from how the files of a folder were opened to what a command tells of it.
+//! - proofs/Statuses.antt: which statuses come after which words.
 #![tactic(auto)]
 
 mod answers;
