@@ -1,5 +1,5 @@
 -- The list of the rows of property lists is written row by row.
-use Rattle.std.proofs.Common.{◌≡◌, ℕ, suc, ◌-◌, ◌≤◌, Bool, true, List, [], ◌∷◌, ◌++◌, length, map, take, drop, get_or, append_assoc, append-nil, refl, sym, ap, ◌∙◌, arith}
+use Rattle.std.proofs.Common.{◌≡◌, ℕ, suc, ◌-◌, ◌≤◌, Bool, true, false, if◌then◌else◌, List, [], ◌∷◌, ◌++◌, length, map, filter, take, drop, get_or, append_assoc, append-nil, refl, sym, ap, ◌∙◌, arith}
 use Rattle.std.specs.Prelude.{codes}
 use Rattle.std.specs.List.{flat_map, list_all}
 use Rattle.std.proofs.lemmas.List.Folds.{list_all-map}
@@ -69,3 +69,12 @@ pub four_added : (t₀ a b c d : List ℕ) {t₁ t₂ t₃ t₄ : List ℕ} → 
 four_added t₀ a b c d one two three four =
     four ∙ ap (λ t. t ++ d) (three ∙ ap (λ t. t ++ c) (two ∙ ap (λ t. t ++ b) one)) ∙ append_assoc ((t₀ ++ a) ++ b) c d ∙ append_assoc (t₀ ++ a) b (c ++ d)
     ∙ append_assoc t₀ a (b ++ (c ++ d)) ∙ ap (λ e. t₀ ++ (a ++ (b ++ (c ++ e)))) (sym (append-nil d))
+
+-- the images of those whose images pass
+pub filter_images : {A B : Type 0} (P : B → Bool) (g : A → B) (xs : List A) → map g (filter (λ x. P (g x)) xs) ≡ filter P (map g xs)
+filter_images P g [] = refl
+filter_images P g (x ∷ xs) =
+    elim (P (g x)) as (λ b. map g (if b then x ∷ filter (λ x. P (g x)) xs else filter (λ x. P (g x)) xs) ≡ (if b then g x ∷ filter P (map g xs) else filter P (map g xs))) [
+      | true ↦ ap (λ ys. g x ∷ ys) (filter_images P g xs)
+      | false ↦ filter_images P g xs
+    ]

@@ -35,23 +35,13 @@ fn own<'a>(alloc: Global, packages: &'a Packages, owner: &[u8]) -> Result<Vec<&'
     listed(packages.own_names(alloc, owner))
 }
 
-// The names that are not at home in the package from the first.
-fn made<'a>(
-    alloc: Global,
-    names: &[&'a [u8]],
-    first: &Packages,
-    owner: &[u8],
-) -> Result<Vec<&'a [u8]>, AllocError>
-    ensures { IfOk result (λ made. map (λ n. n.now) made.items
-        ≡ filter (λ n. not (is_present first.now.0 owner.now n)) (map (λ n. n.now) names.now)) }
+// Leaves the names that are not at home in the package from the first. There may be a million of them, so that no second list is made.
+fn leave_made(names: &mut Vec<&[u8]>, first: &Packages, owner: &[u8])
+    ensures { map (λ n. n.now) names.new.items
+        ≡ filter (λ n. not (is_present first.now.0 owner.now n))
+        (map (λ n. n.now) names.old.items) }
 {
-    let mut made = Vec::with_capacity(alloc, names.len())?;
-    for name in names {
-        if !first.is_present(owner, name) {
-            made.push(*name)?;
-        }
-    }
-    Ok(made)
+    names.retain(|name| !first.is_present(owner, name));
 }
 
 // The names but COMMON-LISP.
@@ -110,9 +100,9 @@ fn push_own(
         (texts (made_names packages.now.0 owner.now))) }
 {
     packages.soundness();
-    let names = own(alloc, packages, owner)?;
-    let made = made(alloc, names.as_slice(), first, owner)?;
-    push_texts(alloc, text, packages, made.as_slice())?;
+    let mut names = own(alloc, packages, owner)?;
+    leave_made(&mut names, first, owner);
+    push_texts(alloc, text, packages, names.as_slice())?;
     Ok(())
 }
 

@@ -12,19 +12,19 @@ pub push_texts-requires : goal.push_texts-requires
 push_texts-requires c =
     let t = c.args.packages.now.0 in
     let p = c.args.owner.now in
-    let images : map (λ n. n.now) c.in_ok-made.made.items ≡ made_names t p =
-    c.in_ok-made.ensures
-    ∙ ap (filter (λ n. not (is_present c.args.first.now.0 p n))) (ap (map (λ n. n.now)) c.as_slice.ensures.value ∙ c.in_ok-names.ensures)
+    let images : map (λ n. n.now) c.leave_made.new.names.items ≡ made_names t p =
+    c.leave_made.ensures
+    ∙ ap (filter (λ n. not (is_present c.args.first.now.0 p n))) c.in_ok-names.ensures
     ∙ ap (λ i. filter (λ n. not (is_present i p n)) (own_names t p)) c.requires in
-    images_pass is_ascii_name c.as_slice-2.result.now c.in_ok-made.made.items (λ n. n.now) c.as_slice-2.ensures.value images (made_names_ascii t c.soundness.ensures p)
+    images_pass is_ascii_name c.as_slice.result.now c.leave_made.new.names.items (λ n. n.now) c.as_slice.ensures.value images (made_names_ascii t c.soundness.ensures p)
 
 pub returns : goal.returns
 returns c =
     let t = c.args.packages.now.0 in
     let p = c.args.owner.now in
-    let images : map (λ n. n.now) c.in_ok-made.made.items ≡ made_names t p =
-    c.in_ok-made.ensures
-    ∙ ap (filter (λ n. not (is_present c.args.first.now.0 p n))) (ap (map (λ n. n.now)) c.as_slice.ensures.value ∙ c.in_ok-names.ensures)
+    let images : map (λ n. n.now) c.leave_made.new.names.items ≡ made_names t p =
+    c.leave_made.ensures
+    ∙ ap (filter (λ n. not (is_present c.args.first.now.0 p n))) c.in_ok-names.ensures
     ∙ ap (λ i. filter (λ n. not (is_present i p n)) (own_names t p)) c.requires in
     c.in_ok-push_texts.ensures
-    ∙ ap (λ ns. c.args.text.now.items ++ (codes " " ++ printed t common_lisp_user (texts ns))) (ap (map (λ n. n.now)) c.as_slice-2.ensures.value ∙ images)
+    ∙ ap (λ ns. c.args.text.now.items ++ (codes " " ++ printed t common_lisp_user (texts ns))) (ap (map (λ n. n.now)) c.as_slice.ensures.value ∙ images)
