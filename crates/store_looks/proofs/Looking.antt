@@ -55,23 +55,23 @@ module _ (functions : Functions) {R : Type 0} (macros : R) (held written : Optio
   told_prints (Backup to) sight status told = subst (PrintsText held written) (sym told.0.1) (nothing_prints held written told.1)
   told_prints (Dump place) sight status told = (snapshot told.2.1.is_opened.world, told.2.1.tells)
 
-  module _ (whole : Bool) (opens : Text → Result Sight HostError → Type 0) (folder : Text) (look : Look) where
-    pub look_prints : (status : Status) → LooksAt functions macros whole opens folder look held written (Ok status) → PrintsText held written status
+  module _ (whole : Bool) (lacks_seeds : Type 0) (opens : Text → Result Sight HostError → Type 0) (folder : Text) (look : Look) where
+    pub look_prints : (status : Status) → LooksAt functions macros whole lacks_seeds opens folder look held written (Ok status) → PrintsText held written status
     unfolding LooksAt
-    look_prints status (inl is) = absurd (cc)
+    look_prints status (inl none) = let is : ◌≡◌ {A = Result Status Unlooked} (Ok status) (Err (unlooked.Fault INPUT)) = none.1 in absurd (cc)
     look_prints status (inr (inl not)) = let is : ◌≡◌ {A = Result Status Unlooked} (Ok status) (Err (unlooked.Host not.0)) = not.2 in absurd (cc)
     look_prints status (inr (inr seen)) = told_prints look seen.0 status seen.2
 
     -- the folder was not opened
     pub look_failed : (opened : Result Sight HostError) (error : HostError) → opened ≡ Err error → opens folder opened
-        → LooksAt functions macros whole opens folder look held written (Err (unlooked.Host error))
+        → LooksAt functions macros whole lacks_seeds opens folder look held written (Err (unlooked.Host error))
     unfolding LooksAt
     look_failed opened error is given = inr (inl (error, subst (opens folder) is given, refl))
 
     -- it was
     pub look_done : (opened : Result Sight HostError) (sight : Sight) (ended : Result Status Unlooked) → opened ≡ Ok sight → opens folder opened
         → MatchResult ended (TellsLook functions macros held written look sight) (WithholdsLook functions macros whole look sight)
-        → LooksAt functions macros whole opens folder look held written ended
+        → LooksAt functions macros whole lacks_seeds opens folder look held written ended
     unfolding LooksAt
     look_done opened sight ended is given looks = inr (inr (sight, subst (opens folder) is given, looks))
 
@@ -214,18 +214,18 @@ module _ (functions : Functions) {R : Type 0} (macros : R) (sight : Sight) where
     info_memory why is = inr (inr (sight, refl, inr is))
 
 -- the whole look
-module _ (functions : Functions) {R : Type 0} (macros : R) (whole : Bool) (opens : Text → Result Sight HostError → Type 0) (words : List Text) (held written : Option (List ℕ)) where
-  pub look_of_words : (status : Status) → IsOfWords status → Looks functions macros whole opens words held written status
+module _ (functions : Functions) {R : Type 0} (macros : R) (whole : Bool) (lacks_seeds : Type 0) (opens : Text → Result Sight HostError → Type 0) (words : List Text) (held written : Option (List ℕ)) where
+  pub look_of_words : (status : Status) → IsOfWords status → Looks functions macros whole lacks_seeds opens words held written status
   unfolding Looks
   look_of_words status of_words = inl of_words
 
   pub look_ended : (folder : Text) (look : Look) → AsksToLook words folder look → (ended : Result Status Unlooked) (status : Status) → status ≡ status_in ended
-      → LooksAt functions macros whole opens folder look held written ended → Looks functions macros whole opens words held written status
+      → LooksAt functions macros whole lacks_seeds opens folder look held written ended → Looks functions macros whole lacks_seeds opens words held written status
   unfolding Looks
   look_ended folder look asks ended status is looks = inr (folder, look, asks, (ended, is, looks))
 
 -- no seed was had
-pub look_without_seed : (functions : Functions) {R : Type 0} (macros : R) (whole : Bool) (opens : Text → Result Sight HostError → Type 0) (folder : Text) (look : Look) (held written : Option (List ℕ))
-    → LooksAt functions macros whole opens folder look held written (Err (unlooked.Fault INPUT))
+pub look_without_seed : (functions : Functions) {R : Type 0} (macros : R) (whole : Bool) (lacks_seeds : Type 0) (opens : Text → Result Sight HostError → Type 0) (folder : Text) (look : Look) (held written : Option (List ℕ)) → lacks_seeds
+    → LooksAt functions macros whole lacks_seeds opens folder look held written (Err (unlooked.Fault INPUT))
 unfolding LooksAt
-look_without_seed functions macros whole opens folder look held written = inl refl
+look_without_seed functions macros whole lacks_seeds opens folder look held written lacks = inl (lacks, refl)

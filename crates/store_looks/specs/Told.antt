@@ -144,11 +144,11 @@ abbrev pub status_in : Result Status Unlooked → Status
 status_in (Ok status) = status
 status_in (Err why) = status_of why
 
-module _ (functions : Functions) {R : Type 0} (macros : R) (whole : Bool) (opens : Text → Result Sight HostError → Type 0) where
-  -- The files of the folder were opened so, and this is told of what was seen, or nothing. Before that no seed was had.
+module _ (functions : Functions) {R : Type 0} (macros : R) (whole : Bool) (lacks_seeds : Type 0) (opens : Text → Result Sight HostError → Type 0) where
+  -- The files of the folder were opened so, and this is told of what was seen, or nothing. Before that no seed was had, of a system that may lack them.
   unfoldable pub LooksAt : Text → Look → Option (List ℕ) → Option (List ℕ) → Result Status Unlooked → Type 0
   LooksAt folder look held written ended =
-      (ended ≡ Err (unlooked.Fault INPUT))
+      (lacks_seeds × (ended ≡ Err (unlooked.Fault INPUT)))
       ⊎ (((error : HostError) × opens folder (Err error) × (ended ≡ Err (unlooked.Host error)))
       ⊎ ((sight : Sight) × opens folder (Ok sight)
       × MatchResult ended (TellsLook functions macros held written look sight) (WithholdsLook functions macros whole look sight)))

@@ -14,6 +14,7 @@ ghost use Rattle.store_looks.specs.Checked.{AreRefusalsOf, Checks, EndsSo, Finds
 ghost use Rattle.store_looks.specs.Told.{Has};
 
 use crate::looks::{end_unlooked, opened, sight_of};
+use crate::seeds::Seeds;
 use crate::unlooked::Unlooked;
 use command_words::{Check, checked_in};
 use diagnostics::{Refusal, Spot, Spots, write_out, write_refusal};
@@ -29,7 +30,6 @@ use std::fs;
 use std::fs::File;
 use std::io::{ErrorKind, Read, Write};
 use std::path::Path;
-use std::random::RandomSource;
 use std::rt::Files;
 use store_commands::{Looking, Status, answer_words, end_with};
 use user_macros::MacroFunctions;
@@ -51,7 +51,7 @@ pub fn check<R, M, S, I, O, F>(
     faults: &mut F,
 ) -> Status
 where
-    R: Files<File = File> + RandomSource + AllocGlobal,
+    R: Files<File = File> + Seeds + AllocGlobal,
     M: MacroFunctions + Drop,
     S: AsStr,
     I: Read,
@@ -84,7 +84,7 @@ fn check_asked<R, M, I, O>(
     output: &mut O,
 ) -> Result<Status, Unlooked>
 where
-    R: Files<File = File> + RandomSource + AllocGlobal,
+    R: Files<File = File> + Seeds + AllocGlobal,
     M: MacroFunctions + Drop,
     I: Read,
     O: Write,
@@ -154,13 +154,13 @@ fn read_input<I: Read>(alloc: Global, input: &mut I) -> Result<Vec<u8>, Unlooked
 #[tactic(auto, unfolding(crate::specs::Checked::IsWorldOf))]
 fn world_of<R, M>(rt: &R, macros: M, store: Option<&str>) -> Result<(World, M), Unlooked>
 where
-    R: Files<File = File> + RandomSource + AllocGlobal,
+    R: Files<File = File> + Seeds + AllocGlobal,
     M: MacroFunctions + Drop,
     requires answers { M.answers macros }
     ensures macros { IfOk result (λ p. p.1 ≡ macros) }
     ensures world { IfOk result (λ p. IsWorldOf M.Meaning.functions macros (borrowed_text store.entry) p.0.0) }
 {
-    let Ok(seed) = Seed::draw(rt) else {
+    let Ok(seed) = rt.seed() else {
         return Err(Unlooked::Fault(INPUT));
     };
     match store {
@@ -172,7 +172,7 @@ where
 // The world of the store in this folder, as it was at one moment.
 fn seen_world<R, M>(rt: &R, macros: M, folder: &str, seed: Seed) -> Result<(World, M), Unlooked>
 where
-    R: Files<File = File> + RandomSource + AllocGlobal,
+    R: Files<File = File> + Seeds + AllocGlobal,
     M: MacroFunctions + Drop,
     requires answers { M.answers macros }
     ensures macros { IfOk result (λ p. p.1 ≡ macros) }

@@ -2,6 +2,7 @@
 //!
 //! - `look` looks into the store of a folder: `show`, `info`, `log`, `backup`, and `dump --at N` (modules `looks`, `showing` and
 //!   `figures`, over `log_look` and `store_reports`; `unlooked` says why nothing is told).
+//! - `Seeds`: what gives the seed of a look; a look that has none ends with 67 (module `seeds`).
 //! - `check` tells which forms of a file cannot be read (module `checking`, over `form_check`).
 //!
 //! `dump`, `verify` and `export` with `--existing` only look too: they are `program` of `store_commands` over a `Looking`.
@@ -10,8 +11,10 @@
 mod checking;
 mod figures;
 mod looks;
+mod seeds;
 mod showing;
 mod unlooked;
 
 pub use checking::check;
 pub use looks::look;
+pub use seeds::Seeds;

@@ -13,6 +13,7 @@ ghost use Rattle.store_looks.specs.Unlooked.{status_of};
 ghost use Rattle.user_macros.specs.Functions.{are_registered};
 
 use crate::figures::info_on;
+use crate::seeds::Seeds;
 use crate::showing::show_on;
 use crate::unlooked::Unlooked;
 use command_words::{Look, Looked, RecordPlace, Records, Report, looked_in};
@@ -27,7 +28,6 @@ use std::convert::AsStr;
 use std::fmt::{Display, Write as WriteText};
 use std::fs::File;
 use std::io::Write;
-use std::random::RandomSource;
 use std::rt::Files;
 use std::time::Clock;
 use store_commands::{
@@ -53,7 +53,7 @@ pub fn look<R, L, M, S, O, F>(
     faults: &mut F,
 ) -> Status
 where
-    R: Files<File = File> + RandomSource + Clock + AllocGlobal,
+    R: Files<File = File> + Seeds + Clock + AllocGlobal,
     L: Folders<Disk = Sight>,
     M: MacroFunctions + Drop,
     S: AsStr,
@@ -62,7 +62,7 @@ where
     requires answers { M.answers macros }
     ensures prints { Prints O.contents output.old output.new result }
     ensures looks { Looks M.Meaning.functions macros
-        (are_registered M.Meaning.functions (M.functions macros))
+        (are_registered M.Meaning.functions (M.functions macros)) (R.lacks rt.now)
         (Sees ⟦<Sight as TellsCause>⟧.tells (L.opens folders.now))
         (map S.text words.now) (O.contents output.old) (O.contents output.new) result }
     ensures told { (told : Told) × TellsFault result told (F.contents faults.old) (F.contents faults.new) }
@@ -140,19 +140,20 @@ fn look_at<R, L, M, O>(
     output: &mut O,
 ) -> Result<Status, Unlooked>
 where
-    R: Files<File = File> + RandomSource + Clock + AllocGlobal,
+    R: Files<File = File> + Seeds + Clock + AllocGlobal,
     L: Folders<Disk = Sight>,
     M: MacroFunctions + Drop,
     O: Write,
     requires answers { M.answers macros }
     ensures refused { IfErr result (λ _. output.new ≡ output.old) }
     ensures looks { LooksAt M.Meaning.functions macros
-        (are_registered M.Meaning.functions (M.functions macros))
+        (are_registered M.Meaning.functions (M.functions macros)) (R.lacks rt.now)
         (Sees ⟦<Sight as TellsCause>⟧.tells (L.opens folders.now))
         looked.entry.folder.now looked.entry.look (O.contents output.old) (O.contents output.new) result }
 {
-    let Ok(seed) = Seed::draw(rt) else {
-        return Err(Unlooked::Fault(INPUT));
+    let seed = match rt.seed() {
+        Ok(seed) => seed,
+        Err(_) => return Err(Unlooked::Fault(INPUT)),
     };
     match sight_of(folders, looked.folder) {
         Ok(sight) => look_into(rt, sight, macros, seed, looked, output),
