@@ -6,6 +6,7 @@ use Rattle.message_laws.proofs.Tidy.{sound_tidy}
 use Rattle.message_session.specs.Answers.{answered_bytes}
 use Rattle.message_session.specs.Sessions.{AreFramesAnswered}
 use Rattle.message_session.proofs.Frames.{none_answered}
+use Rattle.message_session.proofs.Standing.{none_further, rests_further, stops_end, untaken_rests}
 use Rattle.plist_state.specs.State.{WorldState}
 use Rattle.prevalence_store.specs.calls.Store.{StoreView}
 use Rattle.user_macros.specs.Functions.{Functions}
@@ -18,5 +19,24 @@ nothing functions last w tidy store known held (frame ∷ frames) none = absurd 
 
 pub returns-then-is_empty-clause-answers : goal.returns-then-is_empty-clause-answers
 returns-then-is_empty-clause-answers g c = λ w known.
-    nothing g.R.Meaning.Meaning.functions c.args.course.now.last w (sound_tidy w (c.its_world_is_sound.ensures w known)) c.args.store.now known (g.O.Write.contents c.args.output.now) c.args.frames.now
+    nothing g.R.Meaning.Meaning.functions c.args.course.now.last w (sound_tidy w (c.its_world_is_sound.ensures w known)) c.args.store.now known (g.O.AnswerRecipient.contents c.args.output.now) c.args.frames.now
     (eqb-true (length c.args.frames.now) 0 (sym c.if-is_empty.ensures))
+
+-- ---- the recipient
+
+pub returns-in-Err-clause-rests : goal.returns-in-Err-clause-rests
+returns-in-Err-clause-rests g c =
+    stops_end g.R.Meaning.Meaning.functions g.D.Disk.state g.met.D.Disk.sound (g.O.AnswerRecipient.account c.take_frames.new.output) c.take_frames.new.store c.take_frames.new.course.last c.in-Err.stop
+    c.in-Err.ensures.rests
+
+pub returns-in-Err-renew-clause-rests : goal.returns-in-Err-renew-clause-rests
+returns-in-Err-renew-clause-rests g c =
+    none_further g.R.Meaning.Meaning.functions g.D.Disk.state g.met.D.Disk.sound (g.O.AnswerRecipient.account c.take_frames.new.output) c.take_frames.new.store c.renew.new.store c.take_frames.new.course.last
+    (untaken_rests g.R.Meaning.Meaning.functions g.D.Disk.state g.met.D.Disk.sound (g.O.AnswerRecipient.account c.take_frames.new.output) c.take_frames.new.store c.take_frames.new.course.last
+    c.in-Err-Untaken-eq64.field-0 c.in-Err-Untaken-eq64.field-0-0 c.in-Err-Untaken-eq64.field-0-is c.in-Err-Untaken-eq64.ensures.rests) c.renew.ensures.survives
+
+pub answer_each-requires-clause-rests : goal.answer_each-requires-clause-rests
+answer_each-requires-clause-rests g c =
+    rests_further g.R.Meaning.Meaning.functions g.D.Disk.state g.met.D.Disk.sound (g.O.AnswerRecipient.account c.take_frames.new.output) c.take_frames.new.store c.renew.new.store c.take_frames.new.course.last
+    (untaken_rests g.R.Meaning.Meaning.functions g.D.Disk.state g.met.D.Disk.sound (g.O.AnswerRecipient.account c.take_frames.new.output) c.take_frames.new.store c.take_frames.new.course.last
+    c.in-Err-Untaken-eq64.field-0 c.in-Err-Untaken-eq64.field-0-0 c.in-Err-Untaken-eq64.field-0-is c.in-Err-Untaken-eq64.ensures.rests) c.in-Ok-renew.ensures.same c.renew.ensures.survives

@@ -8,6 +8,7 @@ use Rattle.message_session.specs.Answers.{answered_bytes}
 use Rattle.message_session.specs.Sessions.{AreFramesAnswered}
 use Rattle.message_session.specs.Steps.{Breaks, ended_by}
 use Rattle.message_session.proofs.Frames.{answered_both, breaks_both, breaks_more, none_answered}
+use Rattle.message_session.proofs.Standing.{stops_end}
 use Rattle.message_session.proofs.Stops.{stopped}
 use Rattle.message_session.proofs.answer.answer_in_turn.Goals as goal
 
@@ -31,7 +32,8 @@ pub frames-init : goal.frames-init
 frames-init g c = record {
   macros = refl;
   answered = λ w known.
-      none_answered g.R.Meaning.Meaning.functions c.args.course.now.last w (sound_tidy w (c.its_world_is_sound.ensures w known)) c.args.store.now known (g.O.Write.contents c.args.output.now);
+      none_answered g.R.Meaning.Meaning.functions c.args.course.now.last w (sound_tidy w (c.its_world_is_sound.ensures w known)) c.args.store.now known (g.O.AnswerRecipient.contents c.args.output.now);
+  rests = c.requires.rests;
 }
 
 pub returns-in-Err-clause-answers : goal.returns-in-Err-clause-answers
@@ -40,9 +42,9 @@ returns-in-Err-clause-answers g c = λ w known.
     let functions = g.R.Meaning.Meaning.functions in
     let last = c.args.course.now.last in
     let tidy = sound_tidy w (c.its_world_is_sound.ensures w known) in
-    let held = g.O.Write.contents c.args.output.now in
-    let between = g.O.Write.contents c.frames.output in
-    let written = g.O.Write.contents c.take_frames.new.output in
+    let held = g.O.AnswerRecipient.contents c.args.output.now in
+    let between = g.O.AnswerRecipient.contents c.frames.output in
+    let written = g.O.AnswerRecipient.contents c.take_frames.new.output in
     let front = map sent (take c.frames.i c.args.frames.now) in
     let one = at_place c.frames.i c.args.frames.now in
     let ended = ended_by c.in-Err.stop in
@@ -60,18 +62,24 @@ frames-preserved g c = record {
       let far = c.frames.invariant.answered w known in
       let functions = g.R.Meaning.Meaning.functions in
       let last = c.args.course.now.last in
-      let held = g.O.Write.contents c.args.output.now in
-      let written = g.O.Write.contents c.take_frames.new.output in
+      let held = g.O.AnswerRecipient.contents c.args.output.now in
+      let written = g.O.AnswerRecipient.contents c.take_frames.new.output in
       subst (λ fs. AreFramesAnswered functions last w c.take_frames.new.store held written (answered_bytes functions last w) fs c.take_frames.new.course.last) (sym (one_more c.args.frames.now c.frames.i))
-      (answered_both functions last w (sound_tidy w (c.its_world_is_sound.ensures w known)) c.frames.store held (g.O.Write.contents c.frames.output)
+      (answered_both functions last w (sound_tidy w (c.its_world_is_sound.ensures w known)) c.frames.store held (g.O.AnswerRecipient.contents c.frames.output)
       (map sent (take c.frames.i c.args.frames.now)) c.frames.course.last far (at_place c.frames.i c.args.frames.now) written c.take_frames.new.store c.take_frames.new.course.last
       (c.in-Ok.ensures.takes far.after.left far.after.known));
+  rests = c.in-Ok.ensures.rests;
 }
 
 pub returns-clause-answers : goal.returns-clause-answers
 returns-clause-answers g c = λ w known.
     let functions = g.R.Meaning.Meaning.functions in
     let last = c.args.course.now.last in
-    subst (λ fs. AreFramesAnswered functions last w c.frames.store (g.O.Write.contents c.args.output.now) (g.O.Write.contents c.frames.output) (answered_bytes functions last w) fs c.frames.course.last)
+    subst (λ fs. AreFramesAnswered functions last w c.frames.store (g.O.AnswerRecipient.contents c.args.output.now) (g.O.AnswerRecipient.contents c.frames.output) (answered_bytes functions last w) fs c.frames.course.last)
     (ap (map sent) (take_all c.frames.i c.args.frames.now (omega (arith, c.frames-test.false))))
     (c.frames.invariant.answered w known)
+
+pub returns-in-Err-clause-rests : goal.returns-in-Err-clause-rests
+returns-in-Err-clause-rests g c =
+    stops_end g.R.Meaning.Meaning.functions g.D.Disk.state g.met.D.Disk.sound (g.O.AnswerRecipient.account c.take_frames.new.output) c.take_frames.new.store c.take_frames.new.course.last c.in-Err.stop
+    c.in-Err.ensures.rests

@@ -4,6 +4,7 @@ use Rattle.message_frames.specs.declared.frame.Frame.{Frame}
 use Rattle.message_session.specs.Sessions.{text_limit}
 use Rattle.message_session.specs.Steps.{ComesAfter}
 use Rattle.message_session.proofs.Held.{comes_after, shorter}
+use Rattle.message_session.proofs.Standing.{none_at_rest}
 use Rattle.message_session.proofs.serve.Session.answer_some.Goals as goal
 
 pub returns-clause-answers : goal.returns-clause-answers
@@ -31,3 +32,6 @@ returns-clause-fewer g c = λ unread.
     (shorter (map sent items) rest held
     (subst (ComesAfter (map sent items) rest) unread (comes_after c.most-most.result items rest c.in-Ok.whole.next c.most-most.ensures whole.follows))
     whole.frames.parts)
+
+pub returns-in_default-clause-rests : goal.returns-in_default-clause-rests
+returns-in_default-clause-rests g c = none_at_rest g.R.Meaning.Meaning.functions g.D.Disk.state g.met.D.Disk.sound (g.O.AnswerRecipient.account c.args.output.now) c.args.store.now c.args.self.now.course.last c.requires.rests
