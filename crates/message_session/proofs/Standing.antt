@@ -6,12 +6,13 @@ use Rattle.disk_trait.specs.Disk.{Image, State, IsHonest, IsSound, Throughout}
 use Rattle.disk_trait.specs.Moments.{joined, weaker}
 use Rattle.gate_log.specs.Layout.{LogRecord}
 use Rattle.message_frames.specs.Frames.{Sent}
-use Rattle.message_session.specs.Account.{Account, AreLogged, AreStored, first_account, round_after, with_frames}
+use Rattle.message_session.specs.Account.{Account, AreLogged, AreStored, AreUnderWay, first_account, round_after, with_frames}
 use Rattle.message_session.specs.Answers.{answered_bytes, each_frame}
 use Rattle.message_session.specs.Standing.{AcknowledgesNone, IsAtRest, Rests, RestsOrStops}
-use Rattle.message_session.specs.Steps.{StopsAfter, parts_of_frame, parts_of_request}
+use Rattle.message_session.specs.Steps.{RenewsForRoom, StopsAfter, parts_of_frame, parts_of_request}
 use Rattle.message_session.specs.declared.answer.Stop.{Stop}
 use Rattle.message_session.specs.declared.answer.Stop.TheVariants as stop
+use Rattle.message_session.specs.declared.ended.Ended.{Ended}
 use Rattle.message_session.proofs.Requests.{left_alone}
 use Rattle.message_session.proofs.Rounds.{same_rounds}
 use Rattle.plist_state.specs.State.{WorldState}
@@ -53,6 +54,12 @@ snapshot_survives functions state old new w Snapshotted is = is.survives
 snapshot_survives functions state old new w (Refused number) (inl none) = none.survives
 snapshot_survives functions state old new w (Refused number) (inr (inl fault)) = fault.survives
 snapshot_survives functions state old new w (Refused number) (inr (inr memory)) = memory.survives
+
+-- and one that was taken for room
+pub room_survives : (functions : Functions) {D R : Type 0} (state : D → State) (old new : StoreView D R) (w : WorldState) (result : Result Unit Ended) → RenewsForRoom functions state old new w result
+    → SurvivesAs functions state old new w [] 0
+room_survives functions state old new w (Ok done) renews = renews.survives
+room_survives functions state old new w (Err ended) refused = snapshot_survives functions state old new w (Refused refused.0) refused.2
 
 module _ (functions : Functions) {D R : Type 0} (state : D → State) (sound : (d : D) → IsHonest (state d) → IsSound (state d)) where
   -- ---- a call after it rested
@@ -132,18 +139,33 @@ module _ (functions : Functions) {D R : Type 0} (state : D → State) (sound : (
 
   -- ---- requests that frames are
 
-  module _ (told : Option (Account D)) (old new : StoreView D R) (last : ℕ) (rests : Rests functions state told old last) (requests : List Request) where
+  module _ (told : Option (Account D)) (old new : StoreView D R) (last : ℕ) (rests : Rests functions state told old last) (frames : List Sent) (requests : List Request)
+      (same : map parts_of_request requests ≡ map parts_of_frame frames) where
+    round_is : (account : Account D) (w : WorldState) → IsAtRest functions state account old last w → answered functions (begun last w) requests ≡ round_after functions account frames
+    round_is account w rest =
+        ap closed (same_rounds functions requests frames (begun last w) same) ∙ (λ i. closed (each_frame functions (begun (sym rest.last_is i) (sym rest.now i)) frames))
+
+    -- they are under way
+    under_way : (account : Account D) (w : WorldState) → old.world ≡ Some w → IsAtRest functions state account old last w
+        → SurvivesAs functions state old new w (entries_by (answered functions (begun last w) requests).wrote (answered functions (begun last w) requests).entries) 0
+        → AllOrNone functions state old new w (entries_by (answered functions (begun last w) requests).wrote (answered functions (begun last w) requests).entries)
+        → AreUnderWay functions state account new
+    under_way account w known rest survives all_or_none =
+        let round = answered functions (begun last w) requests in (
+          frames,
+          subst (λ (r : Round). AreLogged functions state account new (entries_by r.wrote r.entries) 0) (round_is account w rest)
+              (logged_since account old new last w known rest (entries_by round.wrote round.entries) 0 survives all_or_none),
+        )
+
     -- they were answered, and nobody was told so
     pub none_told : (replies : Replies) → ((w : WorldState) → old.world ≡ Some w → AnswersRequests functions state old new w last requests (Ok replies)) → AcknowledgesNone functions state told new
     none_told replies answers account is =
         let far = rests account is in
         let given = answers far.0 far.1 in
         let round = answered functions (begun last far.0) requests in
-        let taken = entries_by round.wrote round.entries in (
-          taken,
-          logged_since account old new last far.0 far.1 far.2 taken 0
-              (λ known honest keeps. fewer_survive functions (state old.disk) (state new.disk) far.0 taken (length taken) 0 new.world (given.survives known honest keeps) (omega arith)) given.all_or_none,
-        )
+        let taken = entries_by round.wrote round.entries in
+        under_way account far.0 far.1 far.2
+        (λ known honest keeps. fewer_survive functions (state old.disk) (state new.disk) far.0 taken (length taken) 0 new.world (given.survives known honest keeps) (omega arith)) given.all_or_none
 
     module _ (number : ℕ) (answers : (w : WorldState) → old.world ≡ Some w → AnswersRequests functions state old new w last requests (Err number)) where
       -- they were not
@@ -155,13 +177,10 @@ module _ (functions : Functions) {D R : Type 0} (state : D → State) (sound : (
         left : AnswersRequests functions state old new far.0 last requests (Err number)
         left = answers far.0 far.1
 
-        by : (failed : Bool) → is_device left.0 ≡ failed → (taken : List LogRecord) × AreLogged functions state account new taken 0
+        by : (failed : Bool) → is_device left.0 ≡ failed → AreUnderWay functions state account new
         by false calm =
-            subst (λ (s : StoreView D R). (taken : List LogRecord) × AreLogged functions state account s taken 0) (sym (left.2.unchanged calm)) (none_at_rest told old last rests account is)
-        by true device =
-            let round = answered functions (begun last far.0) requests in
-            let stopped = left.2.stopped device in
-            (entries_by round.wrote round.entries, logged_since account old new last far.0 far.1 far.2 (entries_by round.wrote round.entries) 0 stopped.survives stopped.all_or_none)
+            subst (λ (s : StoreView D R). AreUnderWay functions state account s) (sym (left.2.unchanged calm)) (none_at_rest told old last rests account is)
+        by true device = under_way account far.0 far.1 far.2 (left.2.stopped device).survives (left.2.stopped device).all_or_none
 
       pub unanswered : (why : Stop) → StopsAfter new number why → RestsOrStops functions state told new last (Err why)
       unanswered (stop.Untaken n) stops = λ account is.
@@ -176,15 +195,11 @@ module _ (functions : Functions) {D R : Type 0} (state : D → State) (sound : (
   module _ (told : Option (Account D)) (old new : StoreView D R) (last : ℕ) (rests : Rests functions state told old last) (frames : List Sent) (requests : List Request)
       (same : map parts_of_request requests ≡ map parts_of_frame frames) (replies : Replies)
       (answers : (w : WorldState) → old.world ≡ Some w → AnswersRequests functions state old new w last requests (Ok replies)) where
-    round_is : (account : Account D) (w : WorldState) → IsAtRest functions state account old last w → answered functions (begun last w) requests ≡ round_after functions account frames
-    round_is account w rest =
-        ap closed (same_rounds functions requests frames (begun last w) same) ∙ (λ i. closed (each_frame functions (begun (sym rest.last_is i) (sym rest.now i)) frames))
-
     given_after : (account : Account D) (w : WorldState) → old.world ≡ Some w → (rest : IsAtRest functions state account old last w)
         → AreAnswered functions state old new account.now (round_after functions account frames) replies
     given_after account w known rest =
         subst (λ v. AreAnswered functions state old new v (round_after functions account frames) replies) (sym rest.now)
-        (subst (λ (r : Round). AreAnswered functions state old new w r replies) (round_is account w rest) (answers w known))
+        (subst (λ (r : Round). AreAnswered functions state old new w r replies) (round_is told old new last rests frames requests same account w rest) (answers w known))
 
     pub answers_stored : (bytes : List ℕ) → ((w : WorldState) → old.world ≡ Some w → bytes ≡ answered_bytes functions last w frames)
         → (account : Account D) → told ≡ Some account → AreStored functions state account new frames bytes

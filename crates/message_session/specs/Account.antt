@@ -44,16 +44,16 @@ module _ (functions : Functions) {D R : Type 0} (state : D → State) (account :
     pub survives : IsHonest (state account.disk) → Survives functions (state account.disk) (state store.disk) account.now taken acknowledged store.world
     pub all_or_none : IsHonest (state account.disk) → Throughout (state account.disk) (state store.disk) (MeansAllOrNone functions account.now taken)
 
-  -- some records at most were logged, of which nothing was handed on
+  -- what these frames leave in the file, after those that were answered
+  abbrev records_of : List Sent → List LogRecord
+  records_of frames = entries_by (round_after functions account frames).wrote (round_after functions account frames).entries
+
+  -- These bytes answer these frames, after those that were answered. All that their messages wrote is stored, with the position.
+  pub record AreStored (frames : List Sent) (bytes : List ℕ) : Type 0 where
+    pub bytes_are : bytes ≡ answered_bytes functions account.last account.now frames
+    pub known : store.world ≡ Some (left_after (round_after functions account frames).wrote account.now (round_after functions account frames).left)
+    pub stored : AreLogged (records_of frames) (length (records_of frames))
+
+  -- Some frames were under way at most, together: nothing but what they leave was logged, and no answer to them was handed on.
   abbrev pub AreUnderWay : Type 0
-  AreUnderWay = (taken : List LogRecord) × AreLogged taken 0
-
-  module _ (frames : List Sent) where
-    abbrev records : List LogRecord
-    records = entries_by (round_after functions account frames).wrote (round_after functions account frames).entries
-
-    -- These bytes answer these frames, after those that were answered. All that their messages wrote is stored, with the position.
-    pub record AreStored (bytes : List ℕ) : Type 0 where
-      pub bytes_are : bytes ≡ answered_bytes functions account.last account.now frames
-      pub known : store.world ≡ Some (left_after (round_after functions account frames).wrote account.now (round_after functions account frames).left)
-      pub stored : AreLogged records (length records)
+  AreUnderWay = (frames : List Sent) × AreLogged (records_of frames) 0

@@ -1,5 +1,5 @@
 -- How a session of messages goes, and how it ends.
-use Rattle.std.specs.Prelude.{ℕ, ◌≡◌, ◌⊎◌, List, [], ◌++◌, length, Option, Some, Ok}
+use Rattle.std.specs.Prelude.{ℕ, ◌≡◌, ◌⊎◌, List, [], ◌++◌, length, Option, Some, Ok, Err}
 use Rattle.std.specs.Io.KnownBytes.{Consumes, IsAtEnd}
 use Rattle.std.specs.List.{flat_map}
 use Rattle.disk_trait.specs.Disk.{State}
@@ -8,10 +8,13 @@ use Rattle.message_laws.specs.Near.{Near}
 use Rattle.message_session.specs.Answers.{each_frame, session_bytes}
 use Rattle.message_session.specs.declared.ended.Ended.{Ended}
 use Rattle.message_session.specs.declared.ended.Ended.TheVariants.{End, NoFrame, Fault}
+use Rattle.lisp_object.specs.declared.refusal.TheConstants.{NO_MEMORY}
 use Rattle.plist_state.specs.State.{WorldState}
 use Rattle.prevalence_store.specs.calls.Execute.{SurvivesAs}
+use Rattle.prevalence_store.specs.calls.Snapshot.{IsSnapshotted, Snapshots}
 use Rattle.prevalence_store.specs.calls.Store.{StoreView}
 use Rattle.prevalence_store.specs.calls.Streams.{Writes}
+use Rattle.prevalence_store.specs.declared.outcome.Outcome.TheVariants.{Refused}
 use Rattle.prevalence_store.specs.messages.Answers.{begun}
 use Rattle.prevalence_store.specs.messages.Calls.{BeginsMessages}
 use Rattle.user_macros.specs.Functions.{Functions}
@@ -61,18 +64,36 @@ module _ (functions : Functions) (last : ℕ) (world : WorldState) where
 -- ---- a session
 
 module _ (functions : Functions) {D R : Type 0} (state : D → State) where
+  -- the store as it was, or a snapshot was taken
+  abbrev pub MayRenew : (old renewed : StoreView D R) → WorldState → Type 0
+  MayRenew old renewed world = (renewed ≡ old) ⊎ IsSnapshotted functions state old renewed world
+
   -- Messages are begun, perhaps after a snapshot: the store tells this position, and has this world.
   pub record MessagesBegin (old mid : StoreView D R) (world : WorldState) (position : ℕ) (first : WorldState) : Type 0 where
     pub renewed : StoreView D R
+    pub renews : MayRenew old renewed world
     pub same : renewed.world ≡ Some world
     pub survives : SurvivesAs functions state old renewed world [] 0
     pub begins : BeginsMessages functions state renewed mid world (Ok position)
     pub known : mid.world ≡ Some first
 
+  -- Messages could not be begun, with this number: it is that of a snapshot, for which nothing else was done; or of the store as it was,
+  -- or after a snapshot.
+  abbrev pub CannotBegin : (old new : StoreView D R) → WorldState → ℕ → Type 0
+  CannotBegin old new world number =
+      Snapshots functions state old new world (Refused number)
+      ⊎ ((renewed : StoreView D R) × MayRenew old renewed world × BeginsMessages functions state renewed new world (Err number))
+
+  -- or there was no memory to tell the position
+  abbrev pub IsNotTold : (old new : StoreView D R) → WorldState → ℕ → Type 0
+  IsNotTold old new world number = (number ≡ NO_MEMORY) × (position : ℕ) × (first : WorldState) × MessagesBegin old new world position first
+
   module _ (old new : StoreView D R) (world : WorldState) (has left held written : Option (List ℕ)) where
     -- Messages could not be begun, or there was no memory to tell the position: nothing was read or written.
     pub record IsUnbegun (ended : Ended) : Type 0 where
-      pub fault : EndsByFault ended
+      pub number : ℕ
+      pub fault : ended ≡ Fault number
+      pub store : CannotBegin old new world number ⊎ IsNotTold old new world number
       pub unread : left ≡ has
       pub unwritten : written ≡ held
 

@@ -1,18 +1,21 @@
 -- The steps of a session.
 use Rattle.std.specs.Prelude.{ℕ, ◌≡◌, ◌≢◌, Bool, true, false, List, [], ◌++◌, length, Option, IsSome, Result, Ok, Err}
 use Rattle.std.specs.Io.KnownBytes.{Consumes, IsAtEnd}
+use Rattle.disk_trait.specs.Disk.{State}
 use Rattle.message_frames.specs.Frames.{AreFrames, IsBegun, IsMalformed, Sent}
 use Rattle.message_frames.specs.declared.held.Next.{Next}
 use Rattle.message_frames.specs.declared.held.Next.TheVariants as next
 use Rattle.message_session.specs.Answers.{answered_bytes, message_number}
-use Rattle.message_session.specs.Sessions.{AreFramesAnswered, AreServed, EndsBy, EndsByFault, WritesFirstOf, text_limit}
+use Rattle.message_session.specs.Sessions.{AreFramesAnswered, AreServed, CannotBegin, EndsBy, EndsByFault, MessagesBegin, WritesFirstOf, text_limit}
 use Rattle.message_session.specs.declared.answer.Stop.{Stop}
 use Rattle.message_session.specs.declared.answer.Stop.TheVariants as stop
 use Rattle.message_session.specs.declared.ended.Ended.{Ended}
 use Rattle.message_session.specs.declared.ended.Ended.TheVariants.{Fault}
 use Rattle.message_session.specs.declared.serve.Session.{Session}
 use Rattle.plist_state.specs.State.{WorldState}
+use Rattle.prevalence_store.specs.calls.Snapshot.{IsSnapshotted, Snapshots}
 use Rattle.prevalence_store.specs.calls.Store.{StoreView}
+use Rattle.prevalence_store.specs.declared.outcome.Outcome.TheVariants.{Refused}
 use Rattle.prevalence_store.specs.declared.messages.request.Request.{Request}
 use Rattle.user_macros.specs.Functions.{Functions}
 
@@ -83,6 +86,19 @@ module _ (functions : Functions) (old new : Session) (world : WorldState) {D R :
 abbrev pub TakesPiece : (has left : Option (List ℕ)) → (old new : List ℕ) → Result ℕ ℕ → Type 0
 TakesPiece has left old new (Ok count) = (piece : List ℕ) × Consumes has left piece × (new ≡ old ++ piece) × (count ≡ length piece) × (count ≡ 0 → IsAtEnd left)
 TakesPiece has left old new (Err number) = (piece : List ℕ) × Consumes has left piece
+
+-- ---- before the frames
+
+module _ (functions : Functions) {D R : Type 0} (state : D → State) (old new : StoreView D R) (world : WorldState) where
+  -- a snapshot was taken for what had no room; or the session ends, with the number of its refusal
+  abbrev pub RenewsForRoom : Result Unit Ended → Type 0
+  RenewsForRoom (Ok done) = IsSnapshotted functions state old new world
+  RenewsForRoom (Err ended) = (number : ℕ) × (ended ≡ Fault number) × Snapshots functions state old new world (Refused number)
+
+  -- messages were begun; or the session ends, with the number of what could not be done
+  abbrev pub MayBegin : Result ℕ Ended → Type 0
+  MayBegin (Ok position) = (first : WorldState) × MessagesBegin functions state old new world position first
+  MayBegin (Err ended) = (number : ℕ) × (ended ≡ Fault number) × CannotBegin functions state old new world number
 
 -- the frames of an input were answered
 abbrev pub AnswersFramesOfInput : Functions → ℕ → WorldState → {D R : Type 0} → StoreView D R → (has left held written : Option (List ℕ)) → Ended → Type 0

@@ -5,7 +5,7 @@ ghost use Rattle.message_frames.specs.Frames.{answer_bytes, sent};
 ghost use Rattle.message_session.specs.Answers.{answers_to, message_number};
 ghost use Rattle.message_session.specs.Sessions.{EndsByFault};
 ghost use Rattle.message_session.specs.Standing.{Rests, RestsOrEnds, RestsOrStops};
-ghost use Rattle.message_session.specs.Steps.{AnswersFrames, StopsAfter, TakesFrames, parts_of_frame, parts_of_request, ended_by};
+ghost use Rattle.message_session.specs.Steps.{AnswersFrames, RenewsForRoom, StopsAfter, TakesFrames, parts_of_frame, parts_of_request, ended_by};
 ghost use Rattle.plist_state.specs.Sound.{IsSound};
 ghost use Rattle.plist_state.specs.State.{WorldState};
 ghost use Rattle.prevalence_store.specs.calls.Execute.{SurvivesAs};
@@ -70,8 +70,8 @@ pub(crate) fn its_world_is_sound<D: Disk, R: MacroFunctions>(store: &Store<D, R>
     }
 }
 
-/// Takes a snapshot. One that is too large for the half is passed over.
-pub(crate) fn renew<D: Disk, R: MacroFunctions>(store: &mut Store<D, R>) -> Result<(), Ended>
+// Takes a snapshot. One that is too large for the half is passed over.
+fn renew<D: Disk, R: MacroFunctions>(store: &mut Store<D, R>) -> Result<(), Ended>
     ensures same { (w : WorldState) → store.old.world ≡ Some w → OnOk result (store.new.world ≡ Some w) }
     ensures survives { (w : WorldState) → store.old.world ≡ Some w
         → SurvivesAs R.Meaning.functions D.state store.old store.new w [] 0 }
@@ -80,6 +80,18 @@ pub(crate) fn renew<D: Disk, R: MacroFunctions>(store: &mut Store<D, R>) -> Resu
 {
     match store.snapshot() {
         Outcome::Refused(SNAPSHOT_TOO_LARGE) => Ok(()),
+        Outcome::Refused(number) => Err(Ended::Fault(number)),
+        _ => Ok(()),
+    }
+}
+
+/// Takes a snapshot for what has no room. One that is too large for the half ends the session.
+pub(crate) fn renew_for_room<D: Disk, R: MacroFunctions>(store: &mut Store<D, R>) -> Result<(), Ended>
+    ensures renews { (w : WorldState) → store.old.world ≡ Some w → RenewsForRoom R.Meaning.functions D.state store.old store.new w result }
+    ensures fault { IfErr result EndsByFault }
+    ensures macros { store.new.macros ≡ store.old.macros }
+{
+    match store.snapshot() {
         Outcome::Refused(number) => Err(Ended::Fault(number)),
         _ => Ok(()),
     }
@@ -130,7 +142,7 @@ pub(crate) fn answer_frames<D: Disk, R: MacroFunctions, O: AnswerRecipient<D, R>
         Ok(()) => Ok(()),
         Err(Stop::Untaken(LOG_FULL)) => {
             // the half that is begun holds the text of the world alone
-            match renew(store) {
+            match renew_for_room(store) {
                 Ok(()) => {}
                 Err(ended) => return Err(ended),
             }

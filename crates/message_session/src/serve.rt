@@ -1,14 +1,14 @@
 // A session of messages.
-ghost use Rattle.std.specs.Prelude.{◌≡◌, ◌<◌, ◌≤◌, length, true, IfErr, IfOk, Some};
+ghost use Rattle.std.specs.Prelude.{◌≡◌, ◌<◌, ◌≤◌, length, true, IfOk, Some};
 ghost use Rattle.message_frames.specs.declared.held.Next.TheVariants as next;
 ghost use Rattle.message_session.specs.Account.{Account};
-ghost use Rattle.message_session.specs.Sessions.{MessagesBegin, EndsByFault, ServesMessages};
+ghost use Rattle.message_session.specs.Sessions.{ServesMessages};
 ghost use Rattle.message_session.specs.Standing.{AcknowledgesNone, Rests, RestsOrEnds};
-ghost use Rattle.message_session.specs.Steps.{AnswersAllHeld, AnswersFramesOfInput, AnswersSomeHeld, TakesPiece};
+ghost use Rattle.message_session.specs.Steps.{AnswersAllHeld, AnswersFramesOfInput, AnswersSomeHeld, MayBegin, TakesPiece};
 ghost use Rattle.plist_state.specs.State.{WorldState};
 ghost use Rattle.user_macros.specs.Functions.{are_registered};
 
-use crate::answer::{Course, answer_frames, its_world_is_sound, renew};
+use crate::answer::{Course, answer_frames, its_world_is_sound, renew_for_room};
 use crate::ended::Ended;
 use crate::recipient::AnswerRecipient;
 use disk_trait::Disk;
@@ -33,7 +33,8 @@ const MOST_READS: u64 = 1 << 40;
 ///
 /// What is written is the position, and the answer to each frame, in order (`session_bytes` of specs/Answers.antt): whole at the end of the
 /// input and at bytes that are no frame, a front of it where a fault ends the session. Of faults nothing is written: 67 if a read failed, or
-/// after 2^40 reads; 68 if a write failed or took nothing; others are those of the store's calls.
+/// after 2^40 reads; 68 if a write failed or took nothing; others are those of the store's calls. Of what has no room in a half it is 65 if
+/// the snapshot does not fit, else 64.
 ///
 /// It writes by its recipient alone: what answered messages wrote is stored before an answer goes out, with its position.
 pub fn serve_messages<D: Disk, R: MacroFunctions, I: Read, O: AnswerRecipient<D, R>>(
@@ -78,9 +79,7 @@ pub fn serve_messages<D: Disk, R: MacroFunctions, I: Read, O: AnswerRecipient<D,
 fn begin<D: Disk, R: MacroFunctions>(store: &mut Store<D, R>) -> Result<u64, Ended>
     requires answers { R.answers store.old.macros }
     requires whole { are_registered R.Meaning.functions (R.functions store.old.macros) ≡ true }
-    ensures begun { (w : WorldState) → store.old.world ≡ Some w → IfOk result (λ position. (first : WorldState)
-        × MessagesBegin R.Meaning.functions D.state store.old store.new w position first) }
-    ensures fault { IfErr result EndsByFault }
+    ensures begun { (w : WorldState) → store.old.world ≡ Some w → MayBegin R.Meaning.functions D.state store.old store.new w result }
     ensures macros { store.new.macros ≡ store.old.macros }
 {
     match store.begin_messages() {
@@ -94,12 +93,10 @@ fn begin<D: Disk, R: MacroFunctions>(store: &mut Store<D, R>) -> Result<u64, End
 fn begin_anew<D: Disk, R: MacroFunctions>(store: &mut Store<D, R>) -> Result<u64, Ended>
     requires answers { R.answers store.old.macros }
     requires whole { are_registered R.Meaning.functions (R.functions store.old.macros) ≡ true }
-    ensures begun { (w : WorldState) → store.old.world ≡ Some w → IfOk result (λ position. (first : WorldState)
-        × MessagesBegin R.Meaning.functions D.state store.old store.new w position first) }
-    ensures fault { IfErr result EndsByFault }
+    ensures begun { (w : WorldState) → store.old.world ≡ Some w → MayBegin R.Meaning.functions D.state store.old store.new w result }
     ensures macros { store.new.macros ≡ store.old.macros }
 {
-    match renew(store) {
+    match renew_for_room(store) {
         Ok(()) => {}
         Err(ended) => return Err(ended),
     }

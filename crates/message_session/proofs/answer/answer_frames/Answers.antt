@@ -1,4 +1,4 @@
-use Rattle.std.proofs.Common.{◌≡◌, ℕ, List, [], ◌∷◌, Option, Some, length, map, sym, arith, eqb-true}
+use Rattle.std.proofs.Common.{◌≡◌, ℕ, List, [], ◌∷◌, Option, Some, Err, length, map, sym, arith, eqb-true}
 use Rattle.message_frames.specs.Frames.{sent}
 use Rattle.message_frames.specs.declared.frame.Frame.{Frame}
 use Rattle.message_laws.specs.Near.{IsTidy}
@@ -6,7 +6,7 @@ use Rattle.message_laws.proofs.Tidy.{sound_tidy}
 use Rattle.message_session.specs.Answers.{answered_bytes}
 use Rattle.message_session.specs.Sessions.{AreFramesAnswered}
 use Rattle.message_session.proofs.Frames.{none_answered}
-use Rattle.message_session.proofs.Standing.{none_further, rests_further, stops_end, untaken_rests}
+use Rattle.message_session.proofs.Standing.{none_further, rests_further, room_survives, stops_end, untaken_rests}
 use Rattle.plist_state.specs.State.{WorldState}
 use Rattle.prevalence_store.specs.calls.Store.{StoreView}
 use Rattle.user_macros.specs.Functions.{Functions}
@@ -29,14 +29,16 @@ returns-in-Err-clause-rests g c =
     stops_end g.R.Meaning.Meaning.functions g.D.Disk.state g.met.D.Disk.sound (g.O.AnswerRecipient.account c.take_frames.new.output) c.take_frames.new.store c.take_frames.new.course.last c.in-Err.stop
     c.in-Err.ensures.rests
 
-pub returns-in-Err-renew-clause-rests : goal.returns-in-Err-renew-clause-rests
-returns-in-Err-renew-clause-rests g c =
-    none_further g.R.Meaning.Meaning.functions g.D.Disk.state g.met.D.Disk.sound (g.O.AnswerRecipient.account c.take_frames.new.output) c.take_frames.new.store c.renew.new.store c.take_frames.new.course.last
+pub returns-in-Err-renew_for_room-clause-rests : goal.returns-in-Err-renew_for_room-clause-rests
+returns-in-Err-renew_for_room-clause-rests g c =
+    none_further g.R.Meaning.Meaning.functions g.D.Disk.state g.met.D.Disk.sound (g.O.AnswerRecipient.account c.take_frames.new.output) c.take_frames.new.store c.renew_for_room.new.store c.take_frames.new.course.last
     (untaken_rests g.R.Meaning.Meaning.functions g.D.Disk.state g.met.D.Disk.sound (g.O.AnswerRecipient.account c.take_frames.new.output) c.take_frames.new.store c.take_frames.new.course.last
-    c.in-Err-Untaken-eq64.field-0 c.in-Err-Untaken-eq64.field-0-0 c.in-Err-Untaken-eq64.field-0-is c.in-Err-Untaken-eq64.ensures.rests) c.renew.ensures.survives
+    c.in-Err-Untaken-eq64.field-0 c.in-Err-Untaken-eq64.field-0-0 c.in-Err-Untaken-eq64.field-0-is c.in-Err-Untaken-eq64.ensures.rests)
+    (λ w known. room_survives g.R.Meaning.Meaning.functions g.D.Disk.state c.take_frames.new.store c.renew_for_room.new.store w (Err c.in-Err-renew_for_room.ended) (c.in-Err-renew_for_room.ensures.renews w known))
 
 pub answer_each-requires-clause-rests : goal.answer_each-requires-clause-rests
 answer_each-requires-clause-rests g c =
-    rests_further g.R.Meaning.Meaning.functions g.D.Disk.state g.met.D.Disk.sound (g.O.AnswerRecipient.account c.take_frames.new.output) c.take_frames.new.store c.renew.new.store c.take_frames.new.course.last
+    rests_further g.R.Meaning.Meaning.functions g.D.Disk.state g.met.D.Disk.sound (g.O.AnswerRecipient.account c.take_frames.new.output) c.take_frames.new.store c.renew_for_room.new.store c.take_frames.new.course.last
     (untaken_rests g.R.Meaning.Meaning.functions g.D.Disk.state g.met.D.Disk.sound (g.O.AnswerRecipient.account c.take_frames.new.output) c.take_frames.new.store c.take_frames.new.course.last
-    c.in-Err-Untaken-eq64.field-0 c.in-Err-Untaken-eq64.field-0-0 c.in-Err-Untaken-eq64.field-0-is c.in-Err-Untaken-eq64.ensures.rests) c.in-Ok-renew.ensures.same c.renew.ensures.survives
+    c.in-Err-Untaken-eq64.field-0 c.in-Err-Untaken-eq64.field-0-0 c.in-Err-Untaken-eq64.field-0-is c.in-Err-Untaken-eq64.ensures.rests)
+    (λ w known. (c.in-Ok-renew_for_room.ensures.renews w known).renews.left) (λ w known. (c.in-Ok-renew_for_room.ensures.renews w known).survives)

@@ -98,12 +98,13 @@ handed g c now kept keeps =
 pub returns-in-Err-clause-rests : goal.returns-in-Err-clause-rests
 returns-in-Err-clause-rests g c =
     unanswered g.R.Meaning.Meaning.functions g.D.Disk.state g.met.D.Disk.sound (g.O.AnswerRecipient.account c.args.output.now) c.args.store.now c.answer_requests.new.self c.args.course.now.last
-    c.requires.rests c.as_slice.result.now c.in-Err.number c.in-Err.ensures.answer c.stop_after.result c.stop_after.ensures
+    c.requires.rests (map sent c.args.frames.now) c.as_slice.result.now (ap (map parts_of_request) c.as_slice.ensures.value ∙ c.in-Ok.ensures) c.in-Err.number c.in-Err.ensures.answer c.stop_after.result c.stop_after.ensures
 
 pub returns-in_default-bytes_of-clause-rests : goal.returns-in_default-bytes_of-clause-rests
 returns-in_default-bytes_of-clause-rests g c =
     none_told g.R.Meaning.Meaning.functions g.D.Disk.state g.met.D.Disk.sound (g.O.AnswerRecipient.account c.args.output.now) c.args.store.now c.answer_requests.new.self c.args.course.now.last
-    c.requires.rests c.as_slice.result.now c.in-Ok-answer_requests.replies c.in-Ok-answer_requests.ensures.answer
+    c.requires.rests (map sent c.args.frames.now) c.as_slice.result.now (ap (map parts_of_request) c.as_slice.ensures.value ∙ c.in-Ok.ensures) c.in-Ok-answer_requests.replies
+    c.in-Ok-answer_requests.ensures.answer
 
 pub returns-in-Err-write_answers-clause-rests : goal.returns-in-Err-write_answers-clause-rests
 returns-in-Err-write_answers-clause-rests g c =

@@ -35,10 +35,14 @@ serve_frames-requires-clause-rests g c =
     c.write_position.ensures.kept c.keeps_its_world.ensures
 
 pub returns-in-Err-clause-serves : goal.returns-in-Err-clause-serves
-returns-in-Err-clause-serves g c = λ w known. inl (record { fault = c.in-Err.ensures.fault; unread = refl; unwritten = refl })
+returns-in-Err-clause-serves g c = λ w known.
+    let unbegun = c.in-Err.ensures.begun w known in
+    inl (record { number = unbegun.0; fault = unbegun.1; store = inl unbegun.2; unread = refl; unwritten = refl })
 
 pub returns-in_default-clause-serves : goal.returns-in_default-clause-serves
-returns-in_default-clause-serves g c = λ w known. inl (record { fault = tt; unread = refl; unwritten = refl })
+returns-in_default-clause-serves g c = λ w known.
+    let begun = c.in-Ok.ensures.begun w known in
+    inl (record { number = 90; fault = refl; store = inr (refl, c.in-Ok.last, begun.0, begun.1); unread = refl; unwritten = refl })
 
 pub returns-in-Err-write_position-clause-serves : goal.returns-in-Err-write_position-clause-serves
 returns-in-Err-write_position-clause-serves g c = λ w known.
