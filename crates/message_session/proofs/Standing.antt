@@ -9,7 +9,7 @@ use Rattle.message_frames.specs.Frames.{Sent}
 use Rattle.message_session.specs.Account.{Account, AreLogged, AreStored, AreUnderWay, first_account, round_after, with_frames}
 use Rattle.message_session.specs.Answers.{answered_bytes, each_frame}
 use Rattle.message_session.specs.Standing.{AcknowledgesNone, IsAtRest, Rests, RestsOrStops}
-use Rattle.message_session.specs.Steps.{RenewsForRoom, StopsAfter, parts_of_frame, parts_of_request}
+use Rattle.message_session.specs.Steps.{KeepsOrLoses, RenewsForRoom, StopsAfter, parts_of_frame, parts_of_request}
 use Rattle.message_session.specs.declared.answer.Stop.{Stop}
 use Rattle.message_session.specs.declared.answer.Stop.TheVariants as stop
 use Rattle.message_session.specs.declared.ended.Ended.{Ended}
@@ -54,6 +54,15 @@ snapshot_survives functions state old new w Snapshotted is = is.survives
 snapshot_survives functions state old new w (Refused number) (inl none) = none.survives
 snapshot_survives functions state old new w (Refused number) (inr (inl fault)) = fault.survives
 snapshot_survives functions state old new w (Refused number) (inr (inr memory)) = memory.survives
+
+-- it leaves this world, or none
+module _ (functions : Functions) {D R : Type 0} (state : D → State) (old new : StoreView D R) (w : WorldState) (known : old.world ≡ Some w) where
+  pub snapshot_keeps : (outcome : Outcome) → Snapshots functions state old new w outcome → KeepsOrLoses new w
+  snapshot_keeps (Accepted value) is = absurd is
+  snapshot_keeps Snapshotted is = inl is.renews.left
+  snapshot_keeps (Refused number) (inl none) = inl (ap (λ (s : StoreView D R). s.world) none.unchanged ∙ known)
+  snapshot_keeps (Refused number) (inr (inl fault)) = inr fault.failed.unknown
+  snapshot_keeps (Refused number) (inr (inr memory)) = inl (ap (λ (s : StoreView D R). s.world) memory.unchanged ∙ known)
 
 -- and one that was taken for room
 pub room_survives : (functions : Functions) {D R : Type 0} (state : D → State) (old new : StoreView D R) (w : WorldState) (result : Result Unit Ended) → RenewsForRoom functions state old new w result

@@ -1,5 +1,5 @@
 -- How a session of messages goes, and how it ends.
-use Rattle.std.specs.Prelude.{ℕ, ◌≡◌, ◌⊎◌, List, [], ◌++◌, length, Option, Some, Ok, Err}
+use Rattle.std.specs.Prelude.{ℕ, ◌≡◌, ◌⊎◌, List, [], ◌++◌, length, Option, None, Some, Ok, Err}
 use Rattle.std.specs.Io.KnownBytes.{Consumes, IsAtEnd}
 use Rattle.std.specs.List.{flat_map}
 use Rattle.disk_trait.specs.Disk.{State}
@@ -41,6 +41,10 @@ module _ (functions : Functions) (last : ℕ) (world : WorldState) where
     pub known : store.world ≡ Some left
     pub near : Near (each_frame functions (begun last world) frames) (begun now_last left)
 
+  -- What it has at a fault: this world too; or none, until it is opened again.
+  abbrev pub IsLeft : {D R : Type 0} → List Sent → StoreView D R → Type 0
+  IsLeft frames store = (store.world ≡ None) ⊎ ((now_last : ℕ) × HasCarriedOut frames now_last store)
+
   module _ {D R : Type 0} (store : StoreView D R) (held written : Option (List ℕ)) (bytes : List Sent → List ℕ) where
     -- these frames were carried out, and the bytes that are written for them were written
     pub record AreFramesAnswered (frames : List Sent) (now_last : ℕ) : Type 0 where
@@ -54,12 +58,13 @@ module _ (functions : Functions) (last : ℕ) (world : WorldState) where
         pub answered : AreFramesAnswered frames now_last
 
       -- How it ends. At the end of the input, with less than a frame after those that were answered. At bytes that are no frame, however
-      -- they go on, with so many bytes before them. Or at a fault, with the first few of the bytes for some frames that were read.
+      -- they go on, with so many bytes before them. Or at a fault, after some frames that were read were carried out, with the first few of
+      -- the bytes for them.
       abbrev pub EndsBy : Option (List ℕ) → Ended → Type 0
       EndsBy left End = (frames : List Sent) × (rest : List ℕ) × (now_last : ℕ) × AreServed frames rest now_last × IsBegun text_limit rest × IsAtEnd left
       EndsBy left (NoFrame place) = (frames : List Sent) × (rest : List ℕ) × (now_last : ℕ) × AreServed frames rest now_last × IsMalformed text_limit rest
           × (place ≡ length (flat_map frame_bytes frames))
-      EndsBy left (Fault number) = (frames : List Sent) × (rest : List ℕ) × AreFrames text_limit frames rest read × WritesFirstOf held written (bytes frames)
+      EndsBy left (Fault number) = (frames : List Sent) × (rest : List ℕ) × AreFrames text_limit frames rest read × WritesFirstOf held written (bytes frames) × IsLeft frames store
 
 -- ---- a session
 

@@ -5,7 +5,7 @@ ghost use Rattle.message_frames.specs.Frames.{answer_bytes, sent};
 ghost use Rattle.message_session.specs.Answers.{answers_to, message_number};
 ghost use Rattle.message_session.specs.Sessions.{EndsByFault};
 ghost use Rattle.message_session.specs.Standing.{Rests, RestsOrEnds, RestsOrStops};
-ghost use Rattle.message_session.specs.Steps.{AnswersFrames, RenewsForRoom, StopsAfter, TakesFrames, parts_of_frame, parts_of_request, ended_by};
+ghost use Rattle.message_session.specs.Steps.{AnswersFrames, KeepsOrLoses, RenewsForRoom, StopsAfter, TakesFrames, parts_of_frame, parts_of_request, ended_by};
 ghost use Rattle.plist_state.specs.Sound.{IsSound};
 ghost use Rattle.plist_state.specs.State.{WorldState};
 ghost use Rattle.prevalence_store.specs.calls.Execute.{SurvivesAs};
@@ -49,6 +49,7 @@ impl Course {
         ensures survives { (w : WorldState) → store.old.world ≡ Some w
             → SurvivesAs R.Meaning.functions D.state store.old store.new w [] 0 }
         ensures fault { IfErr result EndsByFault }
+        ensures known { (w : WorldState) → store.old.world ≡ Some w → KeepsOrLoses store.new w }
         ensures last { self.new.last ≡ self.old.last }
         ensures macros { store.new.macros ≡ store.old.macros }
     {
@@ -76,6 +77,7 @@ fn renew<D: Disk, R: MacroFunctions>(store: &mut Store<D, R>) -> Result<(), Ende
     ensures survives { (w : WorldState) → store.old.world ≡ Some w
         → SurvivesAs R.Meaning.functions D.state store.old store.new w [] 0 }
     ensures fault { IfErr result EndsByFault }
+    ensures known { (w : WorldState) → store.old.world ≡ Some w → KeepsOrLoses store.new w }
     ensures macros { store.new.macros ≡ store.old.macros }
 {
     match store.snapshot() {
@@ -86,7 +88,9 @@ fn renew<D: Disk, R: MacroFunctions>(store: &mut Store<D, R>) -> Result<(), Ende
 }
 
 /// Takes a snapshot for what has no room. One that is too large for the half ends the session.
-pub(crate) fn renew_for_room<D: Disk, R: MacroFunctions>(store: &mut Store<D, R>) -> Result<(), Ended>
+pub(crate) fn renew_for_room<D: Disk, R: MacroFunctions>(
+    store: &mut Store<D, R>,
+) -> Result<(), Ended>
     ensures renews { (w : WorldState) → store.old.world ≡ Some w → RenewsForRoom R.Meaning.functions D.state store.old store.new w result }
     ensures fault { IfErr result EndsByFault }
     ensures macros { store.new.macros ≡ store.old.macros }
@@ -138,9 +142,12 @@ pub(crate) fn answer_frames<D: Disk, R: MacroFunctions, O: AnswerRecipient<D, R>
     if frames.is_empty() {
         return Ok(());
     }
-    match take_frames(alloc, store, course, frames, output) {
-        Ok(()) => Ok(()),
-        Err(Stop::Untaken(LOG_FULL)) => {
+    let stop = match take_frames(alloc, store, course, frames, output) {
+        Ok(()) => return Ok(()),
+        Err(stop) => stop,
+    };
+    match stop {
+        Stop::Untaken(LOG_FULL) => {
             // the half that is begun holds the text of the world alone
             match renew_for_room(store) {
                 Ok(()) => {}
@@ -149,8 +156,8 @@ pub(crate) fn answer_frames<D: Disk, R: MacroFunctions, O: AnswerRecipient<D, R>
             course.wrote = 0;
             answer_each(alloc, store, course, frames, output)
         }
-        Err(Stop::Untaken(NO_MEMORY)) => answer_in_turn(alloc, store, course, frames, output),
-        Err(stop) => Err(stop.ended()),
+        Stop::Untaken(NO_MEMORY) => answer_in_turn(alloc, store, course, frames, output),
+        _ => Err(stop.ended()),
     }
 }
 
@@ -171,11 +178,15 @@ fn answer_each<D: Disk, R: MacroFunctions, O: AnswerRecipient<D, R>>(
     ensures rests { RestsOrEnds R.Meaning.functions D.state (O.account output.new) store.new course.new.last result }
     ensures macros { store.new.macros ≡ store.old.macros }
 {
-    match take_frames(alloc, store, course, frames, output) {
-        Ok(()) => Ok(()),
-        Err(Stop::Untaken(LOG_FULL)) => answer_in_turn(alloc, store, course, frames, output),
-        Err(Stop::Untaken(NO_MEMORY)) => answer_in_turn(alloc, store, course, frames, output),
-        Err(stop) => Err(stop.ended()),
+    its_world_is_sound(store);
+    let stop = match take_frames(alloc, store, course, frames, output) {
+        Ok(()) => return Ok(()),
+        Err(stop) => stop,
+    };
+    match stop {
+        Stop::Untaken(LOG_FULL) => answer_in_turn(alloc, store, course, frames, output),
+        Stop::Untaken(NO_MEMORY) => answer_in_turn(alloc, store, course, frames, output),
+        _ => Err(stop.ended()),
     }
 }
 
@@ -198,6 +209,7 @@ fn answer_in_turn<D: Disk, R: MacroFunctions, O: AnswerRecipient<D, R>>(
 {
     its_world_is_sound(store);
     'frames: for i in 0..frames.len() {
+        its_world_is_sound(store);
         match take_frames(alloc, store, course, &frames[i..i + 1], output) {
             Ok(()) => {}
             Err(stop) => return Err(stop.ended()),

@@ -220,6 +220,7 @@ impl Session {
         ensures rests { RestsOrEnds R.Meaning.functions D.state (O.account output.new) store.new self.new.course.last result }
         ensures macros { store.new.macros ≡ store.old.macros }
     {
+        its_world_is_sound(store);
         let most = self.course.most();
         let Ok(whole) = self.held.frames(self.alloc, TEXT_LIMIT, most) else {
             return Err(Ended::Fault(NO_MEMORY));

@@ -48,12 +48,12 @@ returns-in-Err-clause-answers g c = λ w known.
     let front = map sent (take c.frames.i c.args.frames.now) in
     let one = at_place c.frames.i c.args.frames.now in
     let ended = ended_by c.in-Err.stop in
-    let breaks = stopped functions c.frames.course.last far.after.left c.frames.store c.take_frames.new.store between written c.take_frames.new.course.last one c.in-Err.stop
-    (c.in-Err.ensures.takes far.after.left far.after.known) in
-    let both = breaks_both functions last w tidy c.frames.store held between front c.frames.course.last far one written ended breaks in
-    let all = breaks_more functions last w tidy (front ++ one) (map sent (drop (c.frames.i + 1) c.args.frames.now)) held written ended both in
-    subst (λ e. Breaks functions last w held written (map sent c.args.frames.now) e) (sym c.ended.ensures)
-    (subst (λ fs. Breaks functions last w held written fs ended) (all_of c.args.frames.now c.frames.i) all)
+    let breaks = stopped functions c.frames.course.last far.after.left (sound_tidy far.after.left (c.its_world_is_sound-in-frames.ensures far.after.left far.after.known)) c.frames.store c.take_frames.new.store far.after.known between written
+    c.take_frames.new.course.last one c.in-Err.stop (c.in-Err.ensures.takes far.after.left far.after.known) in
+    let both = breaks_both functions last w tidy c.frames.store held between front c.frames.course.last far one written c.take_frames.new.store ended breaks in
+    let all = breaks_more functions last w tidy c.take_frames.new.store held written (front ++ one) (map sent (drop (c.frames.i + 1) c.args.frames.now)) ended both in
+    subst (λ e. Breaks functions last w held written c.take_frames.new.store (map sent c.args.frames.now) e) (sym c.ended.ensures)
+    (subst (λ fs. Breaks functions last w held written c.take_frames.new.store fs ended) (all_of c.args.frames.now c.frames.i) all)
 
 pub frames-preserved : goal.frames-preserved
 frames-preserved g c = record {

@@ -1,9 +1,11 @@
 use Rattle.std.proofs.Common.{inl, inr, [], ◌++◌, refl, sym, ap, subst, ◌∙◌}
 use Rattle.message_frames.specs.Frames.{position_bytes}
+use Rattle.message_laws.proofs.Tidy.{sound_tidy}
 use Rattle.message_session.specs.Answers.{answered_bytes}
 use Rattle.message_session.specs.Sessions.{WritesFirstOf}
 use Rattle.message_session.proofs.Frames.{no_frames}
 use Rattle.message_session.proofs.Pieces.{ends_told}
+use Rattle.message_session.proofs.Rounds.{first_after}
 use Rattle.message_session.proofs.Standing.{none_at_rest, rests_begun}
 use Rattle.message_session.proofs.Streams.{front_of_more, front_of_part, none_read}
 use Rattle.prevalence_store.specs.calls.Streams.{Writes}
@@ -62,6 +64,7 @@ returns-in-Err-write_position-clause-serves g c = λ w known.
         no_frames [],
         front_of_more held written (position_bytes c.in-Ok.last) [] (subst (WritesFirstOf held written) (c.as_slice.ensures.value ∙ c.in-Ok-push_position.ensures.whole ∙ ap (λ l. l ++ position_bytes c.in-Ok.last) c.new-told.ensures.items)
             (front_of_part held written c.as_slice.result.now c.in-Err-write_position.ensures.part)),
+        inr (c.in-Ok.last, first_after g.R.Meaning.Meaning.functions c.in-Ok.last begun.0 (sound_tidy begun.0 (c.its_world_is_sound.ensures begun.0 begun.1.known)) c.begin.new.store begun.1.known),
       );
     })
 

@@ -58,5 +58,5 @@ returns-in-Err-clause-answers g c = λ w known.
     let far = c.rounds.invariant.answered w known in
     breaks_in_both g.R.Meaning.Meaning.functions c.args.self.now.course.last w (sound_tidy w (c.its_world_is_sound.ensures w known)) c.rounds.store
     (g.O.AnswerRecipient.contents c.args.output.now) (g.O.AnswerRecipient.contents c.rounds.output) (g.O.AnswerRecipient.contents c.answer_some.new.output)
-    c.args.self.now.held far.0 c.rounds.self.held c.rounds.self.course.last far.1 c.in-Err.ended
+    c.args.self.now.held far.0 c.rounds.self.held c.rounds.self.course.last far.1 c.answer_some.new.store c.in-Err.ended
     (c.in-Err.ensures.answers far.1.answered.after.left far.1.answered.after.known)
