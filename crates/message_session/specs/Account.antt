@@ -1,5 +1,5 @@
 -- What a recipient of answers keeps account of, and what it asks before they are handed to it.
-use Rattle.std.specs.Prelude.{ℕ, ◌≡◌, List, length, Option, Some, unwrap_or}
+use Rattle.std.specs.Prelude.{ℕ, ◌≡◌, List, length, Some, unwrap_or}
 use Rattle.disk_trait.specs.Disk.{State, IsHonest, Throughout}
 use Rattle.gate_log.specs.Layout.{LogRecord}
 use Rattle.message_frames.specs.Frames.{Sent}

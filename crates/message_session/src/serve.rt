@@ -32,9 +32,9 @@ const MOST_READS: u64 = 1 << 40;
 /// read at once. A snapshot is taken after so many messages that wrote, never if that is 0, and where the half has no room.
 ///
 /// What is written is the position, and the answer to each frame, in order (`session_bytes` of specs/Answers.antt): whole at the end of the
-/// input and at bytes that are no frame, a front of it where a fault ends the session. Of faults nothing is written: 67 if a read failed, or
-/// after 2^40 reads; 68 if a write failed or took nothing; others are those of the store's calls. Of what has no room in a half it is 65 if
-/// the snapshot does not fit, else 64.
+/// input and at bytes that are no frame, a front of it where a fault ends the session. Then the store has the world of the frames that were
+/// carried out, or none until it is opened again. Of faults nothing is written: 67 if a read failed, or after 2^40 reads; 68 if a write failed
+/// or took nothing; others are those of the store's calls, where 65 is told for what has no room if the snapshot does not fit.
 ///
 /// It writes by its recipient alone: what answered messages wrote is stored before an answer goes out, with its position.
 pub fn serve_messages<D: Disk, R: MacroFunctions, I: Read, O: AnswerRecipient<D, R>>(
