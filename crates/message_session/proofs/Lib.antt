@@ -4,5 +4,6 @@ pub mod Held
 pub mod Pieces
 pub mod Requests
 pub mod Rounds
+pub mod Standing
 pub mod Stops
 pub mod Streams

@@ -1,5 +1,5 @@
 -- How far a session has come in its input.
-use Rattle.std.proofs.Common.{◌≡◌, ℕ, ◌+◌, ◌-◌, Bool, true, false, List, [], ◌∷◌, ◌++◌, length, Option, Some, Ok, refl, sym, ap, subst, arith, length-append}
+use Rattle.std.proofs.Common.{◌≡◌, inr, ℕ, ◌+◌, ◌-◌, Bool, true, false, List, [], ◌∷◌, ◌++◌, length, Option, Some, Ok, refl, sym, ap, subst, arith, length-append}
 use Rattle.std.proofs.lemmas.List.{append-nil}
 use Rattle.std.specs.Io.KnownBytes.{Consumes}
 use Rattle.std.specs.List.{flat_map}
@@ -55,10 +55,10 @@ module _ (functions : Functions) (last : ℕ) (w : WorldState) where
     pub came_is : came ≡ length read
 
   ends_at : {D R : Type 0} (new : StoreView D R) (held written : Option (List ℕ)) (read : List ℕ) (left : Option (List ℕ)) (ended : Ended)
-      → BreaksIn functions last w held written read ended → EndsBy functions last w new held written (answered_bytes functions last w) read left ended
-  ends_at new held written read left End breaks = absurd breaks.3.0
-  ends_at new held written read left (NoFrame place) breaks = absurd breaks.3.0
-  ends_at new held written read left (Fault number) breaks = (breaks.0, breaks.1, breaks.2, breaks.3.1)
+      → BreaksIn functions last w held written new read ended → EndsBy functions last w new held written (answered_bytes functions last w) read left ended
+  ends_at new held written read left End breaks = absurd breaks.3.fault
+  ends_at new held written read left (NoFrame place) breaks = absurd breaks.3.fault
+  ends_at new held written read left (Fault number) breaks = (breaks.0, breaks.1, breaks.2, breaks.3.output, breaks.3.left)
 
   module _ (tidy : IsTidy w.properties) {D R : Type 0} (has held : Option (List ℕ)) where
     pub come_first : (store : StoreView D R) → store.world ≡ Some w → HasCome has has held held store last [] 0
@@ -108,7 +108,7 @@ module _ (functions : Functions) (last : ℕ) (w : WorldState) where
       ends_unheld less piece reads number = (
         far.read ++ piece,
         read_both has left less far.read piece far.reads reads,
-        (far.frames, rest ++ piece, frames_fed far.frames far.read rest piece far.serves.parts, front_of_all held between _ far.serves.answered.output),
+        (far.frames, rest ++ piece, frames_fed far.frames far.read rest piece far.serves.parts, front_of_all held between _ far.serves.answered.output, inr (mid_last, far.serves.answered.after)),
       )
 
       -- more frames were answered
@@ -124,16 +124,16 @@ module _ (functions : Functions) (last : ℕ) (w : WorldState) where
 
       -- ---- the end
 
-      pub ends_broken : (new : StoreView D R) (ended : Ended) → BreaksIn functions mid_last far.serves.answered.after.left between written rest ended
+      pub ends_broken : (new : StoreView D R) (ended : Ended) → BreaksIn functions mid_last far.serves.answered.after.left between written new rest ended
           → AnswersFramesOfInput functions last w new has left held written ended
       ends_broken new ended breaks = (
         far.read,
         far.reads,
-        ends_at new held written far.read left ended (breaks_in_both functions last w tidy mid held between written far.read far.frames rest mid_last far.serves ended breaks),
+        ends_at new held written far.read left ended (breaks_in_both functions last w tidy mid held between written far.read far.frames rest mid_last far.serves new ended breaks),
       )
 
       pub ends_fault : (number : ℕ) → AnswersFramesOfInput functions last w mid has left held between (Fault number)
-      ends_fault number = (far.read, far.reads, (far.frames, rest, far.serves.parts, front_of_all held between _ far.serves.answered.output))
+      ends_fault number = (far.read, far.reads, (far.frames, rest, far.serves.parts, front_of_all held between _ far.serves.answered.output, inr (mid_last, far.serves.answered.after)))
 
       pub ends_malformed : IsMalformed text_limit rest → (place : ℕ) → place ≡ came - length rest → AnswersFramesOfInput functions last w mid has left held between (NoFrame place)
       ends_malformed malformed place is = (
@@ -176,4 +176,4 @@ ends_told functions last w store held between written told bytes read left (NoFr
   ends.5,
 )
 ends_told functions last w store held between written told bytes read left (Fault number) first ends =
-    (ends.0, ends.1, ends.2, front_after held between written told (bytes ends.0) first ends.3)
+    (ends.0, ends.1, ends.2, front_after held between written told (bytes ends.0) first ends.3, ends.4)

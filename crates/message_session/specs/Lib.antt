@@ -1,6 +1,10 @@
+-- what the recipient of the answers keeps account of, and asks
+pub mod Account
 -- what is answered to frames
 pub mod Answers
 -- how a session goes, and how it ends
 pub mod Sessions
+-- where it stands to the recipient
+pub mod Standing
 -- its steps
 pub mod Steps

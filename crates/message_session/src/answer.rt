@@ -1,25 +1,24 @@
 // The answers to frames: from the store, and to the output.
-ghost use Rattle.std.specs.Prelude.{◌≡◌, ◌≤◌, ◌++◌, [], map, true, IfErr, IfOk, OnErr, OnOk, Some};
+ghost use Rattle.std.specs.Prelude.{◌≡◌, ◌≤◌, [], map, true, IfErr, IfOk, OnOk, Some};
 ghost use Rattle.std.specs.List.{flat_map};
-ghost use Rattle.lisp_object.specs.declared.refusal.TheConstants.{OUTPUT as OUTPUT_FAULT};
 ghost use Rattle.message_frames.specs.Frames.{answer_bytes, sent};
 ghost use Rattle.message_session.specs.Answers.{answers_to, message_number};
 ghost use Rattle.message_session.specs.Sessions.{EndsByFault};
-ghost use Rattle.message_session.specs.Steps.{AnswersFrames, StopsAfter, TakesFrames, parts_of_frame, parts_of_request, ended_by};
+ghost use Rattle.message_session.specs.Standing.{Rests, RestsOrEnds, RestsOrStops};
+ghost use Rattle.message_session.specs.Steps.{AnswersFrames, KeepsOrLoses, RenewsForRoom, StopsAfter, TakesFrames, parts_of_frame, parts_of_request, ended_by};
 ghost use Rattle.plist_state.specs.Sound.{IsSound};
 ghost use Rattle.plist_state.specs.State.{WorldState};
 ghost use Rattle.prevalence_store.specs.calls.Execute.{SurvivesAs};
-ghost use Rattle.prevalence_store.specs.calls.Streams.{Writes, WritesPart};
 ghost use Rattle.prevalence_store.specs.messages.Rounds.{told_in};
 ghost use Rattle.user_macros.specs.Functions.{are_registered};
 
 use crate::ended::Ended;
+use crate::recipient::AnswerRecipient;
 use disk_trait::Disk;
 use lisp_object::refusal::{LOG_FULL, NO_MEMORY, OUTPUT, SNAPSHOT_TOO_LARGE};
 use message_frames::{Frame, Kind, push_answer};
 use prevalence_store::{Answer, Outcome, Replies, Request, Store};
 use std::alloc::{AllocError, Global};
-use std::io::Write;
 use user_macros::MacroFunctions;
 
 /// How far a session has come: the number of the last message, and how many messages wrote since the last snapshot.
@@ -47,7 +46,10 @@ impl Course {
         store: &mut Store<D, R>,
     ) -> Result<(), Ended>
         ensures same { (w : WorldState) → store.old.world ≡ Some w → OnOk result (store.new.world ≡ Some w) }
+        ensures survives { (w : WorldState) → store.old.world ≡ Some w
+            → SurvivesAs R.Meaning.functions D.state store.old store.new w [] 0 }
         ensures fault { IfErr result EndsByFault }
+        ensures known { (w : WorldState) → store.old.world ≡ Some w → KeepsOrLoses store.new w }
         ensures last { self.new.last ≡ self.old.last }
         ensures macros { store.new.macros ≡ store.old.macros }
     {
@@ -69,16 +71,31 @@ pub(crate) fn its_world_is_sound<D: Disk, R: MacroFunctions>(store: &Store<D, R>
     }
 }
 
-/// Takes a snapshot. One that is too large for the half is passed over.
-pub(crate) fn renew<D: Disk, R: MacroFunctions>(store: &mut Store<D, R>) -> Result<(), Ended>
+// Takes a snapshot. One that is too large for the half is passed over.
+fn renew<D: Disk, R: MacroFunctions>(store: &mut Store<D, R>) -> Result<(), Ended>
     ensures same { (w : WorldState) → store.old.world ≡ Some w → OnOk result (store.new.world ≡ Some w) }
     ensures survives { (w : WorldState) → store.old.world ≡ Some w
-        → OnOk result (SurvivesAs R.Meaning.functions D.state store.old store.new w [] 0) }
+        → SurvivesAs R.Meaning.functions D.state store.old store.new w [] 0 }
     ensures fault { IfErr result EndsByFault }
+    ensures known { (w : WorldState) → store.old.world ≡ Some w → KeepsOrLoses store.new w }
     ensures macros { store.new.macros ≡ store.old.macros }
 {
     match store.snapshot() {
         Outcome::Refused(SNAPSHOT_TOO_LARGE) => Ok(()),
+        Outcome::Refused(number) => Err(Ended::Fault(number)),
+        _ => Ok(()),
+    }
+}
+
+/// Takes a snapshot for what has no room. One that is too large for the half ends the session.
+pub(crate) fn renew_for_room<D: Disk, R: MacroFunctions>(
+    store: &mut Store<D, R>,
+) -> Result<(), Ended>
+    ensures renews { (w : WorldState) → store.old.world ≡ Some w → RenewsForRoom R.Meaning.functions D.state store.old store.new w result }
+    ensures fault { IfErr result EndsByFault }
+    ensures macros { store.new.macros ≡ store.old.macros }
+{
+    match store.snapshot() {
         Outcome::Refused(number) => Err(Ended::Fault(number)),
         _ => Ok(()),
     }
@@ -105,7 +122,7 @@ impl Stop {
 }
 
 /// Answers frames: together, or one by one where there is no room or no memory for them together.
-pub(crate) fn answer_frames<D: Disk, R: MacroFunctions, O: Write>(
+pub(crate) fn answer_frames<D: Disk, R: MacroFunctions, O: AnswerRecipient<D, R>>(
     alloc: Global,
     store: &mut Store<D, R>,
     course: &mut Course,
@@ -114,33 +131,38 @@ pub(crate) fn answer_frames<D: Disk, R: MacroFunctions, O: Write>(
 ) -> Result<(), Ended>
     requires answers { R.answers store.old.macros }
     requires whole { are_registered R.Meaning.functions (R.functions store.old.macros) ≡ true }
+    requires rests { Rests R.Meaning.functions D.state (O.account output.old) store.old course.old.last }
     ensures answers { (w : WorldState) → store.old.world ≡ Some w
         → AnswersFrames R.Meaning.functions course.old.last w (O.contents output.old) (O.contents output.new)
         store.new course.new.last (map sent frames.now) result }
+    ensures rests { RestsOrEnds R.Meaning.functions D.state (O.account output.new) store.new course.new.last result }
     ensures macros { store.new.macros ≡ store.old.macros }
 {
     its_world_is_sound(store);
     if frames.is_empty() {
         return Ok(());
     }
-    match take_frames(alloc, store, course, frames, output) {
-        Ok(()) => Ok(()),
-        Err(Stop::Untaken(LOG_FULL)) => {
+    let stop = match take_frames(alloc, store, course, frames, output) {
+        Ok(()) => return Ok(()),
+        Err(stop) => stop,
+    };
+    match stop {
+        Stop::Untaken(LOG_FULL) => {
             // the half that is begun holds the text of the world alone
-            match renew(store) {
+            match renew_for_room(store) {
                 Ok(()) => {}
                 Err(ended) => return Err(ended),
             }
             course.wrote = 0;
             answer_each(alloc, store, course, frames, output)
         }
-        Err(Stop::Untaken(NO_MEMORY)) => answer_in_turn(alloc, store, course, frames, output),
-        Err(stop) => Err(stop.ended()),
+        Stop::Untaken(NO_MEMORY) => answer_in_turn(alloc, store, course, frames, output),
+        _ => Err(stop.ended()),
     }
 }
 
 // Answers frames together; where they have no room or no memory, one by one.
-fn answer_each<D: Disk, R: MacroFunctions, O: Write>(
+fn answer_each<D: Disk, R: MacroFunctions, O: AnswerRecipient<D, R>>(
     alloc: Global,
     store: &mut Store<D, R>,
     course: &mut Course,
@@ -149,21 +171,27 @@ fn answer_each<D: Disk, R: MacroFunctions, O: Write>(
 ) -> Result<(), Ended>
     requires answers { R.answers store.old.macros }
     requires whole { are_registered R.Meaning.functions (R.functions store.old.macros) ≡ true }
+    requires rests { Rests R.Meaning.functions D.state (O.account output.old) store.old course.old.last }
     ensures answers { (w : WorldState) → store.old.world ≡ Some w
         → AnswersFrames R.Meaning.functions course.old.last w (O.contents output.old) (O.contents output.new)
         store.new course.new.last (map sent frames.now) result }
+    ensures rests { RestsOrEnds R.Meaning.functions D.state (O.account output.new) store.new course.new.last result }
     ensures macros { store.new.macros ≡ store.old.macros }
 {
-    match take_frames(alloc, store, course, frames, output) {
-        Ok(()) => Ok(()),
-        Err(Stop::Untaken(LOG_FULL)) => answer_in_turn(alloc, store, course, frames, output),
-        Err(Stop::Untaken(NO_MEMORY)) => answer_in_turn(alloc, store, course, frames, output),
-        Err(stop) => Err(stop.ended()),
+    its_world_is_sound(store);
+    let stop = match take_frames(alloc, store, course, frames, output) {
+        Ok(()) => return Ok(()),
+        Err(stop) => stop,
+    };
+    match stop {
+        Stop::Untaken(LOG_FULL) => answer_in_turn(alloc, store, course, frames, output),
+        Stop::Untaken(NO_MEMORY) => answer_in_turn(alloc, store, course, frames, output),
+        _ => Err(stop.ended()),
     }
 }
 
 // Answers frames one by one.
-fn answer_in_turn<D: Disk, R: MacroFunctions, O: Write>(
+fn answer_in_turn<D: Disk, R: MacroFunctions, O: AnswerRecipient<D, R>>(
     alloc: Global,
     store: &mut Store<D, R>,
     course: &mut Course,
@@ -172,13 +200,16 @@ fn answer_in_turn<D: Disk, R: MacroFunctions, O: Write>(
 ) -> Result<(), Ended>
     requires answers { R.answers store.old.macros }
     requires whole { are_registered R.Meaning.functions (R.functions store.old.macros) ≡ true }
+    requires rests { Rests R.Meaning.functions D.state (O.account output.old) store.old course.old.last }
     ensures answers { (w : WorldState) → store.old.world ≡ Some w
         → AnswersFrames R.Meaning.functions course.old.last w (O.contents output.old) (O.contents output.new)
         store.new course.new.last (map sent frames.now) result }
+    ensures rests { RestsOrEnds R.Meaning.functions D.state (O.account output.new) store.new course.new.last result }
     ensures macros { store.new.macros ≡ store.old.macros }
 {
     its_world_is_sound(store);
     'frames: for i in 0..frames.len() {
+        its_world_is_sound(store);
         match take_frames(alloc, store, course, &frames[i..i + 1], output) {
             Ok(()) => {}
             Err(stop) => return Err(stop.ended()),
@@ -188,7 +219,7 @@ fn answer_in_turn<D: Disk, R: MacroFunctions, O: Write>(
 }
 
 // Answers frames together, writes the answers, and takes a snapshot if one is due.
-fn take_frames<D: Disk, R: MacroFunctions, O: Write>(
+fn take_frames<D: Disk, R: MacroFunctions, O: AnswerRecipient<D, R>>(
     alloc: Global,
     store: &mut Store<D, R>,
     course: &mut Course,
@@ -197,9 +228,11 @@ fn take_frames<D: Disk, R: MacroFunctions, O: Write>(
 ) -> Result<(), Stop>
     requires answers { R.answers store.old.macros }
     requires whole { are_registered R.Meaning.functions (R.functions store.old.macros) ≡ true }
+    requires rests { Rests R.Meaning.functions D.state (O.account output.old) store.old course.old.last }
     ensures takes { (w : WorldState) → store.old.world ≡ Some w
         → TakesFrames R.Meaning.functions course.old.last w (O.contents output.old) (O.contents output.new)
         store.new course.new.last store.old (map sent frames.now) result }
+    ensures rests { RestsOrStops R.Meaning.functions D.state (O.account output.new) store.new course.new.last result }
     ensures macros { store.new.macros ≡ store.old.macros }
 {
     its_world_is_sound(store);
@@ -216,9 +249,11 @@ fn take_frames<D: Disk, R: MacroFunctions, O: Write>(
     let Ok(bytes) = bytes_of(alloc, frames, replies.answers.as_slice()) else {
         return Err(Stop::Ended(Ended::Fault(NO_MEMORY)));
     };
-    match write_whole(output, bytes.as_slice()) {
+    store.keeps_its_world();
+    // what is answered is stored: the answers come after the records
+    match output.write_answers(store, bytes.as_slice(), frames) {
         Ok(()) => {}
-        Err(ended) => return Err(Stop::Ended(ended)),
+        Err(_) => return Err(Stop::Ended(Ended::Fault(OUTPUT))),
     }
     match course.renew_if_due(store) {
         Ok(()) => Ok(()),
@@ -287,39 +322,4 @@ fn bytes_of(alloc: Global, frames: &[Frame<'_>], answers: &[Answer]) -> Result<V
         answers = more_answers;
     }
     Ok(bytes)
-}
-
-/// Writes a text whole, and flushes it. Where a write fails or takes nothing, a part of it was written, from its front.
-pub(crate) fn write_whole<O: Write>(output: &mut O, text: &[u8]) -> Result<(), Ended>
-    ensures whole { OnOk result (Writes (O.contents output.old) (O.contents output.new) text.now) }
-    ensures part { OnErr result (WritesPart (O.contents output.old) (O.contents output.new) text.now) }
-    ensures fault { IfErr result (λ ended. ended ≡ Ended.Fault OUTPUT_FAULT) }
-{
-    match write_text(output, text) {
-        Ok(()) => {
-            // the answers were taken, so a flush that fails ends no session
-            let _flushed = output.flush();
-            Ok(())
-        }
-        Err(ended) => Err(ended),
-    }
-}
-
-// Writes a text whole, or a part of it from its front.
-fn write_text<O: Write>(output: &mut O, text: &[u8]) -> Result<(), Ended>
-    ensures whole { OnOk result (Writes (O.contents output.old) (O.contents output.new) text.now) }
-    ensures part { OnErr result (WritesPart (O.contents output.old) (O.contents output.new) text.now) }
-    ensures fault { IfErr result (λ ended. ended ≡ Ended.Fault OUTPUT_FAULT) }
-{
-    let mut rest = text;
-    'pieces: while !rest.is_empty() {
-        let Ok(count) = output.write(rest) else {
-            return Err(Ended::Fault(OUTPUT));
-        };
-        if count == 0 {
-            return Err(Ended::Fault(OUTPUT));
-        }
-        rest = &rest[count..];
-    }
-    Ok(())
 }

@@ -7,12 +7,17 @@
 //! - `answer`: frames are handed to the store together (`answer_requests` of prevalence_store), and their answers written. A half that is
 //!   full gets a snapshot; what has no memory together is tried one by one
 //!
+//! - `recipient`: who gets the answers (`AnswerRecipient`). It asks for them that what their messages wrote is stored by then, with the
+//!   position (`AreStored` of specs/Account.antt), so this is said of each moment of a session
+//!
 //! Its proofs rest on `Together` of message_laws: a batch is answered as in one round of all frames.
 #![tactic(auto)]
 
 mod answer;
 mod ended;
+mod recipient;
 mod serve;
 
 pub use ended::Ended;
+pub use recipient::AnswerRecipient;
 pub use serve::serve_messages;

@@ -1,19 +1,22 @@
 // A session of messages.
-ghost use Rattle.std.specs.Prelude.{◌≡◌, ◌<◌, ◌≤◌, length, true, IfErr, IfOk, Some};
+ghost use Rattle.std.specs.Prelude.{◌≡◌, ◌<◌, ◌≤◌, length, true, IfOk, Some};
 ghost use Rattle.message_frames.specs.declared.held.Next.TheVariants as next;
-ghost use Rattle.message_session.specs.Sessions.{MessagesBegin, EndsByFault, ServesMessages};
-ghost use Rattle.message_session.specs.Steps.{AnswersAllHeld, AnswersFramesOfInput, AnswersSomeHeld, TakesPiece};
+ghost use Rattle.message_session.specs.Account.{Account};
+ghost use Rattle.message_session.specs.Sessions.{ServesMessages};
+ghost use Rattle.message_session.specs.Standing.{AcknowledgesNone, Rests, RestsOrEnds};
+ghost use Rattle.message_session.specs.Steps.{AnswersAllHeld, AnswersFramesOfInput, AnswersSomeHeld, MayBegin, TakesPiece};
 ghost use Rattle.plist_state.specs.State.{WorldState};
 ghost use Rattle.user_macros.specs.Functions.{are_registered};
 
-use crate::answer::{Course, answer_frames, its_world_is_sound, renew, write_whole};
+use crate::answer::{Course, answer_frames, its_world_is_sound, renew_for_room};
 use crate::ended::Ended;
+use crate::recipient::AnswerRecipient;
 use disk_trait::Disk;
-use lisp_object::refusal::{INPUT, LOG_FULL, NO_MEMORY};
+use lisp_object::refusal::{INPUT, LOG_FULL, NO_MEMORY, OUTPUT};
 use message_frames::{Held, Next, push_position};
 use prevalence_store::Store;
 use std::alloc::Global;
-use std::io::{Read, Write};
+use std::io::Read;
 use user_macros::MacroFunctions;
 
 /// How many bytes a text has at most: as many as a form.
@@ -29,9 +32,12 @@ const MOST_READS: u64 = 1 << 40;
 /// read at once. A snapshot is taken after so many messages that wrote, never if that is 0, and where the half has no room.
 ///
 /// What is written is the position, and the answer to each frame, in order (`session_bytes` of specs/Answers.antt): whole at the end of the
-/// input and at bytes that are no frame, a front of it where a fault ends the session. Of faults nothing is written: 67 if a read failed, or
-/// after 2^40 reads; 68 if a write failed or took nothing; others are those of the store's calls.
-pub fn serve_messages<D: Disk, R: MacroFunctions, I: Read, O: Write>(
+/// input and at bytes that are no frame, a front of it where a fault ends the session. Then the store has the world of the frames that were
+/// carried out, or none until it is opened again. Of faults nothing is written: 67 if a read failed, or after 2^40 reads; 68 if a write failed
+/// or took nothing; others are those of the store's calls, where 65 is told for what has no room if the snapshot does not fit.
+///
+/// It writes by its recipient alone: what answered messages wrote is stored before an answer goes out, with its position.
+pub fn serve_messages<D: Disk, R: MacroFunctions, I: Read, O: AnswerRecipient<D, R>>(
     alloc: Global,
     store: &mut Store<D, R>,
     input: &mut I,
@@ -40,9 +46,11 @@ pub fn serve_messages<D: Disk, R: MacroFunctions, I: Read, O: Write>(
 ) -> Ended
     requires answers { R.answers store.old.macros }
     requires whole { are_registered R.Meaning.functions (R.functions store.old.macros) ≡ true }
+    requires begins { (kept : Account D) → O.account output.old ≡ Some kept → ⊥ }
     ensures serves { (w : WorldState) → store.old.world ≡ Some w
         → ServesMessages R.Meaning.functions D.state store.old store.new w
         (I.remaining input.old) (I.remaining input.new) (O.contents output.old) (O.contents output.new) result }
+    ensures under_way { AcknowledgesNone R.Meaning.functions D.state (O.account output.new) store.new }
     ensures macros { store.new.macros ≡ store.old.macros }
 {
     let last = match begin(store) {
@@ -54,9 +62,10 @@ pub fn serve_messages<D: Disk, R: MacroFunctions, I: Read, O: Write>(
     let Ok(()) = push_position(&mut told, last) else {
         return Ended::Fault(NO_MEMORY);
     };
-    match write_whole(output, told.as_slice()) {
+    store.keeps_its_world();
+    match output.write_position(store, told.as_slice(), last) {
         Ok(()) => {}
-        Err(ended) => return ended,
+        Err(_) => return Ended::Fault(OUTPUT),
     }
     let course = Course {
         last,
@@ -70,9 +79,7 @@ pub fn serve_messages<D: Disk, R: MacroFunctions, I: Read, O: Write>(
 fn begin<D: Disk, R: MacroFunctions>(store: &mut Store<D, R>) -> Result<u64, Ended>
     requires answers { R.answers store.old.macros }
     requires whole { are_registered R.Meaning.functions (R.functions store.old.macros) ≡ true }
-    ensures begun { (w : WorldState) → store.old.world ≡ Some w → IfOk result (λ position. (first : WorldState)
-        × MessagesBegin R.Meaning.functions D.state store.old store.new w position first) }
-    ensures fault { IfErr result EndsByFault }
+    ensures begun { (w : WorldState) → store.old.world ≡ Some w → MayBegin R.Meaning.functions D.state store.old store.new w result }
     ensures macros { store.new.macros ≡ store.old.macros }
 {
     match store.begin_messages() {
@@ -86,12 +93,10 @@ fn begin<D: Disk, R: MacroFunctions>(store: &mut Store<D, R>) -> Result<u64, End
 fn begin_anew<D: Disk, R: MacroFunctions>(store: &mut Store<D, R>) -> Result<u64, Ended>
     requires answers { R.answers store.old.macros }
     requires whole { are_registered R.Meaning.functions (R.functions store.old.macros) ≡ true }
-    ensures begun { (w : WorldState) → store.old.world ≡ Some w → IfOk result (λ position. (first : WorldState)
-        × MessagesBegin R.Meaning.functions D.state store.old store.new w position first) }
-    ensures fault { IfErr result EndsByFault }
+    ensures begun { (w : WorldState) → store.old.world ≡ Some w → MayBegin R.Meaning.functions D.state store.old store.new w result }
     ensures macros { store.new.macros ≡ store.old.macros }
 {
-    match renew(store) {
+    match renew_for_room(store) {
         Ok(()) => {}
         Err(ended) => return Err(ended),
     }
@@ -102,7 +107,7 @@ fn begin_anew<D: Disk, R: MacroFunctions>(store: &mut Store<D, R>) -> Result<u64
 }
 
 // Serves the frames of an input, after the position was told.
-fn serve_frames<D: Disk, R: MacroFunctions, I: Read, O: Write>(
+fn serve_frames<D: Disk, R: MacroFunctions, I: Read, O: AnswerRecipient<D, R>>(
     alloc: Global,
     store: &mut Store<D, R>,
     input: &mut I,
@@ -111,9 +116,11 @@ fn serve_frames<D: Disk, R: MacroFunctions, I: Read, O: Write>(
 ) -> Ended
     requires answers { R.answers store.old.macros }
     requires whole { are_registered R.Meaning.functions (R.functions store.old.macros) ≡ true }
+    requires rests { Rests R.Meaning.functions D.state (O.account output.old) store.old course.last }
     ensures serves { (w : WorldState) → store.old.world ≡ Some w
         → AnswersFramesOfInput R.Meaning.functions course.last w store.new
         (I.remaining input.old) (I.remaining input.new) (O.contents output.old) (O.contents output.new) result }
+    ensures under_way { AcknowledgesNone R.Meaning.functions D.state (O.account output.new) store.new }
     ensures macros { store.new.macros ≡ store.old.macros }
 {
     its_world_is_sound(store);
@@ -171,16 +178,18 @@ struct Session {
 
 impl Session {
     // Answers the frames that stand whole. Tells whether more bytes may make a frame of what is left.
-    fn answer_whole<D: Disk, R: MacroFunctions, O: Write>(
+    fn answer_whole<D: Disk, R: MacroFunctions, O: AnswerRecipient<D, R>>(
         &mut self,
         store: &mut Store<D, R>,
         output: &mut O,
     ) -> Result<bool, Ended>
         requires answers { R.answers store.old.macros }
         requires whole { are_registered R.Meaning.functions (R.functions store.old.macros) ≡ true }
+        requires rests { Rests R.Meaning.functions D.state (O.account output.old) store.old self.old.course.last }
         ensures answers { (w : WorldState) → store.old.world ≡ Some w
             → AnswersAllHeld R.Meaning.functions self.old self.new w store.new
             (O.contents output.old) (O.contents output.new) result }
+        ensures rests { RestsOrEnds R.Meaning.functions D.state (O.account output.new) store.new self.new.course.last result }
         ensures macros { store.new.macros ≡ store.old.macros }
     {
         its_world_is_sound(store);
@@ -195,20 +204,23 @@ impl Session {
     }
 
     // Answers the frames that stand whole, as many at once as may be. Gives what comes after them.
-    fn answer_some<D: Disk, R: MacroFunctions, O: Write>(
+    fn answer_some<D: Disk, R: MacroFunctions, O: AnswerRecipient<D, R>>(
         &mut self,
         store: &mut Store<D, R>,
         output: &mut O,
     ) -> Result<Next, Ended>
         requires answers { R.answers store.old.macros }
         requires whole { are_registered R.Meaning.functions (R.functions store.old.macros) ≡ true }
+        requires rests { Rests R.Meaning.functions D.state (O.account output.old) store.old self.old.course.last }
         ensures answers { (w : WorldState) → store.old.world ≡ Some w
             → AnswersSomeHeld R.Meaning.functions self.old self.new w store.new
             (O.contents output.old) (O.contents output.new) result }
         ensures fewer { IfOk result (λ after. after ≡ next.Unread
             → length self.new.held < length self.old.held) }
+        ensures rests { RestsOrEnds R.Meaning.functions D.state (O.account output.new) store.new self.new.course.last result }
         ensures macros { store.new.macros ≡ store.old.macros }
     {
+        its_world_is_sound(store);
         let most = self.course.most();
         let Ok(whole) = self.held.frames(self.alloc, TEXT_LIMIT, most) else {
             return Err(Ended::Fault(NO_MEMORY));

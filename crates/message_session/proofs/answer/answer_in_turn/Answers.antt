@@ -8,6 +8,7 @@ use Rattle.message_session.specs.Answers.{answered_bytes}
 use Rattle.message_session.specs.Sessions.{AreFramesAnswered}
 use Rattle.message_session.specs.Steps.{Breaks, ended_by}
 use Rattle.message_session.proofs.Frames.{answered_both, breaks_both, breaks_more, none_answered}
+use Rattle.message_session.proofs.Standing.{stops_end}
 use Rattle.message_session.proofs.Stops.{stopped}
 use Rattle.message_session.proofs.answer.answer_in_turn.Goals as goal
 
@@ -31,7 +32,8 @@ pub frames-init : goal.frames-init
 frames-init g c = record {
   macros = refl;
   answered = λ w known.
-      none_answered g.R.Meaning.Meaning.functions c.args.course.now.last w (sound_tidy w (c.its_world_is_sound.ensures w known)) c.args.store.now known (g.O.Write.contents c.args.output.now);
+      none_answered g.R.Meaning.Meaning.functions c.args.course.now.last w (sound_tidy w (c.its_world_is_sound.ensures w known)) c.args.store.now known (g.O.AnswerRecipient.contents c.args.output.now);
+  rests = c.requires.rests;
 }
 
 pub returns-in-Err-clause-answers : goal.returns-in-Err-clause-answers
@@ -40,18 +42,18 @@ returns-in-Err-clause-answers g c = λ w known.
     let functions = g.R.Meaning.Meaning.functions in
     let last = c.args.course.now.last in
     let tidy = sound_tidy w (c.its_world_is_sound.ensures w known) in
-    let held = g.O.Write.contents c.args.output.now in
-    let between = g.O.Write.contents c.frames.output in
-    let written = g.O.Write.contents c.take_frames.new.output in
+    let held = g.O.AnswerRecipient.contents c.args.output.now in
+    let between = g.O.AnswerRecipient.contents c.frames.output in
+    let written = g.O.AnswerRecipient.contents c.take_frames.new.output in
     let front = map sent (take c.frames.i c.args.frames.now) in
     let one = at_place c.frames.i c.args.frames.now in
     let ended = ended_by c.in-Err.stop in
-    let breaks = stopped functions c.frames.course.last far.after.left c.frames.store c.take_frames.new.store between written c.take_frames.new.course.last one c.in-Err.stop
-    (c.in-Err.ensures.takes far.after.left far.after.known) in
-    let both = breaks_both functions last w tidy c.frames.store held between front c.frames.course.last far one written ended breaks in
-    let all = breaks_more functions last w tidy (front ++ one) (map sent (drop (c.frames.i + 1) c.args.frames.now)) held written ended both in
-    subst (λ e. Breaks functions last w held written (map sent c.args.frames.now) e) (sym c.ended.ensures)
-    (subst (λ fs. Breaks functions last w held written fs ended) (all_of c.args.frames.now c.frames.i) all)
+    let breaks = stopped functions c.frames.course.last far.after.left (sound_tidy far.after.left (c.its_world_is_sound-in-frames.ensures far.after.left far.after.known)) c.frames.store c.take_frames.new.store far.after.known between written
+    c.take_frames.new.course.last one c.in-Err.stop (c.in-Err.ensures.takes far.after.left far.after.known) in
+    let both = breaks_both functions last w tidy c.frames.store held between front c.frames.course.last far one written c.take_frames.new.store ended breaks in
+    let all = breaks_more functions last w tidy c.take_frames.new.store held written (front ++ one) (map sent (drop (c.frames.i + 1) c.args.frames.now)) ended both in
+    subst (λ e. Breaks functions last w held written c.take_frames.new.store (map sent c.args.frames.now) e) (sym c.ended.ensures)
+    (subst (λ fs. Breaks functions last w held written c.take_frames.new.store fs ended) (all_of c.args.frames.now c.frames.i) all)
 
 pub frames-preserved : goal.frames-preserved
 frames-preserved g c = record {
@@ -60,18 +62,24 @@ frames-preserved g c = record {
       let far = c.frames.invariant.answered w known in
       let functions = g.R.Meaning.Meaning.functions in
       let last = c.args.course.now.last in
-      let held = g.O.Write.contents c.args.output.now in
-      let written = g.O.Write.contents c.take_frames.new.output in
+      let held = g.O.AnswerRecipient.contents c.args.output.now in
+      let written = g.O.AnswerRecipient.contents c.take_frames.new.output in
       subst (λ fs. AreFramesAnswered functions last w c.take_frames.new.store held written (answered_bytes functions last w) fs c.take_frames.new.course.last) (sym (one_more c.args.frames.now c.frames.i))
-      (answered_both functions last w (sound_tidy w (c.its_world_is_sound.ensures w known)) c.frames.store held (g.O.Write.contents c.frames.output)
+      (answered_both functions last w (sound_tidy w (c.its_world_is_sound.ensures w known)) c.frames.store held (g.O.AnswerRecipient.contents c.frames.output)
       (map sent (take c.frames.i c.args.frames.now)) c.frames.course.last far (at_place c.frames.i c.args.frames.now) written c.take_frames.new.store c.take_frames.new.course.last
       (c.in-Ok.ensures.takes far.after.left far.after.known));
+  rests = c.in-Ok.ensures.rests;
 }
 
 pub returns-clause-answers : goal.returns-clause-answers
 returns-clause-answers g c = λ w known.
     let functions = g.R.Meaning.Meaning.functions in
     let last = c.args.course.now.last in
-    subst (λ fs. AreFramesAnswered functions last w c.frames.store (g.O.Write.contents c.args.output.now) (g.O.Write.contents c.frames.output) (answered_bytes functions last w) fs c.frames.course.last)
+    subst (λ fs. AreFramesAnswered functions last w c.frames.store (g.O.AnswerRecipient.contents c.args.output.now) (g.O.AnswerRecipient.contents c.frames.output) (answered_bytes functions last w) fs c.frames.course.last)
     (ap (map sent) (take_all c.frames.i c.args.frames.now (omega (arith, c.frames-test.false))))
     (c.frames.invariant.answered w known)
+
+pub returns-in-Err-clause-rests : goal.returns-in-Err-clause-rests
+returns-in-Err-clause-rests g c =
+    stops_end g.R.Meaning.Meaning.functions g.D.Disk.state g.met.D.Disk.sound (g.O.AnswerRecipient.account c.take_frames.new.output) c.take_frames.new.store c.take_frames.new.course.last c.in-Err.stop
+    c.in-Err.ensures.rests

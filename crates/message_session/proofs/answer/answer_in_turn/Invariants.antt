@@ -2,6 +2,7 @@ use Rattle.std.proofs.Common.{◌≡◌, Some, map, take}
 use Rattle.message_frames.specs.Frames.{sent}
 use Rattle.message_session.specs.Answers.{answered_bytes}
 use Rattle.message_session.specs.Sessions.{AreFramesAnswered}
+use Rattle.message_session.specs.Standing.{Rests}
 use Rattle.plist_state.specs.State.{WorldState}
 use Rattle.message_session.proofs.answer.answer_in_turn.Given as goal
 
@@ -10,6 +11,7 @@ abbrev pub invariant-frames : goal.invariant-frames
 invariant-frames g l = record {
   macros : l.store.macros ≡ l.fn.store.macros;
   answered : (w : WorldState) → l.fn.store.world ≡ Some w
-      → AreFramesAnswered g.R.Meaning.Meaning.functions l.fn.course.last w l.store (g.O.Write.contents l.fn.output) (g.O.Write.contents l.output)
+      → AreFramesAnswered g.R.Meaning.Meaning.functions l.fn.course.last w l.store (g.O.AnswerRecipient.contents l.fn.output) (g.O.AnswerRecipient.contents l.output)
       (answered_bytes g.R.Meaning.Meaning.functions l.fn.course.last w) (map sent (take l.i l.frames)) l.course.last;
+  rests : Rests g.R.Meaning.Meaning.functions g.D.Disk.state (g.O.AnswerRecipient.account l.output) l.store l.course.last;
 }

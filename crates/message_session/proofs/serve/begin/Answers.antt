@@ -1,8 +1,6 @@
-use Rattle.std.proofs.Common.{refl, ap, subst, ◌∙◌}
-use Rattle.std.specs.Prelude.{IfOk}
-use Rattle.message_session.specs.Sessions.{MessagesBegin}
+use Rattle.std.proofs.Common.{inl, inr, refl, ap, subst, ◌∙◌}
+use Rattle.message_session.specs.Steps.{MayBegin}
 use Rattle.message_session.proofs.Beginning.{full_unbegun, world_begun}
-use Rattle.plist_state.specs.State.{WorldState}
 use Rattle.prevalence_store.specs.calls.Store.{StoreView}
 use Rattle.prevalence_store.proofs.Surviving.{unchanged_survives}
 use Rattle.message_session.proofs.serve.begin.Goals as goal
@@ -15,6 +13,7 @@ returns-in-Ok-clause-begun g c = λ w known.
       first.0,
       record {
         renewed = c.args.store.now;
+        renews = inl refl;
         same = known;
         survives = unchanged_survives functions g.D.Disk.state g.met.D.Disk.sound c.args.store.now c.args.store.now w refl;
         begins = begins;
@@ -26,5 +25,8 @@ pub returns-in-Err-eq64-clause-begun : goal.returns-in-Err-eq64-clause-begun
 returns-in-Err-eq64-clause-begun g c = λ w known.
     let functions = g.R.Meaning.Meaning.functions in
     let same = full_unbegun functions g.D.Disk.state c.args.store.now c.begin_messages.new.self w c.in-Err-eq64.field-0 c.in-Err-eq64.field-0-test (c.in-Err-eq64.ensures.begins w known) in
-    subst (λ (s : StoreView g.row.D.Denot g.row.R.Denot). IfOk c.begin_anew.result (λ position. (first : WorldState) × MessagesBegin functions g.D.Disk.state s c.begin_anew.new.store w position first)) same
+    subst (λ (s : StoreView g.row.D.Denot g.row.R.Denot). MayBegin functions g.D.Disk.state s c.begin_anew.new.store w c.begin_anew.result) same
     (c.begin_anew.ensures.begun w (ap (λ (s : StoreView g.row.D.Denot g.row.R.Denot). s.world) same ∙ known))
+
+pub returns-in-Err-clause-begun : goal.returns-in-Err-clause-begun
+returns-in-Err-clause-begun g c = λ w known. (c.in-Err.number, refl, inr (c.args.store.now, inl refl, c.in-Err.ensures.begins w known))

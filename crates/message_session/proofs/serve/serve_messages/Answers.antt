@@ -1,24 +1,56 @@
-use Rattle.std.proofs.Common.{inl, inr, [], ◌++◌, refl, sym, ap, subst, ◌∙◌}
+use Rattle.std.proofs.Common.{inl, inr, [], ◌++◌, refl, ap, subst, ◌∙◌}
 use Rattle.message_frames.specs.Frames.{position_bytes}
-use Rattle.message_session.specs.Answers.{answered_bytes, session_bytes}
-use Rattle.message_session.specs.Sessions.{EndsBy, WritesFirstOf}
+use Rattle.message_laws.proofs.Tidy.{sound_tidy}
+use Rattle.message_session.specs.Answers.{answered_bytes}
+use Rattle.message_session.specs.Sessions.{WritesFirstOf}
 use Rattle.message_session.proofs.Frames.{no_frames}
 use Rattle.message_session.proofs.Pieces.{ends_told}
+use Rattle.message_session.proofs.Rounds.{first_after}
+use Rattle.message_session.proofs.Standing.{none_at_rest, rests_begun}
 use Rattle.message_session.proofs.Streams.{front_of_more, front_of_part, none_read}
 use Rattle.prevalence_store.specs.calls.Streams.{Writes}
 use Rattle.message_session.proofs.serve.serve_messages.Goals as goal
 
+-- nothing is kept account of before the position
+pub returns-in-Err-clause-under_way : goal.returns-in-Err-clause-under_way
+returns-in-Err-clause-under_way g c = λ account is. absurd (c.requires.begins account is)
+
+pub returns-in_default-clause-under_way : goal.returns-in_default-clause-under_way
+returns-in_default-clause-under_way g c = λ account is. absurd (c.requires.begins account is)
+
+pub write_position-requires : goal.write_position-requires
+write_position-requires g c = record {
+  begins = c.requires.begins;
+  told = c.as_slice.ensures.value ∙ c.in-Ok-push_position.ensures.whole ∙ ap (λ l. l ++ position_bytes c.in-Ok.last) c.new-told.ensures.items;
+}
+
+pub returns-in-Err-write_position-clause-under_way : goal.returns-in-Err-write_position-clause-under_way
+returns-in-Err-write_position-clause-under_way g c =
+    let functions = g.R.Meaning.Meaning.functions in
+    let now = g.O.AnswerRecipient.account c.write_position.new.self in
+    none_at_rest functions g.D.Disk.state g.met.D.Disk.sound now c.begin.new.store c.in-Ok.last
+    (rests_begun functions g.D.Disk.state g.met.D.Disk.sound now c.begin.new.store c.in-Ok.last c.write_position.ensures.kept c.keeps_its_world.ensures)
+
+pub serve_frames-requires-clause-rests : goal.serve_frames-requires-clause-rests
+serve_frames-requires-clause-rests g c =
+    rests_begun g.R.Meaning.Meaning.functions g.D.Disk.state g.met.D.Disk.sound (g.O.AnswerRecipient.account c.write_position.new.self) c.begin.new.store c.in-Ok.last
+    c.write_position.ensures.kept c.keeps_its_world.ensures
+
 pub returns-in-Err-clause-serves : goal.returns-in-Err-clause-serves
-returns-in-Err-clause-serves g c = λ w known. inl (record { fault = c.in-Err.ensures.fault; unread = refl; unwritten = refl })
+returns-in-Err-clause-serves g c = λ w known.
+    let unbegun = c.in-Err.ensures.begun w known in
+    inl (record { number = unbegun.0; fault = unbegun.1; store = inl unbegun.2; unread = refl; unwritten = refl })
 
 pub returns-in_default-clause-serves : goal.returns-in_default-clause-serves
-returns-in_default-clause-serves g c = λ w known. inl (record { fault = tt; unread = refl; unwritten = refl })
-
-pub returns-in-Err-write_whole-clause-serves : goal.returns-in-Err-write_whole-clause-serves
-returns-in-Err-write_whole-clause-serves g c = λ w known.
+returns-in_default-clause-serves g c = λ w known.
     let begun = c.in-Ok.ensures.begun w known in
-    let held = g.O.Write.contents c.args.output.now in
-    let written = g.O.Write.contents c.write_whole.new.output in
+    inl (record { number = 90; fault = refl; store = inr (refl, c.in-Ok.last, begun.0, begun.1); unread = refl; unwritten = refl })
+
+pub returns-in-Err-write_position-clause-serves : goal.returns-in-Err-write_position-clause-serves
+returns-in-Err-write_position-clause-serves g c = λ w known.
+    let begun = c.in-Ok.ensures.begun w known in
+    let held = g.O.AnswerRecipient.contents c.args.output.now in
+    let written = g.O.AnswerRecipient.contents c.write_position.new.self in
     inr (record {
       position = c.in-Ok.last;
       first = begun.0;
@@ -26,22 +58,22 @@ returns-in-Err-write_whole-clause-serves g c = λ w known.
       begins = begun.1;
       read = [];
       reads = none_read (g.I.Read.remaining c.args.input.now);
-      ends = subst (λ ended. EndsBy g.R.Meaning.Meaning.functions c.in-Ok.last begun.0 c.begin.new.store held written (session_bytes g.R.Meaning.Meaning.functions c.in-Ok.last begun.0) []
-          (g.I.Read.remaining c.args.input.now) ended) (sym c.in-Err-write_whole.ensures.fault) (
-            [],
-            [],
-            no_frames [],
-            front_of_more held written (position_bytes c.in-Ok.last) [] (subst (WritesFirstOf held written) (c.as_slice.ensures.value ∙ c.in-Ok-push_position.ensures.whole ∙ ap (λ l. l ++ position_bytes c.in-Ok.last) c.new-told.ensures.items)
-                (front_of_part held written c.as_slice.result.now c.in-Err-write_whole.ensures.part)),
-          );
+      ends = (
+        [],
+        [],
+        no_frames [],
+        front_of_more held written (position_bytes c.in-Ok.last) [] (subst (WritesFirstOf held written) (c.as_slice.ensures.value ∙ c.in-Ok-push_position.ensures.whole ∙ ap (λ l. l ++ position_bytes c.in-Ok.last) c.new-told.ensures.items)
+            (front_of_part held written c.as_slice.result.now c.in-Err-write_position.ensures.part)),
+        inr (c.in-Ok.last, first_after g.R.Meaning.Meaning.functions c.in-Ok.last begun.0 (sound_tidy begun.0 (c.its_world_is_sound.ensures begun.0 begun.1.known)) c.begin.new.store begun.1.known),
+      );
     })
 
 pub returns-clause-serves : goal.returns-clause-serves
 returns-clause-serves g c = λ w known.
     let begun = c.in-Ok.ensures.begun w known in
-    let held = g.O.Write.contents c.args.output.now in
-    let between = g.O.Write.contents c.write_whole.new.output in
-    let written = g.O.Write.contents c.serve_frames.new.output in
+    let held = g.O.AnswerRecipient.contents c.args.output.now in
+    let between = g.O.AnswerRecipient.contents c.write_position.new.self in
+    let written = g.O.AnswerRecipient.contents c.serve_frames.new.output in
     let serves = c.serve_frames.ensures.serves begun.0 begun.1.known in
     inr (record {
       position = c.in-Ok.last;
@@ -52,5 +84,5 @@ returns-clause-serves g c = λ w known.
       reads = serves.1;
       ends = ends_told g.R.Meaning.Meaning.functions c.in-Ok.last begun.0 c.serve_frames.new.store held between written (position_bytes c.in-Ok.last)
           (answered_bytes g.R.Meaning.Meaning.functions c.in-Ok.last begun.0) serves.0 (g.I.Read.remaining c.serve_frames.new.input) c.serve_frames.result
-          (subst (Writes held between) (c.as_slice.ensures.value ∙ c.in-Ok-push_position.ensures.whole ∙ ap (λ l. l ++ position_bytes c.in-Ok.last) c.new-told.ensures.items) c.in-Ok-write_whole.ensures.whole) serves.2;
+          (subst (Writes held between) (c.as_slice.ensures.value ∙ c.in-Ok-push_position.ensures.whole ∙ ap (λ l. l ++ position_bytes c.in-Ok.last) c.new-told.ensures.items) c.in-Ok-write_position.ensures.whole) serves.2;
     })

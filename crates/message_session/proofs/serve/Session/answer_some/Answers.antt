@@ -1,9 +1,13 @@
-use Rattle.std.proofs.Common.{ℕ, ◌<◌, List, length, map, drop, sym, subst}
+use Rattle.std.proofs.Common.{inl, ℕ, ◌<◌, List, length, map, drop, refl, sym, subst}
 use Rattle.message_frames.specs.Frames.{AreFrames, sent}
 use Rattle.message_frames.specs.declared.frame.Frame.{Frame}
+use Rattle.message_laws.proofs.Tidy.{sound_tidy}
 use Rattle.message_session.specs.Sessions.{text_limit}
 use Rattle.message_session.specs.Steps.{ComesAfter}
+use Rattle.message_session.specs.declared.ended.Ended.TheVariants.{Fault}
+use Rattle.message_session.proofs.Frames.{breaks_in_none, breaks_of}
 use Rattle.message_session.proofs.Held.{comes_after, shorter}
+use Rattle.message_session.proofs.Standing.{none_at_rest}
 use Rattle.message_session.proofs.serve.Session.answer_some.Goals as goal
 
 pub returns-clause-answers : goal.returns-clause-answers
@@ -31,3 +35,20 @@ returns-clause-fewer g c = λ unread.
     (shorter (map sent items) rest held
     (subst (ComesAfter (map sent items) rest) unread (comes_after c.most-most.result items rest c.in-Ok.whole.next c.most-most.ensures whole.follows))
     whole.frames.parts)
+
+pub returns-in_default-clause-rests : goal.returns-in_default-clause-rests
+returns-in_default-clause-rests g c = none_at_rest g.R.Meaning.Meaning.functions g.D.Disk.state g.met.D.Disk.sound (g.O.AnswerRecipient.account c.args.output.now) c.args.store.now c.args.self.now.course.last c.requires.rests
+
+pub returns-in_default-clause-answers : goal.returns-in_default-clause-answers
+returns-in_default-clause-answers g c = λ w known.
+    let held = g.O.AnswerRecipient.contents c.args.output.now in
+    breaks_in_none g.R.Meaning.Meaning.functions c.args.self.now.course.last w (sound_tidy w (c.its_world_is_sound.ensures w known)) c.args.store.now held held c.args.self.now.held (Fault 90) tt refl (inl known)
+
+pub returns-in-Err-clause-answers : goal.returns-in-Err-clause-answers
+returns-in-Err-clause-answers g c = λ w known.
+    let held = c.args.self.now.held in
+    let rest = drop c.in-Ok.whole.bytes held in
+    breaks_of g.R.Meaning.Meaning.functions c.args.self.now.course.last w (sound_tidy w (c.its_world_is_sound.ensures w known)) c.answer_frames.new.store
+    (g.O.AnswerRecipient.contents c.args.output.now) (g.O.AnswerRecipient.contents c.answer_frames.new.output) (map sent c.as_slice-frames.result.now) rest held c.in-Err.ended
+    (subst (λ (fs : List Frame). AreFrames text_limit (map sent fs) rest held) (sym c.as_slice-frames.ensures.value) c.in-Ok.ensures.whole.frames)
+    (c.in-Err.ensures.answers w known)

@@ -9,8 +9,9 @@ rounds-init g c = record {
   macros = refl;
   answered = λ w known. (
     [],
-    none_served g.R.Meaning.Meaning.functions c.args.self.now.course.last w (sound_tidy w (c.its_world_is_sound.ensures w known)) c.args.store.now known (g.O.Write.contents c.args.output.now) c.args.self.now.held,
+    none_served g.R.Meaning.Meaning.functions c.args.self.now.course.last w (sound_tidy w (c.its_world_is_sound.ensures w known)) c.args.store.now known (g.O.AnswerRecipient.contents c.args.output.now) c.args.self.now.held,
   );
+  rests = c.requires.rests;
 }
 
 pub rounds-preserved : goal.rounds-preserved
@@ -21,10 +22,11 @@ rounds-preserved g c = record {
       let some = c.in-Ok-Unread.ensures.answers far.1.answered.after.left far.1.answered.after.known in (
         far.0 ++ some.0,
         serves_both g.R.Meaning.Meaning.functions c.args.self.now.course.last w (sound_tidy w (c.its_world_is_sound.ensures w known)) c.rounds.store
-            (g.O.Write.contents c.args.output.now) (g.O.Write.contents c.rounds.output) (g.O.Write.contents c.answer_some.new.output)
+            (g.O.AnswerRecipient.contents c.args.output.now) (g.O.AnswerRecipient.contents c.rounds.output) (g.O.AnswerRecipient.contents c.answer_some.new.output)
             c.args.self.now.held far.0 c.rounds.self.held c.rounds.self.course.last far.1
             c.answer_some.new.store c.answer_some.new.self.course.last some.0 c.answer_some.new.self.held some.1,
       );
+  rests = c.in-Ok-Unread.ensures.rests;
 }
 
 pub returns-in-Ok-Begun-clause-answers : goal.returns-in-Ok-Begun-clause-answers
@@ -33,7 +35,7 @@ returns-in-Ok-Begun-clause-answers g c = λ w known.
     let some = c.in-Ok-Begun.ensures.answers far.1.answered.after.left far.1.answered.after.known in (
       far.0 ++ some.0,
       serves_both g.R.Meaning.Meaning.functions c.args.self.now.course.last w (sound_tidy w (c.its_world_is_sound.ensures w known)) c.rounds.store
-          (g.O.Write.contents c.args.output.now) (g.O.Write.contents c.rounds.output) (g.O.Write.contents c.answer_some.new.output)
+          (g.O.AnswerRecipient.contents c.args.output.now) (g.O.AnswerRecipient.contents c.rounds.output) (g.O.AnswerRecipient.contents c.answer_some.new.output)
           c.args.self.now.held far.0 c.rounds.self.held c.rounds.self.course.last far.1
           c.answer_some.new.store c.answer_some.new.self.course.last some.0 c.answer_some.new.self.held some.1,
       subst (ComesAfter some.0 c.answer_some.new.self.held) c.in-Ok-Begun.field-0-is some.2,
@@ -45,7 +47,7 @@ returns-in-Ok-Malformed-clause-answers g c = λ w known.
     let some = c.in-Ok-Malformed.ensures.answers far.1.answered.after.left far.1.answered.after.known in (
       far.0 ++ some.0,
       serves_both g.R.Meaning.Meaning.functions c.args.self.now.course.last w (sound_tidy w (c.its_world_is_sound.ensures w known)) c.rounds.store
-          (g.O.Write.contents c.args.output.now) (g.O.Write.contents c.rounds.output) (g.O.Write.contents c.answer_some.new.output)
+          (g.O.AnswerRecipient.contents c.args.output.now) (g.O.AnswerRecipient.contents c.rounds.output) (g.O.AnswerRecipient.contents c.answer_some.new.output)
           c.args.self.now.held far.0 c.rounds.self.held c.rounds.self.course.last far.1
           c.answer_some.new.store c.answer_some.new.self.course.last some.0 c.answer_some.new.self.held some.1,
       subst (ComesAfter some.0 c.answer_some.new.self.held) c.in-Ok-Malformed.field-0-is some.2,
@@ -55,6 +57,6 @@ pub returns-in-Err-clause-answers : goal.returns-in-Err-clause-answers
 returns-in-Err-clause-answers g c = λ w known.
     let far = c.rounds.invariant.answered w known in
     breaks_in_both g.R.Meaning.Meaning.functions c.args.self.now.course.last w (sound_tidy w (c.its_world_is_sound.ensures w known)) c.rounds.store
-    (g.O.Write.contents c.args.output.now) (g.O.Write.contents c.rounds.output) (g.O.Write.contents c.answer_some.new.output)
-    c.args.self.now.held far.0 c.rounds.self.held c.rounds.self.course.last far.1 c.in-Err.ended
+    (g.O.AnswerRecipient.contents c.args.output.now) (g.O.AnswerRecipient.contents c.rounds.output) (g.O.AnswerRecipient.contents c.answer_some.new.output)
+    c.args.self.now.held far.0 c.rounds.self.held c.rounds.self.course.last far.1 c.answer_some.new.store c.in-Err.ended
     (c.in-Err.ensures.answers far.1.answered.after.left far.1.answered.after.known)

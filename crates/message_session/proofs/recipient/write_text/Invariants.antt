@@ -1,5 +1,5 @@
 use Rattle.std.proofs.Common.{◌≡◌, ℕ, List, ◌++◌, Some, length}
-use Rattle.message_session.proofs.answer.write_text.Given as goal
+use Rattle.message_session.proofs.recipient.write_text.Given as goal
 
 -- what was written, and what is left
 abbrev pub invariant-pieces : goal.invariant-pieces

@@ -1,0 +1,59 @@
+-- What a recipient of answers keeps account of, and what it asks before they are handed to it.
+use Rattle.std.specs.Prelude.{ℕ, ◌≡◌, List, length, Some, unwrap_or}
+use Rattle.disk_trait.specs.Disk.{State, IsHonest, Throughout}
+use Rattle.gate_log.specs.Layout.{LogRecord}
+use Rattle.message_frames.specs.Frames.{Sent}
+use Rattle.message_session.specs.Answers.{answered_bytes, each_frame}
+use Rattle.plist_state.specs.State.{WorldState}
+use Rattle.prevalence_store.specs.Theorem.{Survives}
+use Rattle.prevalence_store.specs.calls.ExecuteAll.{MeansAllOrNone}
+use Rattle.prevalence_store.specs.calls.Store.{StoreView}
+use Rattle.prevalence_store.specs.messages.Answers.{Round, begun, closed}
+use Rattle.prevalence_store.specs.messages.Calls.{entries_by, left_after}
+use Rattle.user_macros.specs.Functions.{Functions}
+
+-- How the session was as answers were last handed on, or, if none were, as its position was: the number of the last message, the world,
+-- and the disk.
+pub record Account (D : Type 0) : Type 0 where
+  pub last : ℕ
+  pub now : WorldState
+  pub disk : D
+
+-- as this position is told in this world
+abbrev pub first_account : {D : Type 0} → ℕ → WorldState → D → Account D
+first_account position world disk = record { last = position; now = world; disk = disk }
+
+-- these frames after those that were answered: the answers, and what was logged together, with the position
+abbrev pub round_after : Functions → {D : Type 0} → Account D → List Sent → Round
+round_after functions account frames = closed (each_frame functions (begun account.last account.now) frames)
+
+-- after the answers to these frames
+abbrev pub with_frames : Functions → {D R : Type 0} → List Sent → StoreView D R → Account D → Account D
+with_frames functions frames store account = record {
+  last = (round_after functions account frames).last;
+  now = unwrap_or store.world account.now;
+  disk = store.disk;
+}
+
+-- ---- what was done since then
+
+module _ (functions : Functions) {D R : Type 0} (state : D → State) (account : Account D) (store : StoreView D R) where
+  -- These records were logged, and that many of them are acknowledged: a crash at any moment since leaves the world after all of them, or
+  -- the one before, and from now on after those that are acknowledged.
+  pub record AreLogged (taken : List LogRecord) (acknowledged : ℕ) : Type 0 where
+    pub survives : IsHonest (state account.disk) → Survives functions (state account.disk) (state store.disk) account.now taken acknowledged store.world
+    pub all_or_none : IsHonest (state account.disk) → Throughout (state account.disk) (state store.disk) (MeansAllOrNone functions account.now taken)
+
+  -- what these frames leave in the file, after those that were answered
+  abbrev records_of : List Sent → List LogRecord
+  records_of frames = entries_by (round_after functions account frames).wrote (round_after functions account frames).entries
+
+  -- These bytes answer these frames, after those that were answered. All that their messages wrote is stored, with the position.
+  pub record AreStored (frames : List Sent) (bytes : List ℕ) : Type 0 where
+    pub bytes_are : bytes ≡ answered_bytes functions account.last account.now frames
+    pub known : store.world ≡ Some (left_after (round_after functions account frames).wrote account.now (round_after functions account frames).left)
+    pub stored : AreLogged (records_of frames) (length (records_of frames))
+
+  -- Some frames were under way at most, together: nothing but what they leave was logged, and no answer to them was handed on.
+  abbrev pub AreUnderWay : Type 0
+  AreUnderWay = (frames : List Sent) × AreLogged (records_of frames) 0
