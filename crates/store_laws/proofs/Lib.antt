@@ -5,3 +5,5 @@ pub mod Outcomes
 pub mod CutShort
 pub mod Handings
 pub mod MessagesDone
+pub mod RoundsDone
+pub mod NoneOver

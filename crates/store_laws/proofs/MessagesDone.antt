@@ -23,7 +23,7 @@ use Rattle.user_macros.specs.Functions.{Functions}
 closed_true : (round : Round) → position_property (closed (record round { wrote = true })).left ≡ Some (integer (pos (closed (record round { wrote = true })).last))
 closed_true round = position_put round.last round.left
 
-closed_at : (round : Round) (wrote : Bool) → round.wrote ≡ wrote → (closed round).wrote ≡ true → position_property (closed round).left ≡ Some (integer (pos (closed round).last))
+pub closed_at : (round : Round) (wrote : Bool) → round.wrote ≡ wrote → (closed round).wrote ≡ true → position_property (closed round).left ≡ Some (integer (pos (closed round).last))
 closed_at round true is said =
     subst (λ (r : Round). position_property (closed r).left ≡ Some (integer (pos (closed r).last))) (sym (λ i. record round { wrote = is i })) (closed_true round)
 closed_at round false is said =

@@ -8,3 +8,5 @@ pub mod Outcomes
 pub mod Sessions
 -- what a crash leaves of a store in which messages were answered
 pub mod Messages
+-- rounds of messages, one after the other
+pub mod Rounds

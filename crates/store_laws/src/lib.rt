@@ -14,16 +14,19 @@
 //!   moment of it, up to its end, all forms are there whose lines were handed on, and of no group a part (`specs/Sessions.antt`)
 //! - `each_once`: what a crash leaves of a store in which messages were answered has all of them or none, and the position that tells
 //!   so (`specs/Messages.antt`)
+//! - `rounds`: so of rounds in a row, at each moment: the messages up to the position are in, and no answered message over it wrote
+//!   (`specs/Rounds.antt`)
 //! - `version_1_opens`: a store that is opened on files of version 1 has the world that they meant to version 1
 //!
-//! Lemmas in `proofs`, of which crates above cite `Outcomes`: `CutShort`, `Events`, `Handings`, `InputForms`, `MessagesDone`, `Outcomes`,
-//! `WholeCalls`.
+//! Lemmas in `proofs`, of which crates above cite `Outcomes`: `CutShort`, `Events`, `Handings`, `InputForms`, `MessagesDone`, `NoneOver`,
+//! `Outcomes`, `RoundsDone`, `WholeCalls`.
 #![tactic(auto)]
 
 mod batch;
 mod history;
 mod messages;
 mod outcome;
+mod round;
 mod session;
 mod version_1;
 
@@ -31,5 +34,6 @@ pub use batch::batches;
 pub use history::histories;
 pub use messages::each_once;
 pub use outcome::{groups_change_nothing, one_outcome};
+pub use round::rounds;
 pub use session::sessions;
 pub use version_1::version_1_opens;
