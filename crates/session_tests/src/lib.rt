@@ -4,6 +4,7 @@
 //!
 //! - `keepers`: a session whose recipient keeps account of it, and what follows at each moment
 //! - `again`: the store that a history goes on with after a session
+//! - `rounds`: two rounds of messages, and the position after them
 //!
 //! Lemmas in `proofs`: `Keeping`.
 #![tactic(auto)]
@@ -12,3 +13,5 @@
 mod again;
 #[cfg(test)]
 mod keepers;
+#[cfg(test)]
+mod rounds;
