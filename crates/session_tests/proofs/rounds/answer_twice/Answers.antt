@@ -16,8 +16,7 @@ returns g c = λ w known honest keeps.
     let two = c.in-Ok-answer_requests.ensures.answer place.world snapshot.renews.left in
     let replies = c.in-Ok-answer_requests.last_replies in
     let steps : List (Step g.row.D.Denot g.row.M.Denot) = requested c.args.first.now (Ok c.in-Ok.replies) once ∷ quiet renewed ∷ requested c.args.second.now (Ok replies) again ∷ [] in
-    c.rounds.ensures.in_between functions c.args.store.now w c.args.last steps known honest keeps
-    (
+    c.rounds.ensures.in_between functions c.args.store.now w c.args.last steps known honest keeps (
       one,
       subst (λ o. IsSome o) (sym one.logs.left) refl,
       (
