@@ -1,5 +1,6 @@
 pub mod Ascii
 pub mod Datum
+mod Kept
 pub mod Lowest
 pub mod Object
 pub mod ObjectCode

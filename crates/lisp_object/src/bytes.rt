@@ -1,63 +1,97 @@
 //! Bytes that contracts see as a list of numbers.
-ghost use Rattle.std.specs.Prelude.{◌≡◌, ◌==◌, ◌<◌, All, IsTrue, IfOk};
+ghost use Rattle.std.specs.Prelude.{◌≡◌, ◌==◌, ◌<◌, All, IsTrue, IfOk, IfSome};
 ghost use Rattle.std.specs.List.{list_all};
 ghost use Rattle.std.proofs.Common.{rules};
 ghost use Rattle.std.specs.Cmp.Lexicographic.{pointwise};
 ghost use Rattle.std.specs.Cmp.Rules.{comparing};
 ghost use Rattle.lisp_object.specs.Ascii.{is_ascii};
+ghost use Rattle.lisp_object.specs.Kept.{bytes_in};
 
+use crate::short_bytes::ShortBytes;
 use std::alloc::{AllocError, Global};
 use std::marker::Model;
 
-/// A name or a text: a `Vec` of bytes that contracts see as the list of its bytes, without a capacity.
+/// The most bytes that are kept in the value itself.
+const SHORT: usize = 14;
+
+/// The name of the package in which most symbols are.
+const USER: &[u8] = b"COMMON-LISP-USER";
+
+/// A name or a text, of sixteen bytes. Contracts see the list of its bytes. At most 14 of them are kept in the value itself,
+/// and COMMON-LISP-USER takes no memory either.
 #[derive(Debug, Drop)]
 pub struct Bytes {
-    bytes: Vec<u8>,
+    kept: Kept,
+}
+
+#[derive(Debug, Drop)]
+enum Kept {
+    Short(ShortBytes),
+    User,
+    Long(Box<Vec<u8>>),
 }
 
 impl Model for Bytes {
     ghost use Rattle.std.specs.Prelude.{List, ℕ};
+    ghost use Rattle.lisp_object.specs.Kept.{bytes_in};
 
     ghost Value = { List ℕ };
 
-    ghost view = { λ b. b.bytes.items };
+    ghost view = { λ b. bytes_in b.kept };
 }
 
 impl Bytes {
-    /// The bytes of `vec`, without a copy.
-    pub fn from_vec(vec: Vec<u8>) -> Bytes
-        ensures { result ≡ vec.items }
+    /// The bytes of `vec`.
+    pub fn from_vec(vec: Vec<u8>) -> Result<Bytes, AllocError>
+        ensures { IfOk result (λ b. b ≡ vec.items) }
     {
-        Bytes { bytes: vec }
+        match in_place(vec.as_slice()) {
+            Some(kept) => Ok(Bytes { kept }),
+            None => Bytes::long(vec),
+        }
     }
 
     /// A copy of `bytes`.
     pub fn from_slice(alloc: Global, bytes: &[u8]) -> Result<Bytes, AllocError>
         ensures { IfOk result (λ b. b ≡ bytes.now) }
     {
-        Ok(Bytes::from_vec(Vec::from_slice(alloc, bytes)?))
+        match in_place(bytes) {
+            Some(kept) => Ok(Bytes { kept }),
+            None => Bytes::long(Vec::from_slice(alloc, bytes)?),
+        }
+    }
+
+    fn long(vec: Vec<u8>) -> Result<Bytes, AllocError>
+        ensures { IfOk result (λ b. b ≡ vec.items) }
+    {
+        let vec = Box::new(*vec.allocator(), vec)?;
+        Ok(Bytes {
+            kept: Kept::Long(vec),
+        })
     }
 
     /// Bytes equal to these.
     pub fn copy(&self, alloc: Global) -> Result<Bytes, AllocError>
         ensures { IfOk result (λ b. b ≡ self.now) }
     {
-        Bytes::from_slice(alloc, self.as_slice())
-    }
-
-    /// The bytes as a `Vec`, without a copy.
-    pub fn into_vec(self) -> Vec<u8>
-        ensures { result.items ≡ self }
-    {
-        let Bytes { bytes } = self;
-        bytes
+        match &self.kept {
+            Kept::Short(bytes) => Ok(Bytes {
+                kept: Kept::Short(bytes.copy()),
+            }),
+            Kept::User => Ok(Bytes { kept: Kept::User }),
+            Kept::Long(bytes) => Bytes::long(Vec::from_slice(alloc, bytes.as_slice())?),
+        }
     }
 
     /// The bytes.
     pub fn as_slice(&self) -> &[u8]
         ensures { result.now ≡ self.now }
     {
-        self.bytes.as_slice()
+        match &self.kept {
+            Kept::Short(bytes) => bytes.as_slice(),
+            Kept::User => USER,
+            Kept::Long(bytes) => bytes.as_slice(),
+        }
     }
 
     /// Whether each byte is a character of the standard, below 128.
@@ -67,6 +101,19 @@ impl Bytes {
     {
         self.as_slice().iter().all(|byte| *byte < 128)
     }
+}
+
+// How bytes are kept that take no memory of their own, where these may be kept so.
+fn in_place(bytes: &[u8]) -> Option<Kept>
+    ensures { IfSome result (λ kept. bytes_in kept ≡ bytes.now) }
+{
+    if bytes.len() <= SHORT {
+        return Some(Kept::Short(ShortBytes::new(bytes)));
+    }
+    if bytes == USER {
+        return Some(Kept::User);
+    }
+    None
 }
 
 impl PartialEq for Bytes {

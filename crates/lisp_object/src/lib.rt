@@ -58,6 +58,7 @@ mod list;
 mod proper;
 mod ratio;
 pub mod refusal;
+mod short_bytes;
 mod size;
 
 pub use boxed::Boxed;
