@@ -184,7 +184,7 @@ fn user_gathered(alloc: Global, gathered: StdGathered) -> Result<Gathered, Alloc
         StdGathered::Text(bytes) => Ok(Gathered::Text(bytes)),
         StdGathered::Marks(marks) => {
             let text = characters(alloc, marks.as_slice())?;
-            Ok(Gathered::Text(Bytes::from_vec(text)))
+            Ok(Gathered::Text(Bytes::from_vec(text)?))
         }
     }
 }

@@ -99,7 +99,7 @@ fn last_line<R: MacroFunctions>(
         (state_gives setting stack (AtLine call text) at [])) }
     ensures last { IfOk result (IsLastEvent at) }
 {
-    let gathered = StdGathered::Text(text.into_bytes());
+    let gathered = StdGathered::Text(text.into_bytes()?);
     end_call(with, depth, &call, false, gathered, at)
 }
 

@@ -249,7 +249,7 @@ pub(crate) fn in_text<R: MacroFunctions>(
         TextByte::Escape => Ok(Event::Open(State::Escaped(held))),
         TextByte::Ended => {
             let OpenText { call, text, .. } = held;
-            let gathered = StdGathered::Text(text.into_bytes());
+            let gathered = StdGathered::Text(text.into_bytes()?);
             end_call(with, depth, &call, false, gathered, at + 1)
         }
         TextByte::Refused(code) => Ok(Event::Refused(code, at)),
@@ -306,7 +306,7 @@ pub(crate) fn in_line<R: MacroFunctions>(
     match line_byte(with.readtable, &with.limits, keep, &mut text, at, c)? {
         LineByte::More => Ok(Event::Open(State::Line(call, text))),
         LineByte::Ended => {
-            let gathered = StdGathered::Text(text.into_bytes());
+            let gathered = StdGathered::Text(text.into_bytes()?);
             end_call(with, depth, &call, false, gathered, at + 1)
         }
         LineByte::Refused(code) => Ok(Event::Refused(code, at)),

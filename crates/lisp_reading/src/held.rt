@@ -249,9 +249,9 @@ impl HeldText {
     }
 
     /// The characters, moved out.
-    pub fn into_bytes(self) -> Bytes
-        ensures value { result ≡ self }
-        ensures ascii { list_all is_ascii result ≡ true }
+    pub fn into_bytes(self) -> Result<Bytes, AllocError>
+        ensures value { IfOk result (λ b. b ≡ self) }
+        ensures ascii { IfOk result (λ b. list_all is_ascii b ≡ true) }
     {
         let HeldText { bytes } = self;
         Bytes::from_vec(bytes)

@@ -60,7 +60,7 @@ fn upcased(alloc: Global, bytes: &[u8]) -> Result<Bytes, AllocError>
 {
     let mut name = Vec::from_slice(alloc, bytes)?;
     upcase(name.as_mut_slice());
-    Ok(Bytes::from_vec(name))
+    Bytes::from_vec(name)
 }
 
 fn upcase(name: &mut [u8])

@@ -93,7 +93,7 @@ pub fn text_of(alloc: Global, written: &[u8]) -> Result<Bytes, AllocError>
             text.push(*c)?;
         }
     }
-    Ok(Bytes::from_vec(text))
+    Bytes::from_vec(text)
 }
 
 /// The text that is written so, of characters below 128.

@@ -162,7 +162,7 @@ fn uninterned_symbol(alloc: Global, case: Case, marks: Marks) -> Result<Finished
     }
     let marks = folded(case, marks);
     let name = characters(alloc, marks.as_slice())?;
-    Ok(Finished::One(Datum::Uninterned(Bytes::from_vec(name))))
+    Ok(Finished::One(Datum::Uninterned(Bytes::from_vec(name)?)))
 }
 
 fn folded(case: Case, mut marks: Marks) -> Marks

@@ -55,7 +55,7 @@ fn joined(alloc: Global, parts: NameParts<'_>) -> Result<TokenName, AllocError>
 fn bytes(alloc: Global, marks: &[Mark]) -> Result<Bytes, AllocError>
     ensures { IfOk result (λ b. b ≡ characters marks.now) }
 {
-    Ok(Bytes::from_vec(characters(alloc, marks)?))
+    Bytes::from_vec(characters(alloc, marks)?)
 }
 
 /// The parts of a token with these marks. Takes no memory.

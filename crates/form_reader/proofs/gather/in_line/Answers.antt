@@ -8,10 +8,10 @@ returns-in-More-clause-brings g c = λ stack cs open_calls.
     let setting = setting g.R.MacroFunctions.functions c.args.with.now in
     goes_on setting stack _ _ c.args.at c.args.c cs _ (rw (c.in-More.is, c.keep-keep.ensures) at (c.in_ok-line_byte.ensures.feeds cs))
 
-pub returns-in-Ended-clause-brings : goal.returns-in-Ended-clause-brings
-returns-in-Ended-clause-brings g c = λ stack cs open_calls.
+pub returns-in_ok-into_bytes-in-Ended-clause-brings : goal.returns-in_ok-into_bytes-in-Ended-clause-brings
+returns-in_ok-into_bytes-in-Ended-clause-brings g c = λ stack cs open_calls.
     let setting = setting g.R.MacroFunctions.functions c.args.with.now in
-    ends setting stack _ _ _ c.into_bytes.result c.args.at (c.args.at + 1) (c.args.c ∷ cs) cs c.end_call.result (rw (c.in-Ended.is, c.keep-keep.ensures) at (c.in_ok-line_byte.ensures.feeds cs)) c.into_bytes.ensures.value (c.end_call.ensures.brings stack cs open_calls)
+    ends setting stack _ _ _ c.in_ok-into_bytes-in-Ended.field-0 c.args.at (c.args.at + 1) (c.args.c ∷ cs) cs c.end_call.result (rw (c.in-Ended.is, c.keep-keep.ensures) at (c.in_ok-line_byte.ensures.feeds cs)) c.in_ok-into_bytes-in-Ended.ensures.value (c.end_call.ensures.brings stack cs open_calls)
 
 pub returns-in-Refused-clause-brings : goal.returns-in-Refused-clause-brings
 returns-in-Refused-clause-brings g c = λ stack cs open_calls.

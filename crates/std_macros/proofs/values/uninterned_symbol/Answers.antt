@@ -10,6 +10,6 @@ use Rattle.std_macros.proofs.values.uninterned_symbol.Goals as goal
 
 pub returns-clause-proper : goal.returns-clause-proper
 returns-clause-proper c =
-    uninterned_datum c.from_vec.result
-    (ap (list_all is_ascii) (c.from_vec.ensures ∙ c.in_ok-name.ensures ∙ ap characters (c.as_slice-2.ensures ∙ c.folded-marks.ensures))
+    uninterned_datum c.in_ok-from_vec.field-0
+    (ap (list_all is_ascii) (c.in_ok-from_vec.ensures ∙ c.in_ok-name.ensures ∙ ap characters (c.as_slice-2.ensures ∙ c.folded-marks.ensures))
     ∙ ascii_characters (folded c.args.case c.args.marks.items) (folded_ascii c.args.case c.args.marks.items c.requires))
