@@ -1,45 +1,35 @@
 -- The index of a row of properties.
---     blank, nth_is, nth_item      a property of a row, by its place
+--     nth_is, nth_read      a property of a row, by its place
 --     placed, unplaced, elsewhere      `position`, from the places at which an indicator stands, and back
---     searched_by      what a binary search by the orders finds
 --     unknown, unmatched, mismatched, matched      what the index says of an indicator
 --     orders-set, orders-remove      the orders of a row that is written
 --     IsIndexed-nil, IsIndexed-remove, IsIndexed-take, IsIndexed-noted, IsIndexed-added, IsIndexed-next, IsIndexed-insert      an index stays one
-use Rattle.std.proofs.Common.{◌≡◌, ◌≢◌, ℕ, zero, suc, ◌+◌, ◌-◌, ◌<◌, ◌≤◌, true, false, cond, Option, None, Some, unwrap_or, Result, Ok, Err, IfOk, IfErr, List, [], ◌∷◌, ◌++◌, length, take, get_or, set, refl, sym, ap, subst, ◌∙◌, arith}
-use Rattle.std.specs.List.{position, position_from, insert, remove, slice_get}
-use Rattle.std.specs.List.Sorted.{IsSearchInRange, IsBinarySearchResult, IsNonDecreasingBy}
-use Rattle.std.specs.Ordering.{nat_cmp, eq_by_cmp, ordering_index}
+use Rattle.std.proofs.Common.{◌≡◌, ◌≢◌, ℕ, zero, suc, ◌+◌, ◌-◌, ◌<◌, ◌≤◌, true, false, cond, None, Some, unwrap_or, List, [], ◌∷◌, ◌++◌, length, take, get_or, set, refl, sym, ap, subst, ◌∙◌, arith}
+use Rattle.std.specs.List.{position, position_from, insert, remove}
+use Rattle.std.specs.Ordering.{nat_cmp, eq_by_cmp}
 use Rattle.std.proofs.lemmas.Bool.Decides.{nat_tests}
-use Rattle.std.proofs.lemmas.Cmp.{ranked}
 use Rattle.std.proofs.lemmas.Iterator.Adapters.{position_from-zero}
 use Rattle.std.specs.Prelude.{nat_lt, is_some}
 use Rattle.std.proofs.Math.Seq.{get_or-append_seam, take-suc}
 use Rattle.std.proofs.lemmas.Bool.{false≢true}
 use Rattle.std.proofs.lemmas.List.{length_push, length-map, length-take-le, get_or-take, get_or_append_left}
 use Rattle.std.proofs.lemmas.List.Edits.{length-insert, length-remove, get_or-insert_above, get_or-insert_at, get_or-insert_below, get_or-remove_above, get_or-remove_below}
-use Rattle.std.proofs.lemmas.List.Sorted.{IsNonDecreasingBy-from_default}
 use Rattle.lisp_object.specs.declared.datum.Datum.{Datum}
-use Rattle.lisp_object.specs.declared.datum.Datum.TheVariants.{Char}
-use Rattle.plist_state.specs.declared.property.NumberedProperty.{NumberedProperty}
+use Rattle.property_rows.specs.declared.property.NumberedProperty.{NumberedProperty}
 use Rattle.plist_state.specs.Lists.{same_number}
 use Rattle.plist_state.specs.Indexed.{Orders, order_of, orders, nth, order_in, IsRising, IsIndexed}
-use Rattle.plist_state.proofs.Indices.{has}
+use Rattle.plist_state.proofs.Indices.{has, item_at}
 use Rattle.plist_state.proofs.ListRows.{number_tied}
 use Rattle.plist_state.proofs.Placing.{not_same}
 
-abbrev pub blank : NumberedProperty
-blank = record { indicator = 0; order = 0; value = Char 0 }
-
-pub nth_is : (items : List NumberedProperty) (k : ℕ) → nth (orders items) k ≡ order_of (get_or items k blank)
+pub nth_is : (items : List NumberedProperty) (k : ℕ) → nth (orders items) k ≡ order_of (item_at items k)
 nth_is [] k = refl
 nth_is (p ∷ ps) zero = refl
 nth_is (p ∷ ps) (suc k) = nth_is ps k
 
--- the same of the one that stands there
-pub nth_item : (items : List NumberedProperty) (k : ℕ) (p : NumberedProperty) → k < length items → p ≡ get_or items k p → nth (orders items) k ≡ order_of p
-nth_item [] k p less e = absurd (omega (arith, less))
-nth_item (q ∷ qs) zero p less e = ap order_of (sym e)
-nth_item (q ∷ qs) (suc k) p less e = nth_item qs k p (omega (arith, less)) e
+-- its indicator and its order, as a row gives them
+pub nth_read : (items : List NumberedProperty) (k i o : ℕ) → i ≡ (item_at items k).indicator → o ≡ (item_at items k).order → nth (orders items) k ≡ (i, o)
+nth_read items k i o same_i same_o = nth_is items k ∙ (λ t. (sym same_i t, sym same_o t))
 
 -- ---- places
 placed_from : (items : List NumberedProperty) (i k n : ℕ) → k < length items → (nth (orders items) k).0 ≡ i → ((j : ℕ) → j < k → (nth (orders items) j).0 ≢ i) → position_from (has i) n items ≡ Some (n + k)
@@ -81,32 +71,6 @@ elsewhere_from (p ∷ ps) i n is =
 
 pub elsewhere : (items : List NumberedProperty) (i : ℕ) → position (has i) items ≡ None → (k : ℕ) → k < length items → (nth (orders items) k).0 ≢ i
 elsewhere items i is = elsewhere_from items i 0 (sym (position_from-zero (has i) items) ∙ is)
-
--- ---- a search by the orders
-module _ (items : List NumberedProperty) (rising : IsRising (orders items)) (o : ℕ) where
-  rises : (i j : ℕ) → i ≤ j → j < length items → (get_or items i blank).order ≤ (get_or items j blank).order
-  rises i j le less =
-      let a : (nth (orders items) i).1 ≡ (get_or items i blank).order = ap (λ (p : ℕ × ℕ). p.1) (nth_is items i) in
-      let b : (nth (orders items) j).1 ≡ (get_or items j blank).order = ap (λ (p : ℕ × ℕ). p.1) (nth_is items j) in
-      let long : length (orders items) ≡ length items = length-map items order_of in
-      grind (arith, a, b, long, rising i j, λ (same : i ≡ j). ap (λ k. (get_or items k blank).order) same)
-
-  comparisons_rise : IsNonDecreasingBy (λ (p : NumberedProperty). ordering_index (nat_cmp p.order o)) items
-  comparisons_rise = IsNonDecreasingBy-from_default (λ (p : NumberedProperty). ordering_index (nat_cmp p.order o)) items blank (λ i j le less.
-      let orders_rise : (get_or items i blank).order ≤ (get_or items j blank).order = rises i j le less in
-      grind (arith, nat_tests))
-
-  pub searched_by : (r : Result ℕ ℕ) → IsSearchInRange r (length items) → IsBinarySearchResult (λ (p : NumberedProperty). nat_cmp p.order o) items r
-      → IfOk r (λ k. (k < length items) × ((nth (orders items) k).1 ≡ o)) × IfErr r (λ _. (k : ℕ) → k < length items → (nth (orders items) k).1 ≢ o)
-  searched_by (Ok at) in_range equal = ((in_range, ap (λ (p : ℕ × ℕ). p.1) (nth_is items at) ∙ ranked _ o _ (sym (equal blank))), tt)
-  searched_by (Err at) in_range parted = (
-    tt,
-    λ k less same.
-        let is : (nth (orders items) k).1 ≡ (get_or items k blank).order = ap (λ (p : ℕ × ℕ). p.1) (nth_is items k) in
-        let before : k < at → (get_or items k blank).order < o = λ lt. ranked _ o _ (sym ((parted comparisons_rise).0 k blank (omega arith) lt)) in
-        let after : at ≤ k → o < (get_or items k blank).order = λ le. ranked _ o _ (sym ((parted comparisons_rise).1 k blank le less)) in
-        grind (arith, is, same, before, after),
-  )
 
 -- ---- what an index says
 same_order : (a b : ℕ) → Some a ≡ Some b → a ≡ b
@@ -248,62 +212,56 @@ module _ (x later ks : Orders) (i o : ℕ)
       }
 
 -- the next property of a row, in the index of those before it
-module _ (x later : Orders) (items : List NumberedProperty) (n next : ℕ) (p : NumberedProperty) (less : n < length items) (is : p ≡ get_or items n p)
-    (indexed : IsIndexed x (take n (orders items))) (below : (k : ℕ) → k < n → (nth (orders items) k).1 < next) (high : next ≤ p.order)
-    (new : is_some (order_in x p.indicator) ≡ false)
-    (put : (q : ℕ) → order_in later q ≡ cond (eq_by_cmp nat_cmp q p.indicator) (Some p.order) (order_in x q)) where
+module _ (x later : Orders) (items : List NumberedProperty) (n next i o : ℕ) (less : n < length items) (here : nth (orders items) n ≡ (i, o))
+    (indexed : IsIndexed x (take n (orders items))) (below : (k : ℕ) → k < n → (nth (orders items) k).1 < next) (high : next ≤ o)
+    (new : is_some (order_in x i) ≡ false)
+    (put : (q : ℕ) → order_in later q ≡ cond (eq_by_cmp nat_cmp q i) (Some o) (order_in x q)) where
   long : length (orders items) ≡ length items
   long = length-map items order_of
 
   cut : length (take n (orders items)) ≡ n
   cut = length-take-le n (orders items) (omega (arith, long, less))
 
-  unlike : (k : ℕ) → k < length (take n (orders items)) → (nth (take n (orders items)) k).0 ≢ p.indicator
+  unlike : (k : ℕ) → k < length (take n (orders items)) → (nth (take n (orders items)) k).0 ≢ i
   unlike k lt same =
-      let there : is_some (order_in x p.indicator) ≡ true = ap (λ i. is_some (order_in x i)) (sym same) ∙ ap is_some (indexed.finds k lt) in
+      let there : is_some (order_in x i) ≡ true = ap (λ i. is_some (order_in x i)) (sym same) ∙ ap is_some (indexed.finds k lt) in
       false≢true (sym new ∙ there)
 
   pub IsIndexed-next : IsIndexed later (take (n + 1) (orders items))
   IsIndexed-next =
       subst (IsIndexed later) (sym more)
-      (IsIndexed-added x later (take n (orders items)) p.indicator p.order put unlike (λ q other. not_same q p.indicator other) (number_tied p.indicator) indexed
+      (IsIndexed-added x later (take n (orders items)) i o put unlike (λ q other. not_same q i other) (number_tied i) indexed
       (λ k lt.
       let same : (nth (take n (orders items)) k).1 ≡ (nth (orders items) k).1 = ap (λ (e : ℕ × ℕ). e.1) (get_or-take n (orders items) k (0, 0) (omega (arith, cut, lt))) in
       omega (arith, same, below k (omega (arith, cut, lt)), high)))
     where
-      here : nth (orders items) n ≡ (p.indicator, p.order)
-      here = nth_item items n p less is
-
       one_more : n + 1 ≡ suc n
       one_more = omega arith
 
-      more : take (n + 1) (orders items) ≡ take n (orders items) ++ (p.indicator, p.order) ∷ []
+      more : take (n + 1) (orders items) ≡ take n (orders items) ++ (i, o) ∷ []
       more = ap (λ m. take m (orders items)) one_more ∙ take-suc (orders items) n (0, 0) (omega (arith, length-map items order_of, less))
           ∙ ap (λ e. take n (orders items) ++ e ∷ []) here
 
-  pub below_next : (above : ℕ) → p.order < above → (k : ℕ) → k < n + 1 → (nth (orders items) k).1 < above
+  pub below_next : (above : ℕ) → o < above → (k : ℕ) → k < n + 1 → (nth (orders items) k).1 < above
   below_next above more k lt =
-      let here : (nth (orders items) n).1 ≡ p.order = ap (λ (e : ℕ × ℕ). e.1) (nth_item items n p less is) in
-      let at : k ≡ n → (nth (orders items) k).1 ≡ p.order = λ e. ap (λ m. (nth (orders items) m).1) e ∙ here in
+      let last : (nth (orders items) n).1 ≡ o = ap (λ (e : ℕ × ℕ). e.1) here in
+      let at : k ≡ n → (nth (orders items) k).1 ≡ o = λ e. ap (λ m. (nth (orders items) m).1) e ∙ last in
       grind (arith, at, below k, high, more, lt)
 
--- a property that is got from a row
-nth_got : (xs : List NumberedProperty) (j : ℕ) (q : NumberedProperty) → slice_get xs j ≡ Some q → nth (orders xs) j ≡ order_of q
-nth_got [] j q e = absurd (cc)
-nth_got (x ∷ xs) zero q e = ap order_of (got x q e)
-  where
-    got : (a b : NumberedProperty) → ◌≡◌ {A = Option NumberedProperty} (Some a) (Some b) → a ≡ b
-    got a b e = ap (λ o. unwrap_or o a) e
-nth_got (x ∷ xs) (suc j) q e = nth_got xs j q e
+-- all properties of a row were passed
+pub passed : (n : ℕ) (ks : Orders) → length ks ≤ n → take n ks ≡ ks
+passed zero [] le = refl
+passed (suc n) [] le = refl
+passed zero (k ∷ ks) le = absurd (omega (arith, le))
+passed (suc n) (k ∷ ks) le = ap (λ js. k ∷ js) (passed n ks (omega (arith, le)))
 
 -- the order of the last property is the greatest
-pub above_last : (items : List NumberedProperty) (p : NumberedProperty) → Some p ≡ slice_get items (length items - 1) → IsRising (orders items)
-    → (k : ℕ) → k < length items → (next : ℕ) → p.order < next → (nth (orders items) k).1 < next
-above_last items p is rising k less next more =
-    let last : nth (orders items) (length items - 1) ≡ order_of p = nth_got items (length items - 1) p (sym is) in
+pub above_last : (items : List NumberedProperty) (o : ℕ) → o ≡ (item_at items (length items - 1)).order → IsRising (orders items)
+    → (k : ℕ) → k < length items → (next : ℕ) → o < next → (nth (orders items) k).1 < next
+above_last items o is rising k less next more =
     let long : length (orders items) ≡ length items = length-map items order_of in
-    let end : (nth (orders items) (length items - 1)).1 ≡ p.order = ap (λ (e : ℕ × ℕ). e.1) last in
-    let at : k ≡ length items - 1 → (nth (orders items) k).1 ≡ p.order = λ e. ap (λ m. (nth (orders items) m).1) e ∙ end in
+    let end : (nth (orders items) (length items - 1)).1 ≡ o = ap (λ (e : ℕ × ℕ). e.1) (nth_is items (length items - 1)) ∙ sym is in
+    let at : k ≡ length items - 1 → (nth (orders items) k).1 ≡ o = λ e. ap (λ m. (nth (orders items) m).1) e ∙ end in
     grind (arith, long, end, at, rising k (length items - 1), less, more)
 
 -- a property that comes to a place where the orders rise, and that the index has

@@ -6,7 +6,8 @@ use Rattle.std.proofs.lemmas.Iterator.Adapters.{position_from-zero}
 use Rattle.lisp_object.specs.Object.{Object, pair}
 use Rattle.lisp_object.specs.Datum.{object_of}
 use Rattle.lisp_object.specs.declared.datum.Datum.{Datum}
-use Rattle.plist_state.specs.declared.property.NumberedProperty.{NumberedProperty}
+use Rattle.property_rows.specs.declared.property.NumberedProperty.{NumberedProperty}
+use Rattle.property_rows.specs.Slots.{no_property, with_value}
 use Rattle.plist_state.specs.Shown.{numbered_property}
 use Rattle.plist_state.specs.Properties.{value_by, with_value_by, without_value_by}
 use Rattle.plist_state.specs.Pushed.{pushed, with_pushed_by}
@@ -15,6 +16,26 @@ use Rattle.plist_state.specs.Undoing.{with_value_at, with_rest_at, without_first
 
 abbrev pub has : ℕ → NumberedProperty → Bool
 has i p = same_number i p.indicator
+
+-- the property at an index
+abbrev pub item_at : List NumberedProperty → ℕ → NumberedProperty
+item_at items k = get_or items k no_property
+
+pub item_is : (items : List NumberedProperty) (k : ℕ) → item_at items k ≡ get_or items k (item_at items k)
+item_is [] k = refl
+item_is (p ∷ ps) zero = refl
+item_is (p ∷ ps) (suc k) = item_is ps k
+
+-- its value is taken out, and another one put there
+value_put : (items : List NumberedProperty) (k : ℕ) (v w : Datum)
+    → set (set items k (with_value (item_at items k) v)) k (with_value (item_at (set items k (with_value (item_at items k) v)) k) w) ≡ set items k (with_value (item_at items k) w)
+value_put [] k v w = refl
+value_put (p ∷ ps) zero v w = refl
+value_put (p ∷ ps) (suc k) v w = ap (λ qs. p ∷ qs) (value_put ps k v w)
+
+pub put_back : (items taken later : List NumberedProperty) (k : ℕ) (v w : Datum) → taken ≡ set items k (with_value (item_at items k) v) → later ≡ set taken k (with_value (item_at taken k) w)
+    → later ≡ set items k (with_value (item_at items k) w)
+put_back items taken later k v w out back = back ∙ ap (λ (xs : List NumberedProperty). set xs k (with_value (item_at xs k) w)) out ∙ value_put items k v w
 
 -- the properties, as pairs
 abbrev pub shown : List NumberedProperty → NumberedPlist

@@ -9,7 +9,7 @@ use Rattle.std.specs.Ordering.{nat_cmp, eq_by_cmp}
 use Rattle.std.specs.BTreeMap.{insert_entry, is_at}
 use Rattle.std.proofs.lemmas.List.{length-map, map-append}
 use Rattle.lisp_object.specs.declared.datum.Datum.{Datum}
-use Rattle.plist_state.specs.declared.property.NumberedProperty.{NumberedProperty}
+use Rattle.property_rows.specs.declared.property.NumberedProperty.{NumberedProperty}
 use Rattle.plist_state.specs.Indexed.{Index, Indexes, order_of, orders, nth, order_in, index_at, IsRising, IsIndexed, IsIndexedIn}
 use Rattle.plist_state.proofs.Indices.{has}
 use Rattle.plist_state.proofs.ListRows.{number_tied}

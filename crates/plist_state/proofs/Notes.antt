@@ -17,7 +17,7 @@ pub use Rattle.package_table.proofs.Undoing.{IsLast, at_last, no_more, on_ok, ta
 use Rattle.plist_state.specs.declared.note.Note.{Note}
 use Rattle.plist_state.specs.declared.note.Note.TheVariants.{Property as OfList}
 use Rattle.plist_state.specs.declared.note.PropertyChange.{PropertyChange}
-use Rattle.plist_state.specs.declared.property.NumberedProperty.{NumberedProperty}
+use Rattle.property_rows.specs.Rows.{PropertyRow, room}
 use Rattle.plist_state.specs.Lists.{NumberedPlist, NumberedLists, row_of, with_row}
 use Rattle.plist_state.specs.Shown.{Rows, lists_in, plist_of, numbered_property, row_at, room_at, NumberedRest}
 use Rattle.plist_state.specs.Kept.{IsProperChange, IsWider}
@@ -81,13 +81,13 @@ journal_wider [] r rows later wider journal = tt
 journal_wider (m ∷ ms) r rows later wider journal =
     (leads_wider m (undone_since ms r) rows later wider journal.0, journal_wider ms r rows later wider journal.1)
 
-row_fits : (row : Vec NumberedProperty) → length (plist_of row) ≤ vec_capacity row
-row_fits row = omega (arith, row.ok, length-map row.items numbered_property)
+row_fits : (row : PropertyRow) → length (plist_of row) ≤ room row
+row_fits row = omega (arith, length-map row.items numbered_property)
 
 pub fits_now : (rows : Rows) (r : NumberedRest) → r.properties ≡ lists_in rows → Fits rows r
 fits_now rows r is x =
     subst (λ ps. length ps ≤ room_at rows x) (sym (ap (λ (m : NumberedLists). row_of m x) is ∙ row-lists_in rows x))
-    (elim (row_at rows x) as (λ o. length (option_map_or plist_of o []) ≤ option_map_or vec_capacity o 0) [
+    (elim (row_at rows x) as (λ o. length (option_map_or plist_of o []) ≤ option_map_or room o 0) [
       | None ↦ omega arith
       | Some row ↦ row_fits row
     ])

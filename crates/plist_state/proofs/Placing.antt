@@ -5,7 +5,6 @@
 --     are_indexed      one row is written, and its index
 use Rattle.std.proofs.Common.{◌≡◌, ◌≢◌, ℕ, true, false, cond, Option, None, Some, unwrap_or, List, refl, sym, ap, subst, ◌∙◌}
 use Rattle.std.specs.Option.{option_map, IsSome}
-use Rattle.std.specs.Global.{Vec}
 use Rattle.std.specs.Ordering.{nat_cmp, eq_by_cmp}
 use Rattle.std.specs.List.Sorted.{IsStrictlySortedBy}
 use Rattle.std.specs.Map.{lookup, keys_of, set_value, remove_entry}
@@ -13,7 +12,7 @@ use Rattle.std.specs.BTreeMap.{insert_entry, is_at}
 use Rattle.std.specs.FinMap.{find}
 use Rattle.std.proofs.lemmas.Cmp.{nat_cmp_total}
 use Rattle.lisp_object.proofs.Tree as tree
-use Rattle.plist_state.specs.declared.property.NumberedProperty.{NumberedProperty}
+use Rattle.property_rows.specs.Rows.{PropertyRow}
 use Rattle.plist_state.specs.Shown.{Rows, row_at}
 use Rattle.plist_state.specs.Indexed.{Index, Indexes, index_at, orders, IsIndexed, IsIndexedIn, AreIndexed, KeepsOthers}
 use Rattle.plist_state.proofs.ListRows.{one_number, IsPut}
@@ -75,14 +74,14 @@ pub same_some : {A : Type 0} (a b : A) → Some a ≡ Some b → a ≡ b
 same_some a b e = ap (λ o. unwrap_or o a) e
 
 -- one row is written, and the indexes of the other numbers stay
-pub are_indexed : (rows later : Rows) (old new : Indexes) (x : ℕ) (row : Vec NumberedProperty)
+pub are_indexed : (rows later : Rows) (old new : Indexes) (x : ℕ) (row : PropertyRow)
     → AreIndexed rows old → IsPut rows later x row → IsIndexedIn new x row.items → KeepsOthers old new x → AreIndexed later new
 are_indexed rows later old new x row all put here others n v there i is =
     elim (eq_by_cmp nat_cmp n x) as (λ b. eq_by_cmp nat_cmp n x ≡ b → IsIndexed i.entries (orders v.items)) [
       | true ↦ λ t.
           let same : n ≡ x = one_number n x t in
           let v_is : row ≡ v = same_some row v (sym (put n ∙ ap (λ b. cond b (Some row) (row_at rows n)) t) ∙ there) in
-          subst (λ (r : Vec NumberedProperty). IsIndexed i.entries (orders r.items)) v_is (here i (ap (index_at new) (sym same) ∙ is))
+          subst (λ (r : PropertyRow). IsIndexed i.entries (orders r.items)) v_is (here i (ap (index_at new) (sym same) ∙ is))
       | false ↦ λ t.
           all n v (sym (put n ∙ ap (λ b. cond b (Some row) (row_at rows n)) t) ∙ there) i (sym (others n t) ∙ is)
     ] refl

@@ -12,11 +12,11 @@ use Rattle.std.proofs.lemmas.Option.{slice_get-map, slice_get_read}
 use Rattle.lisp_object.specs.Object.{Object}
 use Rattle.lisp_object.specs.Datum.{object_of, is_proper}
 use Rattle.package_table.specs.Numbers.{Numbered, numbered}
-use Rattle.plist_state.specs.declared.property.NumberedProperty.{NumberedProperty}
+use Rattle.property_rows.specs.declared.property.NumberedProperty.{NumberedProperty}
 use Rattle.plist_state.specs.declared.property_list.PropertyList.TheInside.{Inside}
 use Rattle.plist_state.specs.Properties.{Symbol, Plist}
 use Rattle.plist_state.specs.Lists.{symbol_at, IsNumber}
-use Rattle.plist_state.specs.Shown.{numbered_property}
+use Rattle.plist_state.specs.Shown.{numbered_property, items_in}
 use Rattle.plist_state.specs.Viewed.{plist_in, IsPropertyList}
 
 pub are_numbers : (s : Numbered) (row : List NumberedProperty) → All (λ p. IsNumber s p.0) (map numbered_property row) → All (λ p. IsNumber s p.indicator) row
@@ -30,20 +30,20 @@ module _ (a : Inside) where
   abbrev by_number : ℕ × Object → Symbol × Object
   by_number p = (symbol_at (numbered a.packages.now) p.0, p.1)
 
-  pub same_length : length (plist_in a) ≡ length a.row.now
-  same_length = length-map (map numbered_property a.row.now) by_number ∙ length-map a.row.now numbered_property
+  pub same_length : length (plist_in a) ≡ length (items_in a.row)
+  same_length = length-map (map numbered_property (items_in a.row)) by_number ∙ length-map (items_in a.row) numbered_property
 
-  pub within_row : (ps : Plist) → plist_in a ≡ ps → (i : ℕ) → i < length ps → i < length a.row.now
+  pub within_row : (ps : Plist) → plist_in a ≡ ps → (i : ℕ) → i < length ps → i < length (items_in a.row)
   within_row ps seen i within =
-      let same : length ps ≡ length a.row.now = sym (ap length seen) ∙ same_length in
+      let same : length ps ≡ length (items_in a.row) = sym (ap length seen) ∙ same_length in
       omega (arith, same, within)
 
-  module _ (i : ℕ) (within : i < length a.row.now) (p : NumberedProperty) (is : p ≡ get_or a.row.now i p) where
+  module _ (i : ℕ) (within : i < length (items_in a.row)) (p : NumberedProperty) (is : p ≡ get_or (items_in a.row) i p) where
     pub property_at : (ps : Plist) → plist_in a ≡ ps → slice_get ps i ≡ Some (symbol_at (numbered a.packages.now) p.indicator, object_of p.value)
     property_at ps seen =
         ap (λ ps. slice_get ps i) (sym seen)
-        ∙ slice_get-map by_number (map numbered_property a.row.now) i
-        ∙ ap (option_map by_number) (slice_get-map numbered_property a.row.now i ∙ ap (option_map numbered_property) (slice_get_read a.row.now (length a.row.now) i p refl within is))
+        ∙ slice_get-map by_number (map numbered_property (items_in a.row)) i
+        ∙ ap (option_map by_number) (slice_get-map numbered_property (items_in a.row) i ∙ ap (option_map numbered_property) (slice_get_read (items_in a.row) (length (items_in a.row)) i p refl within is))
 
     module _ (kept : IsPropertyList a) where
       pub number_at : IsNumber (numbered a.packages.now) p.indicator

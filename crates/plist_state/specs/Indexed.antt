@@ -3,8 +3,8 @@ use Rattle.std.specs.Prelude.{◌≡◌, ℕ, ◌<◌, false, List, map, length,
 use Rattle.std.specs.Ordering.{nat_cmp, eq_by_cmp}
 use Rattle.std.specs.Map.{lookup}
 use Rattle.std.specs.BTreeMap.{BTreeMap, is_at}
-use Rattle.std.specs.Global.{Vec}
-use Rattle.plist_state.specs.declared.property.NumberedProperty.{NumberedProperty}
+use Rattle.property_rows.specs.declared.property.NumberedProperty.{NumberedProperty}
+use Rattle.property_rows.specs.Rows.{PropertyRow}
 use Rattle.plist_state.specs.Shown.{Rows, row_at}
 
 -- indicators, each with the order of its property
@@ -51,7 +51,7 @@ IsIndexedIn indexes n items = (x : Index) → index_at indexes n ≡ Some x → 
 
 -- each index is that of the row of its number
 abbrev pub AreIndexed : Rows → Indexes → Type 0
-AreIndexed rows indexes = (n : ℕ) (row : Vec NumberedProperty) → row_at rows n ≡ Some row → IsIndexedIn indexes n row.items
+AreIndexed rows indexes = (n : ℕ) (row : PropertyRow) → row_at rows n ≡ Some row → IsIndexedIn indexes n row.items
 
 -- the indexes of other numbers are as they were
 abbrev pub KeepsOthers : Indexes → Indexes → ℕ → Type 0

@@ -1,14 +1,13 @@
 -- What holds of the rows of properties.
 use Rattle.std.specs.Prelude.{◌≡◌, ℕ, ◌≤◌, true, All, IfSome, codes}
 use Rattle.lisp_object.specs.declared.datum.Datum.{Datum}
-use Rattle.std.specs.Global.{Vec}
 use Rattle.lisp_object.specs.Datum.{is_proper}
-use Rattle.plist_state.specs.declared.property.NumberedProperty.{NumberedProperty}
 use Rattle.plist_state.specs.declared.note.PropertyChange.{PropertyChange}
 use Rattle.plist_state.specs.declared.note.PropertyChange.TheVariants.{Set, Added, Removed, Pushed}
+use Rattle.property_rows.specs.Rows.{PropertyRow}
 use Rattle.plist_state.specs.Shown.{Rows, row_at, room_at}
 
-abbrev pub IsProperRow : Vec NumberedProperty → Type 0
+abbrev pub IsProperRow : PropertyRow → Type 0
 IsProperRow row = All (λ p. is_proper p.value ≡ true) row.items
 
 abbrev pub IsProperRows : Rows → Type 0

@@ -1,11 +1,11 @@
 -- What contracts see of the structs.
-use Rattle.std.specs.Prelude.{ℕ, List, [], ◌∷◌, map, Option}
+use Rattle.std.specs.Prelude.{ℕ, List, [], ◌∷◌, map, Option, Some, None}
+use Rattle.std.specs.Global.{Vec}
+use Rattle.std.specs.Borrow.{Bor}
 use Rattle.std.specs.Ordering.{nat_cmp}
 use Rattle.std.specs.Map.{lookup}
 use Rattle.std.specs.Option.{option_map_or}
-use Rattle.std.specs.Global.{Vec}
 use Rattle.std.specs.BTreeMap.{BTreeMap, is_at}
-use Rattle.std.specs.Prelude.{vec_capacity}
 use Rattle.std.specs.FinMap as finite
 use Rattle.lisp_object.specs.Object.{Object}
 use Rattle.lisp_object.specs.Datum.{object_of}
@@ -15,14 +15,15 @@ use Rattle.package_table.specs.Shown.{as_map}
 use Rattle.plist_state.specs.declared.symbol.Symbol.{Symbol}
 use Rattle.plist_state.specs.declared.symbol.BorrowedSymbol.{BorrowedSymbol}
 use Rattle.plist_state.specs.declared.property.Property.{Property}
-use Rattle.plist_state.specs.declared.property.NumberedProperty.{NumberedProperty}
+use Rattle.property_rows.specs.declared.property.NumberedProperty.{NumberedProperty}
 use Rattle.plist_state.specs.declared.stored.Stored.{Stored}
+use Rattle.property_rows.specs.Rows.{PropertyRow, room}
 use Rattle.plist_state.specs.Properties as properties
 use Rattle.plist_state.specs.Lists.{NumberedPlist, NumberedLists, with_row}
 use Rattle.plist_state.specs.State.{Readtables, first_readtables, first_rest}
 
 abbrev pub symbol_of : Symbol → properties.Symbol
-symbol_of s = (s.home.items, s.name.items)
+symbol_of s = (s.home, s.name)
 
 abbrev pub symbol_named : BorrowedSymbol → properties.Symbol
 symbol_named s = (s.home.now, s.name.now)
@@ -33,28 +34,33 @@ property_of p = ((p.home.now, p.name.now), object_of p.value.now)
 abbrev pub numbered_property : NumberedProperty → ℕ × Object
 numbered_property p = (p.indicator, object_of p.value)
 
-abbrev pub plist_of : Vec NumberedProperty → NumberedPlist
+abbrev pub plist_of : PropertyRow → NumberedPlist
 plist_of row = map numbered_property row.items
+
+-- the properties of a row that may be absent
+abbrev pub items_in : Option (Bor PropertyRow) → List NumberedProperty
+items_in None = []
+items_in (Some row) = row.now.items
 
 -- the rows of properties, by the numbers of their symbols
 abbrev pub Rows : Type 0
-Rows = List (ℕ × Vec NumberedProperty)
+Rows = List (ℕ × PropertyRow)
 
 -- The property lists in the rows. An empty row is none.
 abbrev pub lists_in : Rows → NumberedLists
 lists_in [] = finite.empty
 lists_in (e ∷ es) = with_row (lists_in es) e.0 (plist_of e.1)
 
-abbrev pub lists_of : BTreeMap ℕ (Vec NumberedProperty) → NumberedLists
+abbrev pub lists_of : BTreeMap ℕ PropertyRow → NumberedLists
 lists_of rows = lists_in rows.entries
 
 -- the row of a number
-abbrev pub row_at : Rows → ℕ → Option (Vec NumberedProperty)
+abbrev pub row_at : Rows → ℕ → Option PropertyRow
 row_at rows i = lookup (is_at (nat_cmp i)) rows
 
 -- how many properties there is memory for in the row of a number
 abbrev pub room_at : Rows → ℕ → ℕ
-room_at rows i = option_map_or vec_capacity (row_at rows i) 0
+room_at rows i = option_map_or room (row_at rows i) 0
 
 abbrev pub readtables_of : BTreeMap (Vec ℕ) readtable.Table → Readtables
 readtables_of tables = as_map (λ t. t) tables.entries

@@ -5,13 +5,13 @@ use Rattle.package_table.specs.Numbers.{numbered}
 use Rattle.plist_state.specs.declared.property_list.PropertyList.TheInside.{Inside}
 use Rattle.plist_state.specs.Properties.{Plist}
 use Rattle.plist_state.specs.Lists.{IsNumber, named}
-use Rattle.plist_state.specs.Shown.{numbered_property}
+use Rattle.plist_state.specs.Shown.{numbered_property, items_in}
 
 -- the properties by the symbols of their indicators
 abbrev pub plist_in : Inside → Plist
-plist_in a = named (numbered a.packages.now) (map numbered_property a.row.now)
+plist_in a = named (numbered a.packages.now) (map numbered_property (items_in a.row))
 
 -- each indicator is the number of a symbol, and each value is proper
 pub record IsPropertyList (a : Inside) : Type 0 where
-  pub indicators : All (λ p. IsNumber (numbered a.packages.now) p.indicator) a.row.now
-  pub values : All (λ p. is_proper p.value ≡ true) a.row.now
+  pub indicators : All (λ p. IsNumber (numbered a.packages.now) p.indicator) (items_in a.row)
+  pub values : All (λ p. is_proper p.value ≡ true) (items_in a.row)

@@ -2,8 +2,8 @@
 ghost use Rattle.std.specs.Prelude.{◌≡◌};
 ghost use Rattle.plist_state.specs.Undoing.{restores};
 
-use crate::property::NumberedProperty;
 use lisp_object::Datum;
+use property_rows::NumberedProperty;
 use readtable_core::{Case, CharacterSlot, Readtable};
 
 /// What has changed in a property list.

@@ -8,12 +8,3 @@ pub struct Property<'a> {
     pub name: &'a [u8],
     pub value: &'a Datum,
 }
-
-/// A property, as it is kept: the number of its indicator, and the value beside it. Its order is greater than that of each
-/// property before it that was in the row when it came.
-#[derive(Drop)]
-pub(crate) struct NumberedProperty {
-    pub(crate) indicator: u32,
-    pub(crate) order: u64,
-    pub(crate) value: Datum,
-}

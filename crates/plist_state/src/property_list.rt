@@ -4,11 +4,11 @@ ghost use Rattle.std.specs.List.{slice_get};
 ghost use Rattle.lisp_object.specs.Datum.{is_proper};
 ghost use Rattle.package_table.specs.Numbers.{numbered};
 ghost use Rattle.plist_state.specs.Lists.{IsNumber, named};
-ghost use Rattle.plist_state.specs.Shown.{numbered_property, property_of};
+ghost use Rattle.plist_state.specs.Shown.{numbered_property, property_of, items_in};
 
 use crate::Property;
-use crate::property::NumberedProperty;
 use package_table::Packages;
+use property_rows::Row;
 use std::marker::Model;
 
 /// The property list of a symbol, as a world has it, the indicators in the order in which they were first set (standard 10.1).
@@ -16,7 +16,7 @@ use std::marker::Model;
 #[derive(Drop)]
 pub struct PropertyList<'a> {
     packages: &'a Packages,
-    row: &'a [NumberedProperty],
+    row: Option<&'a Row>,
 }
 
 impl<'a> Model for PropertyList<'a> {
@@ -34,10 +34,10 @@ impl<'a> Model for PropertyList<'a> {
 }
 
 impl<'a> PropertyList<'a> {
-    pub(crate) fn new(packages: &'a Packages, row: &'a [NumberedProperty]) -> PropertyList<'a>
-        requires indicators { All (λ p. IsNumber (numbered packages.now) p.indicator) row.now }
-        requires values { All (λ p. is_proper p.value ≡ true) row.now }
-        ensures { result ≡ named (numbered packages.now) (map numbered_property row.now) }
+    pub(crate) fn new(packages: &'a Packages, row: Option<&'a Row>) -> PropertyList<'a>
+        requires indicators { All (λ p. IsNumber (numbered packages.now) p.indicator) (items_in row) }
+        requires values { All (λ p. is_proper p.value ≡ true) (items_in row) }
+        ensures { result ≡ named (numbered packages.now) (map numbered_property (items_in row.entry)) }
     {
         PropertyList { packages, row }
     }
@@ -46,14 +46,17 @@ impl<'a> PropertyList<'a> {
     pub fn len(&self) -> usize
         ensures { result ≡ length self.now }
     {
-        self.row.len()
+        match self.row {
+            Some(row) => row.len(),
+            None => 0,
+        }
     }
 
     /// Whether there are none.
     pub fn is_empty(&self) -> bool
         ensures { result ≡ (length self.now == 0) }
     {
-        self.row.is_empty()
+        self.len() == 0
     }
 
     /// The property at an index.
@@ -62,15 +65,14 @@ impl<'a> PropertyList<'a> {
         ensures property { slice_get self.now index ≡ Some (property_of result) }
         ensures proper { is_proper result.value.now ≡ true }
     {
-        let row = self.row;
-        let property = &row[index];
-        let Some((home, name)) = self.packages.symbol_of(property.indicator) else {
+        let Some(row) = self.row else { unreachable!() };
+        let Some((home, name)) = self.packages.symbol_of(row.indicator(index)) else {
             unreachable!()
         };
         Property {
             home,
             name,
-            value: &property.value,
+            value: row.value(index),
         }
     }
 }

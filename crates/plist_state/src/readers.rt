@@ -7,10 +7,10 @@ ghost use Rattle.plist_state.specs.Lists.{list_of, lists};
 ghost use Rattle.plist_state.specs.Readers.{readtable_names, borrowed_symbols, symbols_with_properties};
 ghost use Rattle.plist_state.specs.Shown.{lists_of, readtables_of};
 
-use crate::property::NumberedProperty;
 use crate::{World, rows};
 use lisp_object::{Bytes, Items};
 use package_table::Packages;
+use property_rows::Row;
 use readtable_core::Readtable;
 use std::alloc::{AllocError, Global};
 use std::collections::BTreeMap;
@@ -26,12 +26,7 @@ fn names(alloc: Global, tables: &BTreeMap<Vec<u8>, Readtable>) -> Result<Items<B
 }
 
 // Whether the symbol of this home and name has properties.
-fn has_properties(
-    packages: &Packages,
-    rows: &BTreeMap<u32, Vec<NumberedProperty>>,
-    home: &[u8],
-    name: &[u8],
-) -> bool
+fn has_properties(packages: &Packages, rows: &BTreeMap<u32, Row>, home: &[u8], name: &[u8]) -> bool
     ensures { result
         ≡ is_some (list_of (numbered packages.now) (lists_of rows.now) (home.now, name.now)) }
 {
@@ -45,7 +40,7 @@ fn has_properties(
 fn push_owners<'a>(
     alloc: Global,
     packages: &'a Packages,
-    rows: &BTreeMap<u32, Vec<NumberedProperty>>,
+    rows: &BTreeMap<u32, Row>,
     home: &'a [u8],
     symbols: &mut Vec<(&'a [u8], &'a [u8])>,
 ) -> Result<(), AllocError>
@@ -67,7 +62,7 @@ fn push_owners<'a>(
 fn owners<'a>(
     alloc: Global,
     packages: &'a Packages,
-    rows: &BTreeMap<u32, Vec<NumberedProperty>>,
+    rows: &BTreeMap<u32, Row>,
 ) -> Result<Vec<(&'a [u8], &'a [u8])>, AllocError>
     ensures { IfOk result (λ symbols. borrowed_symbols symbols.items
         ≡ finite.keys (lists (numbered packages.now) (lists_of rows.now))) }

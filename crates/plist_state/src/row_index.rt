@@ -2,11 +2,11 @@
 ghost use Rattle.std.specs.Prelude.{◌≡◌, ◌≢◌, ◌≤◌, ◌<◌, ◌-◌, ◌++◌, ◌∷◌, [], ℕ, true, None, Some, cond, length, IfOk, IfErr, IfSome, OnOk};
 ghost use Rattle.std.specs.List.{position, insert};
 ghost use Rattle.std.specs.Ordering.{nat_cmp, eq_by_cmp};
-ghost use Rattle.plist_state.specs.declared.property.NumberedProperty.{NumberedProperty as Numbered};
+ghost use Rattle.property_rows.specs.declared.property.NumberedProperty.{NumberedProperty as Numbered};
 ghost use Rattle.plist_state.specs.Lists.{same_number};
 ghost use Rattle.plist_state.specs.Indexed.{Orders, orders, nth, order_in, IsRising, IsIndexed, IsIndexedIn, KeepsOthers};
 
-use crate::property::NumberedProperty;
+use property_rows::{NumberedProperty, Row};
 use std::alloc::{AllocError, Global};
 use std::collections::BTreeMap;
 
@@ -20,34 +20,47 @@ pub(crate) type Indexes = BTreeMap<u32, Index>;
 const LONG: usize = 32;
 
 // The place of the indicator in a row, from its front.
-fn searched(row: &[NumberedProperty], indicator: u32) -> Option<usize>
-    ensures { result ≡ position (λ p. same_number indicator p.indicator) row.now }
+fn searched(row: &Row, indicator: u32) -> Option<usize>
+    ensures { result ≡ position (λ p. same_number indicator p.indicator) row.now.items }
 {
-    row.iter()
-        .position(|property| indicator == property.indicator)
+    row.search(indicator)
 }
 
-// Where the property of this order is, or where it would go.
-fn by_order(row: &[NumberedProperty], order: u64) -> Result<usize, usize>
-    requires { IsRising (orders row.now) }
-    ensures found { IfOk result (λ k. (k < length row.now) × ((nth (orders row.now) k).1 ≡ order)) }
-    ensures absent { IfErr result (λ _. (k : ℕ) → k < length row.now → (nth (orders row.now) k).1 ≢ order) }
+// Where the property of this order is.
+fn by_order(row: &Row, order: u64) -> Option<usize>
+    requires { IsRising (orders row.now.items) }
+    ensures found { IfSome result (λ k. (k < length row.now.items) × ((nth (orders row.now.items) k).1 ≡ order)) }
+    ensures absent { result ≡ None → (k : ℕ) → k < length row.now.items → (nth (orders row.now.items) k).1 ≢ order }
 {
-    row.binary_search_by_key(&order, |property| property.order)
+    let mut first = 0;
+    let mut end = row.len();
+    while first < end {
+        let middle = first + (end - first) / 2;
+        let here = row.order(middle);
+        if here == order {
+            return Some(middle);
+        }
+        if here < order {
+            first = middle + 1;
+        } else {
+            end = middle;
+        }
+    }
+    None
 }
 
 // The place of the indicator in a row with an index.
-fn indexed(index: &Index, row: &[NumberedProperty], indicator: u32) -> Option<usize>
-    requires { IsIndexed index.now.entries (orders row.now) }
-    ensures { result ≡ position (λ p. same_number indicator p.indicator) row.now }
+fn indexed(index: &Index, row: &Row, indicator: u32) -> Option<usize>
+    requires { IsIndexed index.now.entries (orders row.now.items) }
+    ensures { result ≡ position (λ p. same_number indicator p.indicator) row.now.items }
 {
     let Some(order) = index.get(&indicator) else {
         return None;
     };
-    let Ok(place) = by_order(row, *order) else {
+    let Some(place) = by_order(row, *order) else {
         return None;
     };
-    if row[place].indicator == indicator {
+    if row.indicator(place) == indicator {
         Some(place)
     } else {
         None
@@ -55,14 +68,9 @@ fn indexed(index: &Index, row: &[NumberedProperty], indicator: u32) -> Option<us
 }
 
 /// The place of the indicator in the row of a number. Where the row has an index, it is not searched from its front.
-pub(crate) fn place(
-    row: &[NumberedProperty],
-    indexes: &Indexes,
-    number: u32,
-    indicator: u32,
-) -> Option<usize>
-    requires { IsIndexedIn indexes.now.entries number row.now }
-    ensures { result ≡ position (λ p. same_number indicator p.indicator) row.now }
+pub(crate) fn place(row: &Row, indexes: &Indexes, number: u32, indicator: u32) -> Option<usize>
+    requires { IsIndexedIn indexes.now.entries number row.now.items }
+    ensures { result ≡ position (λ p. same_number indicator p.indicator) row.now.items }
 {
     if row.len() < LONG {
         return searched(row, indicator);
@@ -74,34 +82,39 @@ pub(crate) fn place(
 }
 
 // The order of a property that is new in a row.
-fn next_order(row: &[NumberedProperty]) -> Result<u64, AllocError>
-    ensures { IfOk result (λ next. IsRising (orders row.now)
-        → (k : ℕ) → k < length row.now → (nth (orders row.now) k).1 < next) }
+fn next_order(row: &Row) -> Result<u64, AllocError>
+    ensures { IfOk result (λ next. IsRising (orders row.now.items)
+        → (k : ℕ) → k < length row.now.items → (nth (orders row.now.items) k).1 < next) }
 {
-    match row.last() {
-        Some(last) => match last.order.checked_add(1) {
-            Some(next) => Ok(next),
-            None => Err(AllocError),
-        },
-        None => Ok(0),
+    let count = row.len();
+    if count == 0 {
+        return Ok(0);
+    }
+    match row.order(count - 1).checked_add(1) {
+        Some(next) => Ok(next),
+        None => Err(AllocError),
     }
 }
 
 // The index of a row, if its orders rise and no indicator comes twice.
-fn index_of(alloc: Global, row: &[NumberedProperty]) -> Result<Option<Index>, AllocError>
-    ensures { IfOk result (λ index. IfSome index (λ x. IsIndexed x.entries (orders row.now))) }
+fn index_of(alloc: Global, row: &Row) -> Result<Option<Index>, AllocError>
+    ensures { IfOk result (λ index. IfSome index (λ x. IsIndexed x.entries (orders row.now.items))) }
 {
     let mut index = BTreeMap::new(alloc);
     let mut next = 0;
-    for property in row {
-        if property.order < next || index.contains_key(&property.indicator) {
+    let count = row.len();
+    let mut place = 0;
+    while place < count {
+        let (indicator, order) = (row.indicator(place), row.order(place));
+        if order < next || index.contains_key(&indicator) {
             return Ok(None);
         }
-        let Some(above) = property.order.checked_add(1) else {
+        let Some(above) = order.checked_add(1) else {
             return Ok(None);
         };
         next = above;
-        index.insert(property.indicator, property.order)?;
+        index.insert(indicator, order)?;
+        place += 1;
     }
     Ok(Some(index))
 }
@@ -109,12 +122,12 @@ fn index_of(alloc: Global, row: &[NumberedProperty]) -> Result<Option<Index>, Al
 // Makes the index of a long row where it has none, and makes it anew where most of its indicators are gone from the row.
 fn make_index(
     alloc: Global,
-    row: &[NumberedProperty],
+    row: &Row,
     indexes: &mut Indexes,
     number: u32,
 ) -> Result<(), AllocError>
-    requires { IsIndexedIn indexes.old.entries number row.now }
-    ensures indexed { IsIndexedIn indexes.new.entries number row.now }
+    requires { IsIndexedIn indexes.old.entries number row.now.items }
+    ensures indexed { IsIndexedIn indexes.new.entries number row.now.items }
     ensures others { KeepsOthers indexes.old.entries indexes.new.entries number }
 {
     let is_kept = match indexes.get(&number) {
@@ -135,18 +148,18 @@ fn make_index(
 
 // Gives the index of a row, if it has one, the order of an indicator that is new in it.
 fn note_order(
-    row: &[NumberedProperty],
+    row: &Row,
     indexes: &mut Indexes,
     number: u32,
     indicator: u32,
     order: u64,
 ) -> Result<(), AllocError>
-    requires indexed { IsIndexedIn indexes.old.entries number row.now }
-    requires new { position (λ p. same_number indicator p.indicator) row.now ≡ None }
-    requires above { IsRising (orders row.now) → (k : ℕ) → k < length row.now → (nth (orders row.now) k).1 < order }
-    ensures indexed { IsIndexedIn indexes.new.entries number row.now }
+    requires indexed { IsIndexedIn indexes.old.entries number row.now.items }
+    requires new { position (λ p. same_number indicator p.indicator) row.now.items ≡ None }
+    requires above { IsRising (orders row.now.items) → (k : ℕ) → k < length row.now.items → (nth (orders row.now.items) k).1 < order }
+    ensures indexed { IsIndexedIn indexes.new.entries number row.now.items }
     ensures next { OnOk result ((p : Numbered) → p.indicator ≡ indicator → p.order ≡ order
-        → IsIndexedIn indexes.new.entries number (row.now ++ p ∷ [])) }
+        → IsIndexedIn indexes.new.entries number (row.now.items ++ p ∷ [])) }
     ensures others { KeepsOthers indexes.old.entries indexes.new.entries number }
 {
     let Some(index) = indexes.get_mut(&number) else {
@@ -162,16 +175,16 @@ fn note_order(
 /// long row gets one.
 pub(crate) fn new_order(
     alloc: Global,
-    row: &[NumberedProperty],
+    row: &Row,
     indexes: &mut Indexes,
     number: u32,
     indicator: u32,
 ) -> Result<u64, AllocError>
-    requires indexed { IsIndexedIn indexes.old.entries number row.now }
-    requires new { position (λ p. same_number indicator p.indicator) row.now ≡ None }
-    ensures indexed { IsIndexedIn indexes.new.entries number row.now }
+    requires indexed { IsIndexedIn indexes.old.entries number row.now.items }
+    requires new { position (λ p. same_number indicator p.indicator) row.now.items ≡ None }
+    ensures indexed { IsIndexedIn indexes.new.entries number row.now.items }
     ensures next { IfOk result (λ order. (p : Numbered) → p.indicator ≡ indicator → p.order ≡ order
-        → IsIndexedIn indexes.new.entries number (row.now ++ p ∷ [])) }
+        → IsIndexedIn indexes.new.entries number (row.now.items ++ p ∷ [])) }
     ensures others { KeepsOthers indexes.old.entries indexes.new.entries number }
 {
     let order = next_order(row)?;
@@ -181,30 +194,30 @@ pub(crate) fn new_order(
 }
 
 // Whether the orders rise where a property of this order comes to a place.
-fn is_between(row: &[NumberedProperty], place: usize, order: u64) -> bool
-    requires { place ≤ length row.now }
-    ensures below { result ≡ true → 0 < place → (nth (orders row.now) (place - 1)).1 < order }
-    ensures above { result ≡ true → place < length row.now → order < (nth (orders row.now) place).1 }
+fn is_between(row: &Row, place: usize, order: u64) -> bool
+    requires { place ≤ length row.now.items }
+    ensures below { result ≡ true → 0 < place → (nth (orders row.now.items) (place - 1)).1 < order }
+    ensures above { result ≡ true → place < length row.now.items → order < (nth (orders row.now.items) place).1 }
 {
-    if place > 0 && row[place - 1].order >= order {
+    if place > 0 && row.order(place - 1) >= order {
         return false;
     }
-    place == row.len() || order < row[place].order
+    place == row.len() || order < row.order(place)
 }
 
 // Whether a property that comes to a place of the row of a number is new there, and its order between those beside it.
 fn fits(
-    row: &[NumberedProperty],
+    row: &Row,
     indexes: &Indexes,
     number: u32,
     index: usize,
     property: &NumberedProperty,
 ) -> bool
-    requires indexed { IsIndexedIn indexes.now.entries number row.now }
-    requires index { index ≤ length row.now }
-    ensures new { result ≡ true → position (λ p. same_number property.now.indicator p.indicator) row.now ≡ None }
-    ensures below { result ≡ true → 0 < index → (nth (orders row.now) (index - 1)).1 < property.now.order }
-    ensures above { result ≡ true → index < length row.now → property.now.order < (nth (orders row.now) index).1 }
+    requires indexed { IsIndexedIn indexes.now.entries number row.now.items }
+    requires index { index ≤ length row.now.items }
+    ensures new { result ≡ true → position (λ p. same_number property.now.indicator p.indicator) row.now.items ≡ None }
+    ensures below { result ≡ true → 0 < index → (nth (orders row.now.items) (index - 1)).1 < property.now.order }
+    ensures above { result ≡ true → index < length row.now.items → property.now.order < (nth (orders row.now.items) index).1 }
 {
     if place(row, indexes, number, property.indicator).is_some() {
         return false;
@@ -229,15 +242,15 @@ fn set_order(index: &mut Index, indicator: u32, order: u64) -> bool
 /// A property comes back to a place of the row of a number: its index knows it then. Where it does not fit, the row has no
 /// index any more.
 pub(crate) fn note_back(
-    row: &[NumberedProperty],
+    row: &Row,
     indexes: &mut Indexes,
     number: u32,
     index: usize,
     property: &NumberedProperty,
 )
-    requires indexed { IsIndexedIn indexes.old.entries number row.now }
-    requires index { index ≤ length row.now }
-    ensures indexed { IsIndexedIn indexes.new.entries number (insert row.now index property.now) }
+    requires indexed { IsIndexedIn indexes.old.entries number row.now.items }
+    requires index { index ≤ length row.now.items }
+    ensures indexed { IsIndexedIn indexes.new.entries number (insert row.now.items index property.now) }
     ensures others { KeepsOthers indexes.old.entries indexes.new.entries number }
 {
     if fits(row, indexes, number, index, property) {

@@ -1,45 +1,39 @@
 //! The rows of properties, by the numbers of their symbols: look-ups, single changes, and how each is taken back.
-ghost use Rattle.std.specs.Prelude.{◌≡◌, ◌≤◌, true, [], map, length, Some, None, is_some, unwrap_or, IfOk, OnOk, IfErr, OnErr, IfSome, MatchOption, All, IsSome, vec_capacity};
+ghost use Rattle.std.specs.Prelude.{◌≡◌, ◌≤◌, true, [], map, length, Some, None, is_some, unwrap_or, IfOk, OnOk, IfErr, OnErr, IfSome, MatchOption, All, IsSome};
 ghost use Rattle.std.specs.List.{position};
 ghost use Rattle.std.specs.Option.{option_map};
 ghost use Rattle.std.specs.FinMap as finite;
 ghost use Rattle.lisp_object.specs.Datum.{object_of, is_proper};
+ghost use Rattle.property_rows.specs.Rows.{room};
 ghost use Rattle.plist_state.specs.Properties.{value_by, with_value_by, without_value_by};
 ghost use Rattle.plist_state.specs.Pushed.{holds_pair, with_pushed_by, with_pushed_in};
 ghost use Rattle.plist_state.specs.Lists.{same_number, row_of, value_in, with_row, with_value_in, without_value_in};
-ghost use Rattle.plist_state.specs.Shown.{numbered_property, plist_of, lists_of, row_at, room_at};
+ghost use Rattle.plist_state.specs.Shown.{items_in, numbered_property, plist_of, lists_of, row_at, room_at};
 ghost use Rattle.plist_state.specs.Undoing.{list_before, GoesBack};
 ghost use Rattle.plist_state.specs.Indexed.{IsIndexedIn, AreIndexed, KeepsOthers};
 ghost use Rattle.plist_state.specs.Kept.{IsProperRow, IsProperRows, IsProperChange, IsEmptyList, IsWider};
 
 use crate::first_items::{put_first, take_first};
 use crate::note::PropertyChange;
-use crate::property::NumberedProperty;
 use crate::row_index::{Indexes, new_order, note_back, place};
 use lisp_object::Datum;
+use property_rows::{NumberedProperty, Row};
 use std::alloc::{AllocError, Global};
 use std::collections::BTreeMap;
-use std::mem;
 
 /// The properties of the symbol of a number.
-pub(crate) fn row<'a>(
-    rows: &'a BTreeMap<u32, Vec<NumberedProperty>>,
-    number: u32,
-) -> &'a [NumberedProperty]
+pub(crate) fn row<'a>(rows: &'a BTreeMap<u32, Row>, number: u32) -> Option<&'a Row>
     requires { IsProperRows rows.now.entries }
-    ensures list { map numbered_property result.now ≡ row_of (lists_of rows.now) number }
-    ensures proper { All (λ p. is_proper p.value ≡ true) result.now }
+    ensures list { map numbered_property (items_in result) ≡ row_of (lists_of rows.now) number }
+    ensures proper { All (λ p. is_proper p.value ≡ true) (items_in result) }
     ensures indexed { (indexes : _) → AreIndexed rows.now.entries indexes
-        → IsIndexedIn indexes number result.now }
+        → IsIndexedIn indexes number (items_in result) }
 {
-    match rows.get(&number) {
-        Some(row) => row.as_slice(),
-        None => &[],
-    }
+    rows.get(&number)
 }
 
 /// Whether the symbol of a number has properties.
-pub(crate) fn has_properties(rows: &BTreeMap<u32, Vec<NumberedProperty>>, number: u32) -> bool
+pub(crate) fn has_properties(rows: &BTreeMap<u32, Row>, number: u32) -> bool
     ensures { result ≡ finite.contains_key (lists_of rows.now) number }
 {
     match rows.get(&number) {
@@ -50,7 +44,7 @@ pub(crate) fn has_properties(rows: &BTreeMap<u32, Vec<NumberedProperty>>, number
 
 /// The value beside an indicator in the property list of the symbol of a number.
 pub(crate) fn value<'a>(
-    rows: &'a BTreeMap<u32, Vec<NumberedProperty>>,
+    rows: &'a BTreeMap<u32, Row>,
     indexes: &Indexes,
     number: u32,
     indicator: u32,
@@ -61,9 +55,11 @@ pub(crate) fn value<'a>(
         ≡ value_in (lists_of rows.now) number indicator }
     ensures proper { IfSome result (λ d. is_proper d.now ≡ true) }
 {
-    let row = row(rows, number);
+    let Some(row) = row(rows, number) else {
+        return None;
+    };
     match place(row, indexes, number, indicator) {
-        Some(index) => Some(&row[index].value),
+        Some(index) => Some(row.value(index)),
         None => None,
     }
 }
@@ -71,7 +67,7 @@ pub(crate) fn value<'a>(
 // Sets the value beside an indicator in a row, in its place or last.
 fn write(
     alloc: Global,
-    row: &mut Vec<NumberedProperty>,
+    row: &mut Row,
     indexes: &mut Indexes,
     number: u32,
     indicator: u32,
@@ -85,18 +81,18 @@ fn write(
     ensures back { IfOk result (GoesBack (plist_of row.old) (plist_of row.new)) }
     ensures values { IsProperRow row.old → IsProperRow row.new }
     ensures former { IsProperRow row.old → IfOk result IsProperChange }
-    ensures room { vec_capacity row.old ≤ vec_capacity row.new }
+    ensures room { room row.old ≤ room row.new }
     ensures err { OnErr result (row.new.items ≡ row.old.items) }
     ensures indexed { IsIndexedIn indexes.new.entries number row.new.items }
     ensures others { KeepsOthers indexes.old.entries indexes.new.entries number }
 {
-    match place(row.as_slice(), indexes, number, indicator) {
+    match place(row, indexes, number, indicator) {
         Some(index) => {
-            let value = mem::replace(&mut row[index].value, value);
+            let value = row.replace(index, value);
             Ok(PropertyChange::Set { index, value })
         }
         None => {
-            let order = new_order(alloc, row.as_slice(), indexes, number, indicator)?;
+            let order = new_order(alloc, row, indexes, number, indicator)?;
             row.push(NumberedProperty {
                 indicator,
                 order,
@@ -109,7 +105,7 @@ fn write(
 
 // Puts an item before the list that is beside an indicator in a row. `empty` is NIL.
 fn write_first(
-    row: &mut Vec<NumberedProperty>,
+    row: &mut Row,
     indexes: &Indexes,
     number: u32,
     indicator: u32,
@@ -126,24 +122,22 @@ fn write_first(
     ensures back { IfOk result (GoesBack (plist_of row.old) (plist_of row.new)) }
     ensures values { IsProperRow row.new }
     ensures former { IfOk result IsProperChange }
-    ensures room { vec_capacity row.old ≤ vec_capacity row.new }
+    ensures room { room row.old ≤ room row.new }
     ensures err { OnErr result (plist_of row.new ≡ plist_of row.old) }
     ensures indexed { IsIndexedIn indexes.now.entries number row.new.items }
 {
-    let Some(index) = place(row.as_slice(), indexes, number, indicator) else {
+    let Some(index) = place(row, indexes, number, indicator) else {
         unreachable!()
     };
-    put_first(&mut row[index].value, first)?;
+    let mut list = row.replace(index, Datum::Integer(0));
+    let pushed = put_first(&mut list, first);
+    let _ = row.replace(index, list);
+    pushed?;
     Ok(PropertyChange::Pushed { index, empty })
 }
 
 // Takes a property out of a row.
-fn cut(
-    row: &mut Vec<NumberedProperty>,
-    indexes: &Indexes,
-    number: u32,
-    indicator: u32,
-) -> Option<PropertyChange>
+fn cut(row: &mut Row, indexes: &Indexes, number: u32, indicator: u32) -> Option<PropertyChange>
     requires { IsIndexedIn indexes.now.entries number row.old.items }
     ensures after { plist_of row.new
         ≡ without_value_by same_number (plist_of row.old) indicator }
@@ -152,10 +146,10 @@ fn cut(
     ensures back { IfSome result (GoesBack (plist_of row.old) (plist_of row.new)) }
     ensures values { IsProperRow row.old → IsProperRow row.new }
     ensures former { IsProperRow row.old → IfSome result IsProperChange }
-    ensures room { vec_capacity row.old ≤ vec_capacity row.new }
+    ensures room { room row.old ≤ room row.new }
     ensures indexed { IsIndexedIn indexes.now.entries number row.new.items }
 {
-    match place(row.as_slice(), indexes, number, indicator) {
+    match place(row, indexes, number, indicator) {
         Some(index) => {
             let property = row.remove(index);
             Some(PropertyChange::Removed { index, property })
@@ -165,39 +159,36 @@ fn cut(
 }
 
 // Takes a change of a row back. There is memory for what it was.
-fn revert(
-    row: &mut Vec<NumberedProperty>,
-    indexes: &mut Indexes,
-    number: u32,
-    change: PropertyChange,
-)
+fn revert(row: &mut Row, indexes: &mut Indexes, number: u32, change: PropertyChange)
     requires former { IsProperChange change }
     requires indexed { IsIndexedIn indexes.old.entries number row.old.items }
     requires values { IsProperRow row.old }
-    requires room { length (list_before change (plist_of row.old)) ≤ vec_capacity row.old }
+    requires room { length (list_before change (plist_of row.old)) ≤ room row.old }
     ensures after { plist_of row.new ≡ list_before change (plist_of row.old) }
     ensures values { IsProperRow row.old → IsProperRow row.new }
-    ensures room { vec_capacity row.old ≤ vec_capacity row.new }
+    ensures room { room row.old ≤ room row.new }
     ensures indexed { IsIndexedIn indexes.new.entries number row.new.items }
     ensures others { KeepsOthers indexes.old.entries indexes.new.entries number }
 {
     match change {
         PropertyChange::Set { index, value } => {
             if index < row.len() {
-                row[index].value = value;
+                let _ = row.replace(index, value);
             }
         }
         PropertyChange::Added => {
-            let _added = row.pop();
+            row.pop();
         }
         PropertyChange::Pushed { index, empty } => {
             if index < row.len() {
-                take_first(&mut row[index].value, empty);
+                let mut list = row.replace(index, Datum::Integer(0));
+                take_first(&mut list, empty);
+                let _ = row.replace(index, list);
             }
         }
         PropertyChange::Removed { index, property } => {
             let index = index.min(row.len());
-            note_back(row.as_slice(), indexes, number, index, &property);
+            note_back(row, indexes, number, index, &property);
             if let Err(_) = row.insert(index, property) {
                 unreachable!()
             }
@@ -206,11 +197,7 @@ fn revert(
 }
 
 // An empty row for a number that has none.
-fn add_row(
-    alloc: Global,
-    rows: &mut BTreeMap<u32, Vec<NumberedProperty>>,
-    number: u32,
-) -> Result<(), AllocError>
+fn add_row(alloc: Global, rows: &mut BTreeMap<u32, Row>, number: u32) -> Result<(), AllocError>
     ensures there { OnOk result (IsSome (row_at rows.new.entries number)) }
     ensures same { lists_of rows.new ≡ lists_of rows.old }
     ensures wider { IsWider rows.old.entries rows.new.entries }
@@ -221,7 +208,7 @@ fn add_row(
         return Ok(());
     }
     // Most symbols have one property.
-    let row = Vec::with_capacity(alloc, 1)?;
+    let row = Row::with_capacity(alloc, 1)?;
     match rows.insert(number, row) {
         Ok(_) => Ok(()),
         Err(_) => Err(AllocError),
@@ -231,7 +218,7 @@ fn add_row(
 // Sets the value beside an indicator in the row of a number, which is there.
 fn write_at(
     alloc: Global,
-    rows: &mut BTreeMap<u32, Vec<NumberedProperty>>,
+    rows: &mut BTreeMap<u32, Row>,
     indexes: &mut Indexes,
     number: u32,
     indicator: u32,
@@ -262,7 +249,7 @@ fn write_at(
 /// Sets the value beside an indicator of the symbol of a number, in its place or last.
 pub(crate) fn put(
     alloc: Global,
-    rows: &mut BTreeMap<u32, Vec<NumberedProperty>>,
+    rows: &mut BTreeMap<u32, Row>,
     indexes: &mut Indexes,
     number: u32,
     indicator: u32,
@@ -286,7 +273,7 @@ pub(crate) fn put(
 
 /// Puts an item before the list that is beside an indicator of the symbol of a number. `empty` is NIL.
 pub(crate) fn push(
-    rows: &mut BTreeMap<u32, Vec<NumberedProperty>>,
+    rows: &mut BTreeMap<u32, Row>,
     indexes: &Indexes,
     number: u32,
     indicator: u32,
@@ -318,7 +305,7 @@ pub(crate) fn push(
 
 /// Takes the property of an indicator out of the list of the symbol of a number, if it is there.
 pub(crate) fn remove(
-    rows: &mut BTreeMap<u32, Vec<NumberedProperty>>,
+    rows: &mut BTreeMap<u32, Row>,
     indexes: &Indexes,
     number: u32,
     indicator: u32,
@@ -343,7 +330,7 @@ pub(crate) fn remove(
 
 /// Takes a change of the property list of the symbol of a number back. There is memory for what it was.
 pub(crate) fn take_back(
-    rows: &mut BTreeMap<u32, Vec<NumberedProperty>>,
+    rows: &mut BTreeMap<u32, Row>,
     indexes: &mut Indexes,
     number: u32,
     change: PropertyChange,

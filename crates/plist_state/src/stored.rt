@@ -12,12 +12,12 @@ ghost use Rattle.plist_state.specs.Journal.{marks_of, Continues};
 
 use crate::journal::{push_note, reserve_note};
 use crate::note::Note;
-use crate::property::NumberedProperty;
 use crate::row_index::Indexes;
 use crate::rows;
 use crate::tables::{STANDARD, USER};
 use lisp_object::Datum;
 use package_table::standardized::COMMON_LISP_USER;
+use property_rows::Row;
 use readtable_core::Readtable;
 use std::alloc::{AllocError, Global};
 use std::collections::BTreeMap;
@@ -27,7 +27,7 @@ use std::collections::BTreeMap;
 /// A row that was emptied stays, so that to go back takes no memory: the symbol has no property list then.
 #[derive(Drop)]
 pub(crate) struct Stored {
-    pub(crate) properties: BTreeMap<u32, Vec<NumberedProperty>>,
+    pub(crate) properties: BTreeMap<u32, Row>,
     pub(crate) indexes: Indexes,
     pub(crate) readtables: BTreeMap<Vec<u8>, Readtable>,
     pub(crate) current_package: Vec<u8>,

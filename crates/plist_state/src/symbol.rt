@@ -2,14 +2,15 @@
 ghost use Rattle.std.specs.Prelude.{◌≡◌, IfOk};
 ghost use Rattle.plist_state.specs.Shown.{symbol_of, symbol_named};
 
+use lisp_object::Bytes;
 use std::alloc::{AllocError, Global};
 
 /// An interned symbol: the name of its home package, and its own name, of bytes below 128. Symbols are compared by
 /// their homes and then by their names.
-#[derive(Debug, PartialEq, Eq, PartialOrd, Ord, Drop)]
+#[derive(Debug, PartialEq, Eq, Drop)]
 pub struct Symbol {
-    pub home: Vec<u8>,
-    pub name: Vec<u8>,
+    pub home: Bytes,
+    pub name: Bytes,
 }
 
 impl Symbol {
@@ -17,8 +18,8 @@ impl Symbol {
     pub fn from_bytes(alloc: Global, home: &[u8], name: &[u8]) -> Result<Symbol, AllocError>
         ensures { IfOk result (λ s. symbol_of s ≡ (home.now, name.now)) }
     {
-        let home = Vec::from_slice(alloc, home)?;
-        let name = Vec::from_slice(alloc, name)?;
+        let home = Bytes::from_slice(alloc, home)?;
+        let name = Bytes::from_slice(alloc, name)?;
         Ok(Symbol { home, name })
     }
 
@@ -36,14 +37,14 @@ impl Symbol {
     pub fn home(&self) -> &[u8]
         ensures { result.now ≡ (symbol_of self.now).0 }
     {
-        &self.home
+        self.home.as_slice()
     }
 
     /// Its name.
     pub fn name(&self) -> &[u8]
         ensures { result.now ≡ (symbol_of self.now).1 }
     {
-        &self.name
+        self.name.as_slice()
     }
 }
 

@@ -157,7 +157,7 @@ impl World {
             Some(number) => {
                 PropertyList::new(&self.packages, rows::row(&self.stored.properties, number))
             }
-            None => PropertyList::new(&self.packages, &[]),
+            None => PropertyList::new(&self.packages, None),
         }
     }
 }

@@ -1,7 +1,10 @@
-use Rattle.std.proofs.Common.{arith}
+use Rattle.std.proofs.Common.{◌≡◌, ◌-◌, ℕ, length, ap, ◌∙◌, arith}
+use Rattle.plist_state.proofs.Indices.{item_at}
 use Rattle.plist_state.proofs.Indexing.{above_last}
 use Rattle.plist_state.proofs.row_index.next_order.Goals as goal
 
-pub returns-in-Some-checked_add : goal.returns-in-Some-checked_add
-returns-in-Some-checked_add c = λ rising k less.
-    above_last c.args.row.now c.in-Some.last.now c.in-Some.ensures.value rising k less c.in-Some-checked_add.next (let is = c.in-Some-checked_add.ensures in omega (arith, is.1))
+pub returns-in-Some : goal.returns-in-Some
+returns-in-Some c = λ rising k less.
+    let items = c.args.row.now.items in
+    let last : c.order.result ≡ (item_at items (length items - 1)).order = c.order.ensures ∙ ap (λ (n : ℕ). (item_at items (n - 1)).order) c.len-count.ensures in
+    above_last items c.order.result last rising k less c.in-Some.next (let is = c.in-Some.ensures in omega (arith, is.1))

@@ -23,7 +23,7 @@ returns-in-Ok-clause-same c =
     let rows = c.args.rows.now.entries in
     let x = c.args.number in
     let none : row_at rows x ≡ None = no_row rows x c.contains_key.result c.contains_key.ensures c.if-contains_key.false in
-    let w : IsWritten rows c.insert.new.self.entries x [] = grown rows _ x c.in_ok-row.row c.in-Ok.ensures.entries none c.in_ok-row.ensures.items in
+    let w : IsWritten rows c.insert.new.self.entries x [] = grown rows _ x c.in_ok-row.row c.in-Ok.ensures.entries none c.in_ok-row.ensures in
     written_same rows _ x [] w (sym (row-lists_in rows x ∙ ap (λ o. option_map_or plist_of o []) none))
 
 pub returns-in-Ok-clause-wider : goal.returns-in-Ok-clause-wider
@@ -31,7 +31,7 @@ returns-in-Ok-clause-wider c =
     let rows = c.args.rows.now.entries in
     let x = c.args.number in
     let none : row_at rows x ≡ None = no_row rows x c.contains_key.result c.contains_key.ensures c.if-contains_key.false in
-    (grown rows _ x c.in_ok-row.row c.in-Ok.ensures.entries none c.in_ok-row.ensures.items).wider
+    (grown rows _ x c.in_ok-row.row c.in-Ok.ensures.entries none c.in_ok-row.ensures).wider
 
 pub returns-in-Ok-clause-indexed : goal.returns-in-Ok-clause-indexed
 returns-in-Ok-clause-indexed c = λ indexes all.
@@ -39,7 +39,7 @@ returns-in-Ok-clause-indexed c = λ indexes all.
     let x = c.args.number in
     let row = c.in_ok-row.row in
     are_indexed rows c.insert.new.self.entries indexes indexes x row all (put_insert rows c.insert.new.self.entries x row c.in-Ok.ensures.entries)
-    (subst (IsIndexedIn indexes x) (sym c.in_ok-row.ensures.items) (λ i is. IsIndexed-nil i.entries)) (λ q other. refl)
+    (subst (IsIndexedIn indexes x) (sym c.in_ok-row.ensures) (λ i is. IsIndexed-nil i.entries)) (λ q other. refl)
 
 pub returns-clause-indexed : goal.returns-clause-indexed
 returns-clause-indexed c = λ indexes all. still_indexed c.args.rows.now.entries c.insert.new.self.entries indexes c.in-Err.ensures.err all

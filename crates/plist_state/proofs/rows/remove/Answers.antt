@@ -1,13 +1,12 @@
 use Rattle.std.proofs.Common.{◌≡◌, [], is_some, sym, ap, subst, ◌∙◌, refl, ℕ}
 use Rattle.std.specs.Prelude.{IfSome}
+use Rattle.property_rows.specs.Rows.{PropertyRow}
 use Rattle.plist_state.specs.Properties.{value_by, without_value_by}
 use Rattle.plist_state.specs.Lists.{NumberedPlist, same_number, row_of}
 use Rattle.plist_state.specs.Shown.{lists_of, lists_in}
 use Rattle.plist_state.specs.Undoing.{list_before}
 use Rattle.plist_state.proofs.ListRows.{written, lists_made, list_now, row_shown, none_shown, proper_shown, with_row_same, some_in}
-use Rattle.std.specs.Global.{Vec}
 use Rattle.std.specs.BTreeMap.{BTreeMap}
-use Rattle.plist_state.specs.declared.property.NumberedProperty.{NumberedProperty}
 use Rattle.plist_state.proofs.ListRows.{put_set}
 use Rattle.plist_state.proofs.Placing.{are_indexed, still_indexed}
 use Rattle.plist_state.proofs.rows.remove.Goals as goal
@@ -59,4 +58,4 @@ returns-in-Some-clause-indexed c =
 
 pub returns-in-None-clause-indexed : goal.returns-in-None-clause-indexed
 returns-in-None-clause-indexed c =
-    still_indexed c.args.rows.now.entries _ c.args.indexes.now.entries (ap (λ (m : BTreeMap ℕ (Vec NumberedProperty)). m.entries) c.get_mut.follows.holds-at-none) c.requires.indexed
+    still_indexed c.args.rows.now.entries _ c.args.indexes.now.entries (ap (λ (m : BTreeMap ℕ PropertyRow). m.entries) c.get_mut.follows.holds-at-none) c.requires.indexed

@@ -1,27 +1,22 @@
-use Rattle.std.proofs.Common.{All, List, map, true, ◌≡◌, sym, ap, subst, ◌∙◌}
-use Rattle.lisp_object.specs.Datum.{is_proper}
-use Rattle.plist_state.specs.declared.property.NumberedProperty.{NumberedProperty}
-use Rattle.plist_state.specs.Shown.{numbered_property}
-use Rattle.plist_state.proofs.ListRows.{row_shown, none_shown, proper_shown}
-use Rattle.plist_state.specs.Indexed.{IsIndexedIn}
+use Rattle.std.proofs.Common.{◌≡◌, Option, None, Some, ℕ, sym}
+use Rattle.std.specs.Option.{option_copied}
+use Rattle.std.specs.Borrow.{Bor}
+use Rattle.property_rows.specs.Rows.{PropertyRow}
+use Rattle.plist_state.specs.Shown.{Rows, row_at, items_in}
+use Rattle.plist_state.specs.Indexed.{Indexes, IsIndexedIn, AreIndexed}
+use Rattle.plist_state.proofs.ListRows.{list_found, proper_found}
 use Rattle.plist_state.proofs.Indexing.{IsIndexed-nil}
 use Rattle.plist_state.proofs.rows.row.Goals as goal
 
-pub returns-in-Some-clause-list : goal.returns-in-Some-clause-list
-returns-in-Some-clause-list c =
-    ap (map numbered_property) c.as_slice.ensures.value
-    ∙ sym (row_shown c.args.rows.now.entries c.args.number c.in-Some.row.now c.in-Some.ensures.value)
+indexed_found : (rows : Rows) (indexes : Indexes) (x : ℕ) (row : Option (Bor PropertyRow)) → option_copied row ≡ row_at rows x → AreIndexed rows indexes → IsIndexedIn indexes x (items_in row)
+indexed_found rows indexes x None is all = λ i there. IsIndexed-nil i.entries
+indexed_found rows indexes x (Some row) is all = all x row.now (sym is)
 
-pub returns-in-Some-clause-proper : goal.returns-in-Some-clause-proper
-returns-in-Some-clause-proper c =
-    subst (λ (xs : List NumberedProperty). All (λ p. is_proper p.value ≡ true) xs) (sym c.as_slice.ensures.value)
-    (proper_shown c.args.rows.now.entries c.args.number c.in-Some.row.now c.in-Some.ensures.value c.requires)
+pub returns-clause-list : goal.returns-clause-list
+returns-clause-list c = list_found c.args.rows.now.entries c.args.number c.get.result c.get.ensures.value
 
-pub returns-in-None-clause-list : goal.returns-in-None-clause-list
-returns-in-None-clause-list c = sym (none_shown c.args.rows.now.entries c.args.number c.in-None.ensures.value)
+pub returns-clause-proper : goal.returns-clause-proper
+returns-clause-proper c = proper_found c.args.rows.now.entries c.args.number c.get.result c.get.ensures.value c.requires
 
-pub returns-in-Some-clause-indexed : goal.returns-in-Some-clause-indexed
-returns-in-Some-clause-indexed c = λ indexes all. subst (IsIndexedIn indexes c.args.number) (sym c.as_slice.ensures.value) (all c.args.number c.in-Some.row.now (sym c.in-Some.ensures.value))
-
-pub returns-in-None-clause-indexed : goal.returns-in-None-clause-indexed
-returns-in-None-clause-indexed c = λ indexes all x is. IsIndexed-nil x.entries
+pub returns-clause-indexed : goal.returns-clause-indexed
+returns-clause-indexed c = λ indexes all. indexed_found c.args.rows.now.entries indexes c.args.number c.get.result c.get.ensures.value all

@@ -1,12 +1,10 @@
 use Rattle.std.proofs.Common.{◌≡◌, ◌≤◌, [], ◌∷◌, length, refl, sym, ap, ◌∙◌, arith, ℕ}
-use Rattle.std.specs.Prelude.{vec_capacity}
+use Rattle.property_rows.specs.Rows.{PropertyRow, room}
 use Rattle.plist_state.specs.Lists.{NumberedPlist, row_of}
 use Rattle.plist_state.specs.Shown.{plist_of, lists_of, lists_in, room_at}
 use Rattle.plist_state.specs.Undoing.{list_before}
 use Rattle.plist_state.proofs.ListRows.{written, lists_made, row_shown, none_shown, room_shown, no_room, with_row_same, some_in}
-use Rattle.std.specs.Global.{Vec}
 use Rattle.std.specs.BTreeMap.{BTreeMap}
-use Rattle.plist_state.specs.declared.property.NumberedProperty.{NumberedProperty}
 use Rattle.plist_state.proofs.ListRows.{put_set}
 use Rattle.plist_state.proofs.Placing.{are_indexed, still_indexed}
 use Rattle.plist_state.proofs.rows.take_back.Goals as goal
@@ -17,9 +15,9 @@ revert-requires-clause-room c =
     let x = c.args.number in
     let list : length (list_before c.args.change (row_of (lists_in rows) x)) ≡ length (list_before c.args.change (plist_of c.in-Some.row.now)) =
     ap (λ ps. length (list_before c.args.change ps)) (row_shown rows x c.in-Some.row.now c.in-Some.ensures.value) in
-    let room : room_at rows x ≡ vec_capacity c.in-Some.row.now = room_shown rows x c.in-Some.row.now c.in-Some.ensures.value in
+    let same : room_at rows x ≡ room c.in-Some.row.now = room_shown rows x c.in-Some.row.now c.in-Some.ensures.value in
     let fits : length (list_before c.args.change (row_of (lists_in rows) x)) ≤ room_at rows x = c.requires.room in
-    omega (arith, list, room, fits)
+    omega (arith, list, same, fits)
 
 pub returns-in-Some-clause-after : goal.returns-in-Some-clause-after
 returns-in-Some-clause-after c =
@@ -35,9 +33,9 @@ returns-in_default-clause-after c =
     let rows = c.args.rows.now.entries in
     let x = c.args.number in
     let none : row_of (lists_in rows) x ≡ [] = none_shown rows c.args.number c.in_default.ensures.value in
-    let room : room_at rows x ≡ 0 = no_room rows c.args.number c.in_default.ensures.value in
+    let none_at : room_at rows x ≡ 0 = no_room rows c.args.number c.in_default.ensures.value in
     let fits : length (list_before c.args.change (row_of (lists_in rows) x)) ≤ room_at rows x = c.requires.room in
-    let empty : list_before c.args.change (row_of (lists_in rows) x) ≡ [] = no_items _ (omega (arith, room, fits)) in
+    let empty : list_before c.args.change (row_of (lists_in rows) x) ≡ [] = no_items _ (omega (arith, none_at, fits)) in
     ap lists_of c.get_mut.follows.holds-at-none
     ∙ sym (with_row_same (lists_in rows) x _ (some_in rows) (empty ∙ sym none))
   where
@@ -56,4 +54,4 @@ returns-in-Some-clause-indexed c =
 
 pub returns-in_default-clause-indexed : goal.returns-in_default-clause-indexed
 returns-in_default-clause-indexed c =
-    still_indexed c.args.rows.now.entries _ c.args.indexes.now.entries (ap (λ (m : BTreeMap ℕ (Vec NumberedProperty)). m.entries) c.get_mut.follows.holds-at-none) c.requires.indexed
+    still_indexed c.args.rows.now.entries _ c.args.indexes.now.entries (ap (λ (m : BTreeMap ℕ PropertyRow). m.entries) c.get_mut.follows.holds-at-none) c.requires.indexed

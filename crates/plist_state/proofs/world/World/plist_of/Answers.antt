@@ -1,6 +1,7 @@
 use Rattle.std.proofs.Common.{All, sym, ap, subst, ◌∙◌}
 use Rattle.package_table.specs.Numbers.{numbered}
 use Rattle.plist_state.specs.Lists.{NumberedPlist, IsNumber, named}
+use Rattle.plist_state.specs.Shown.{items_in}
 use Rattle.plist_state.proofs.InState.{row_seen, none_seen}
 use Rattle.plist_state.proofs.Viewed.{are_numbers}
 use Rattle.plist_state.proofs.world.World.plist_of.Goals as goal
@@ -8,7 +9,7 @@ use Rattle.plist_state.proofs.world.World.plist_of.Goals as goal
 pub new-requires-clause-indicators : goal.new-requires-clause-indicators
 new-requires-clause-indicators c =
     let s = numbered c.self.inside.packages in
-    are_numbers s c.row.result.now
+    are_numbers s (items_in c.row.result)
     (subst (λ (ps : NumberedPlist). All (λ p. IsNumber s p.0) ps) (sym c.row.ensures.list) (c.self.invariant.owned.indicators c.in-Some.number))
 
 pub returns-in-Some : goal.returns-in-Some

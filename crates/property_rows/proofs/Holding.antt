@@ -1,0 +1,132 @@
+-- The slots of properties.
+--     slot_at-within, slot_at-shown      the slot of a property
+--     removed, replaced, inserted      a slot that leaves, is written, or comes back
+--     shown-set, shown-written, shown-turned, got_same      what slots show, after a write
+use Rattle.std.proofs.Common.{◌≡◌, ℕ, zero, suc, ◌≤◌, ◌<◌, true, false, cond, List, [], ◌∷◌, map, length, get_or, set, refl, sym, ap, ◌∙◌, arith}
+use Rattle.std.specs.List.{insert, remove}
+use Rattle.property_rows.specs.declared.slot.Slot.{Slot}
+use Rattle.property_rows.specs.declared.property.NumberedProperty.{NumberedProperty}
+use Rattle.property_rows.specs.Slots.{is_gone, property_in, there, slot_at, shown, blank, no_property}
+use Rattle.std.proofs.lemmas.Bool.{false≢true}
+use Rattle.std.proofs.lemmas.List.{length-map}
+use Rattle.property_rows.proofs.Turned.{Shown, there_of, there_shown, shown_at}
+
+pub slot_at-within : (slots : List Slot) (i : ℕ) → i < length (there slots) → slot_at slots i < length slots
+slot_at-within [] i le = absurd (omega (arith, le))
+slot_at-within (s ∷ ss) zero le =
+    elim (is_gone s) as (λ g. zero < length (cond g (there ss) (property_in s ∷ there ss)) → cond g (suc (slot_at ss zero)) 0 < suc (length ss)) [
+      | true ↦ λ le. let h = slot_at-within ss zero le in omega (arith, h)
+      | false ↦ λ le. omega arith
+    ] le
+slot_at-within (s ∷ ss) (suc i) le =
+    elim (is_gone s) as (λ g. suc i < length (cond g (there ss) (property_in s ∷ there ss)) → suc (slot_at ss (cond g (suc i) i)) < suc (length ss)) [
+      | true ↦ λ le. let h = slot_at-within ss (suc i) le in omega (arith, h)
+      | false ↦ λ le. let h = slot_at-within ss i (omega (arith, le)) in omega (arith, h)
+    ] le
+
+pub slot_at-shown : (slots : List Slot) (i : ℕ) → i < length (there slots) → shown (get_or slots (slot_at slots i) blank) ≡ (false, get_or (there slots) i no_property)
+slot_at-shown [] i le = absurd (omega (arith, le))
+slot_at-shown (s ∷ ss) zero le =
+    elim (is_gone s) as (λ g. is_gone s ≡ g → zero < length (cond g (there ss) (property_in s ∷ there ss))
+    → shown (get_or (s ∷ ss) (cond g (suc (slot_at ss zero)) 0) blank) ≡ (false, get_or (cond g (there ss) (property_in s ∷ there ss)) zero no_property)) [
+      | true ↦ λ t le. slot_at-shown ss zero le
+      | false ↦ λ t le. ap (λ b. (b, property_in s)) t
+    ] refl le
+slot_at-shown (s ∷ ss) (suc i) le =
+    elim (is_gone s) as (λ g. suc i < length (cond g (there ss) (property_in s ∷ there ss))
+    → shown (get_or ss (slot_at ss (cond g (suc i) i)) blank) ≡ (false, get_or (cond g (there ss) (property_in s ∷ there ss)) (suc i) no_property)) [
+      | true ↦ λ le. slot_at-shown ss (suc i) le
+      | false ↦ λ le. slot_at-shown ss i (omega (arith, le))
+    ] le
+
+pub removed : (slots : List Slot) (i : ℕ) (q : NumberedProperty) → i < length (there slots) → there_of (set (map shown slots) (slot_at slots i) (true, q)) ≡ remove (there slots) i
+removed [] i q le = absurd (omega (arith, le))
+removed (s ∷ ss) zero q le =
+    elim (is_gone s) as (λ g. zero < length (cond g (there ss) (property_in s ∷ there ss))
+    → there_of (set ((g, property_in s) ∷ map shown ss) (cond g (suc (slot_at ss zero)) 0) (true, q)) ≡ remove (cond g (there ss) (property_in s ∷ there ss)) zero) [
+      | true ↦ λ le. removed ss zero q le
+      | false ↦ λ le. sym (there_shown ss)
+    ] le
+removed (s ∷ ss) (suc i) q le =
+    elim (is_gone s) as (λ g. suc i < length (cond g (there ss) (property_in s ∷ there ss))
+    → there_of ((g, property_in s) ∷ set (map shown ss) (slot_at ss (cond g (suc i) i)) (true, q)) ≡ remove (cond g (there ss) (property_in s ∷ there ss)) (suc i)) [
+      | true ↦ λ le. removed ss (suc i) q le
+      | false ↦ λ le. ap (λ ps. property_in s ∷ ps) (removed ss i q (omega (arith, le)))
+    ] le
+
+pub replaced : (slots : List Slot) (i : ℕ) (q : NumberedProperty) → i < length (there slots) → there_of (set (map shown slots) (slot_at slots i) (false, q)) ≡ set (there slots) i q
+replaced [] i q le = absurd (omega (arith, le))
+replaced (s ∷ ss) zero q le =
+    elim (is_gone s) as (λ g. zero < length (cond g (there ss) (property_in s ∷ there ss))
+    → there_of (set ((g, property_in s) ∷ map shown ss) (cond g (suc (slot_at ss zero)) 0) (false, q)) ≡ set (cond g (there ss) (property_in s ∷ there ss)) zero q) [
+      | true ↦ λ le. replaced ss zero q le
+      | false ↦ λ le. ap (λ ps. q ∷ ps) (sym (there_shown ss))
+    ] le
+replaced (s ∷ ss) (suc i) q le =
+    elim (is_gone s) as (λ g. suc i < length (cond g (there ss) (property_in s ∷ there ss))
+    → there_of ((g, property_in s) ∷ set (map shown ss) (slot_at ss (cond g (suc i) i)) (false, q)) ≡ set (cond g (there ss) (property_in s ∷ there ss)) (suc i) q) [
+      | true ↦ λ le. replaced ss (suc i) q le
+      | false ↦ λ le. ap (λ ps. property_in s ∷ ps) (replaced ss i q (omega (arith, le)))
+    ] le
+
+later_slot : (slots : List Slot) (i : ℕ) → suc i ≤ length (there slots) → slot_at slots (suc i) ≡ 0 → ⊥
+later_slot [] i le none = omega (arith, le)
+later_slot (s ∷ ss) i le none = omega (arith, none)
+
+-- the slot before that of an index is gone
+pub inserted : (slots : List Slot) (i j : ℕ) (q : NumberedProperty) → i ≤ length (there slots) → slot_at slots i ≡ suc j → is_gone (get_or slots j blank) ≡ true
+    → there_of (set (map shown slots) j (false, q)) ≡ insert (there slots) i q
+inserted [] i j q le at gone = absurd (omega (arith, at))
+inserted (s ∷ ss) zero zero q le at gone =
+    elim (is_gone s) as (λ g. is_gone s ≡ g → q ∷ there_of (map shown ss) ≡ insert (cond g (there ss) (property_in s ∷ there ss)) zero q) [
+      | true ↦ λ t. ap (λ ps. q ∷ ps) (sym (there_shown ss))
+      | false ↦ λ t. absurd (false≢true (sym t ∙ gone))
+    ] refl
+inserted (s ∷ ss) zero (suc j) q le at gone =
+    elim (is_gone s) as (λ g. cond g (suc (slot_at ss zero)) 0 ≡ suc (suc j)
+    → there_of ((g, property_in s) ∷ set (map shown ss) j (false, q)) ≡ insert (cond g (there ss) (property_in s ∷ there ss)) zero q) [
+      | true ↦ λ at. inserted ss zero j q (omega arith) (omega (arith, at)) gone
+      | false ↦ λ at. absurd (omega (arith, at))
+    ] at
+inserted (s ∷ ss) (suc i) zero q le at gone =
+    elim (is_gone s) as (λ g. is_gone s ≡ g → suc i ≤ length (cond g (there ss) (property_in s ∷ there ss)) → suc (slot_at ss (cond g (suc i) i)) ≡ 1
+    → q ∷ there_of (map shown ss) ≡ insert (cond g (there ss) (property_in s ∷ there ss)) (suc i) q) [
+      | true ↦ λ t le at. absurd (later_slot ss i le (omega (arith, at)))
+      | false ↦ λ t le at. absurd (false≢true (sym t ∙ gone))
+    ] refl le at
+inserted (s ∷ ss) (suc i) (suc j) q le at gone =
+    elim (is_gone s) as (λ g. suc i ≤ length (cond g (there ss) (property_in s ∷ there ss)) → suc (slot_at ss (cond g (suc i) i)) ≡ suc (suc j)
+    → there_of ((g, property_in s) ∷ set (map shown ss) j (false, q)) ≡ insert (cond g (there ss) (property_in s ∷ there ss)) (suc i) q) [
+      | true ↦ λ le at. inserted ss (suc i) j q le (omega (arith, at)) gone
+      | false ↦ λ le at. ap (λ ps. property_in s ∷ ps) (inserted ss i j q (omega (arith, le)) (omega (arith, at)) gone)
+    ] le at
+
+-- ---- what slots show, after a write
+pub shown-set : (slots : List Slot) (k : ℕ) (t : Slot) → map shown (set slots k t) ≡ set (map shown slots) k (shown t)
+shown-set [] k t = refl
+shown-set (s ∷ ss) zero t = refl
+shown-set (s ∷ ss) (suc k) t = ap (λ es. shown s ∷ es) (shown-set ss k t)
+
+set-twice : (es : List Shown) (k : ℕ) (x y : Shown) → set (set es k x) k y ≡ set es k y
+set-twice [] k x y = refl
+set-twice (e ∷ es) zero x y = refl
+set-twice (e ∷ es) (suc k) x y = ap (λ ts. e ∷ ts) (set-twice es k x y)
+
+set-got : (es : List Shown) (k : ℕ) (x d : Shown) → k < length es → get_or (set es k x) k d ≡ x
+set-got [] k x d le = absurd (omega (arith, le))
+set-got (e ∷ es) zero x d le = refl
+set-got (e ∷ es) (suc k) x d le = set-got es k x d (omega (arith, le))
+
+-- a slot was turned, and then written
+pub shown-written : (a b : List Slot) (k : ℕ) (x : Shown) (t : Slot) → map shown b ≡ set (map shown a) k x → map shown (set b k t) ≡ set (map shown a) k (shown t)
+shown-written a b k x t e = shown-set b k t ∙ ap (λ es. set es k (shown t)) e ∙ set-twice (map shown a) k x (shown t)
+
+pub shown-turned : (a b : List Slot) (k : ℕ) (x : Shown) → k < length a → map shown b ≡ set (map shown a) k x → shown (get_or b k blank) ≡ x
+shown-turned a b k x le e =
+    let long = length-map a shown in
+    sym (shown_at b k blank) ∙ ap (λ es. get_or es k (shown blank)) e ∙ set-got (map shown a) k x (shown blank) (omega (arith, le, long))
+
+pub got_same : (slots : List Slot) (k : ℕ) (s : Slot) → k < length slots → s ≡ get_or slots k s → s ≡ get_or slots k blank
+got_same [] k s le e = absurd (omega (arith, le))
+got_same (t ∷ ts) zero s le e = e
+got_same (t ∷ ts) (suc k) s le e = got_same ts k s (omega (arith, le)) e

@@ -1,0 +1,166 @@
+//! Rows of properties: lists from which a property is taken out, and to which it comes back, without those after it being
+//! moved. What is taken out leaves its slot; slots that are gone are skipped, and dropped when they are more than a quarter.
+ghost use Rattle.std.specs.Prelude.{◌≡◌, ◌+◌, ◌-◌, ◌<◌, ◌≤◌, ◌==◌, [], ◌∷◌, ◌++◌, length, take, is_ok, if◌then◌else◌, IfOk, IsOk, slice_index_or, slice_set};
+ghost use Rattle.std.specs.List.{insert, remove, position};
+ghost use Rattle.property_rows.specs.Slots.{no_property, with_value, has};
+ghost use Rattle.property_rows.specs.Rows.{room};
+
+use crate::NumberedProperty;
+use crate::slot::Slot;
+use crate::slots::{
+    append, bring_back, exchange, gone, holder, pack, place, put_in, search, take_out,
+};
+use lisp_object::Datum;
+use std::alloc::{AllocError, Global};
+use std::marker::Model;
+
+// A row of so many slots has none that are gone.
+const SHORT: usize = 64;
+
+/// The properties of a symbol, in their order. Contracts see a row as its properties and its room: for how many there is memory.
+#[derive(Drop)]
+pub struct Row {
+    slots: Vec<Slot>,
+}
+
+impl Model for Row {
+    ghost use Rattle.property_rows.specs.Rows.{PropertyRow};
+    ghost use Rattle.lisp_object.specs.contracts.datum.Datum as datum_contract;
+    ghost use Rattle.std.specs.Coded.{codes};
+
+    ghost Value = { PropertyRow };
+
+    ghost coded = { Prim.hlevel (codes, datum_contract.the_row.coded) };
+
+    ghost use Rattle.property_rows.specs.Slotted.{row_in, IsRow};
+
+    ghost view = { row_in };
+
+    ghost invariant = { IsRow };
+}
+
+impl Row {
+    /// An empty one, with memory for so many properties.
+    pub fn with_capacity(alloc: Global, count: usize) -> Result<Row, AllocError>
+        ensures { IfOk result (λ row. row.items ≡ []) }
+    {
+        Ok(Row {
+            slots: Vec::with_capacity(alloc, count)?,
+        })
+    }
+
+    /// How many properties there are.
+    pub fn len(&self) -> usize
+        ensures { result ≡ length self.now.items }
+    {
+        self.slots.len() - gone(self.slots.as_slice())
+    }
+
+    /// Whether there are none.
+    pub fn is_empty(&self) -> bool
+        ensures { result ≡ (length self.now.items == 0) }
+    {
+        self.len() == 0
+    }
+
+    /// The indicator at an index.
+    pub fn indicator(&self, index: usize) -> u32
+        requires { index < length self.now.items }
+        ensures { result ≡ (slice_index_or self.now.items index no_property).indicator }
+    {
+        holder(self.slots.as_slice(), index).indicator
+    }
+
+    /// The order of the property at an index.
+    pub fn order(&self, index: usize) -> u64
+        requires { index < length self.now.items }
+        ensures { result ≡ (slice_index_or self.now.items index no_property).order }
+    {
+        holder(self.slots.as_slice(), index).order
+    }
+
+    /// The value at an index.
+    pub fn value(&self, index: usize) -> &Datum
+        requires { index < length self.now.items }
+        ensures { result.now ≡ (slice_index_or self.now.items index no_property).value }
+    {
+        &holder(self.slots.as_slice(), index).value
+    }
+
+    /// Puts another value at an index, and gives the one that was there.
+    pub fn replace(&mut self, index: usize, value: Datum) -> Datum
+        requires { index < length self.old.items }
+        ensures value { result ≡ (slice_index_or self.old.items index no_property).value }
+        ensures items { self.new.items ≡ slice_set self.old.items index (with_value (slice_index_or self.old.items index no_property) value) }
+        ensures room { room self.new ≡ room self.old }
+    {
+        exchange(self.slots.as_mut_slice(), index, value)
+    }
+
+    /// The index of an indicator, from the front.
+    pub fn search(&self, indicator: u32) -> Option<usize>
+        ensures { result ≡ position (has indicator) self.now.items }
+    {
+        if gone(self.slots.as_slice()) == 0 {
+            return search(self.slots.as_slice(), indicator);
+        }
+        let mut index = 0;
+        let count = self.len();
+        while index < count {
+            if self.indicator(index) == indicator {
+                return Some(index);
+            }
+            index += 1;
+        }
+        None
+    }
+
+    /// Adds a property at the end.
+    pub fn push(&mut self, property: NumberedProperty) -> Result<(), AllocError>
+        ensures items { self.new.items ≡ (if is_ok result then self.old.items ++ property ∷ [] else self.old.items) }
+        ensures room { room self.old ≤ room self.new }
+    {
+        append(&mut self.slots, property)
+    }
+
+    /// Takes the property at an index out.
+    pub fn remove(&mut self, index: usize) -> NumberedProperty
+        requires { index < length self.old.items }
+        ensures value { result ≡ slice_index_or self.old.items index result }
+        ensures items { self.new.items ≡ remove self.old.items index }
+        ensures room { room self.new ≡ room self.old }
+    {
+        let property = take_out(self.slots.as_mut_slice(), index);
+        let count = self.slots.len();
+        if count <= SHORT || gone(self.slots.as_slice()) > count / 4 {
+            pack(&mut self.slots);
+        }
+        property
+    }
+
+    /// Takes the last property away.
+    pub fn pop(&mut self)
+        ensures items { self.new.items ≡ take (length self.old.items - 1) self.old.items }
+        ensures room { room self.new ≡ room self.old }
+    {
+        let count = self.len();
+        if count > 0 {
+            let _ = self.remove(count - 1);
+        }
+    }
+
+    /// A property comes to an index. It takes no memory where there is memory for one more.
+    pub fn insert(&mut self, index: usize, property: NumberedProperty) -> Result<(), AllocError>
+        requires { index ≤ length self.old.items }
+        ensures items { self.new.items ≡ (if is_ok result then insert self.old.items index property else self.old.items) }
+        ensures room { room self.old ≤ room self.new }
+        ensures succeeds { length self.old.items < room self.old → IsOk result }
+    {
+        let at = place(self.slots.as_slice(), index);
+        if at > 0 && self.slots[at - 1].gone % 2 == 1 {
+            bring_back(self.slots.as_mut_slice(), index, at - 1, property);
+            return Ok(());
+        }
+        put_in(&mut self.slots, index, property)
+    }
+}
