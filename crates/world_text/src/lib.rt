@@ -8,7 +8,7 @@
 //! printed text is read, under the standard readtable and in the same packages, as the same object. What it asks of the tokens in
 //! the text, specs/Tokens.antt says. snapshot_text reads the text.
 //!
-//! - `writer`: `write`, `write_in`; `package_rows`, `property_rows`: packages and property lists as text, `table_rows`: readtables as data;
+//! - `writer`: `write`, `write_in`; `package_rows`, `property_texts`: packages and property lists as text, `table_rows`: readtables as data;
 //!   `texts`: lists of texts; `printing`: data printed at the end of a text
 //! - `laws`: `printed_objects_read_back`, `one_text_one_state`, `snapshot_lines_are_read`
 //!
@@ -32,7 +32,7 @@
 mod laws;
 mod package_rows;
 mod printing;
-mod property_rows;
+mod property_texts;
 mod table_rows;
 mod texts;
 mod writer;

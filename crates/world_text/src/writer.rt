@@ -7,7 +7,7 @@ ghost use Rattle.world_text.specs.Snapshot.{snapshot, snapshot_in, snapshot_with
 
 use crate::package_rows::push_packages;
 use crate::printing::push_printed;
-use crate::property_rows::push_properties;
+use crate::property_texts::push_properties;
 use crate::table_rows::{tables_of, tables_of_1};
 use lisp_object::Datum;
 use package_table::Packages;

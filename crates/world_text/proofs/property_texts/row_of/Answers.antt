@@ -1,6 +1,6 @@
 use Rattle.std.proofs.Common.{ap, ◌∙◌}
 use Rattle.world_text.proofs.Worlds.{are_ascii_indicators, plist_ascii}
-use Rattle.world_text.proofs.property_rows.row_of.Goals as goal
+use Rattle.world_text.proofs.property_texts.row_of.Goals as goal
 
 pub returns-clause-proper : goal.returns-clause-proper
 returns-clause-proper c = λ ascii.

@@ -3,7 +3,7 @@ use Rattle.std.specs.List.{list_all, flat_map}
 use Rattle.lisp_object.specs.Datum.{object_of, is_proper}
 use Rattle.lisp_object.specs.Ascii.{is_ascii}
 use Rattle.world_text.specs.Snapshot.{symbol_object}
-use Rattle.world_text.proofs.property_rows.plist_datum.Given as goal
+use Rattle.world_text.proofs.property_texts.plist_datum.Given as goal
 
 -- the symbol, and the properties so far
 abbrev pub invariant-loop-index : goal.invariant-loop-index

@@ -8,7 +8,7 @@ use Rattle.plist_state.specs.Changes.{plist}
 use Rattle.world_text.specs.Snapshot.{plist_object}
 use Rattle.world_text.proofs.RowsWritten.{parts_written, first_and_others, first_either, each_passes, each_mapped}
 use Rattle.world_text.proofs.Worlds.{is_ascii_symbol, symbols_ascii}
-use Rattle.world_text.proofs.property_rows.push_properties.Goals as goal
+use Rattle.world_text.proofs.property_texts.push_properties.Goals as goal
 
 pub push_row-requires : goal.push_row-requires
 push_row-requires c =

@@ -4,7 +4,7 @@ use Rattle.package_table.specs.Table.{common_lisp_user}
 use Rattle.canon_printer.specs.Printed.{printed}
 use Rattle.plist_state.specs.Changes.{plist}
 use Rattle.world_text.specs.Snapshot.{plist_object}
-use Rattle.world_text.proofs.property_rows.push_others.Given as goal
+use Rattle.world_text.proofs.property_texts.push_others.Given as goal
 
 -- the rows of the symbols so far
 abbrev pub invariant-loop-symbol : goal.invariant-loop-symbol

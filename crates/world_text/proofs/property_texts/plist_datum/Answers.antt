@@ -15,7 +15,7 @@ use Rattle.package_table.proofs.Names.{same_some}
 use Rattle.plist_state.specs.Properties.{Symbol, Plist}
 use Rattle.plist_state.specs.Shown.{property_of}
 use Rattle.world_text.specs.Snapshot.{symbol_object}
-use Rattle.world_text.proofs.property_rows.plist_datum.Goals as goal
+use Rattle.world_text.proofs.property_texts.plist_datum.Goals as goal
 
 abbrev parts : Symbol × Object → List Object
 parts p = symbol_object p.0 ∷ p.1 ∷ []
