@@ -5,6 +5,7 @@ pub mod Forms
 pub mod Seen
 pub mod Branches
 pub mod Sequences
+pub mod ListItems
 pub mod Lists
 pub mod QuotedKeys
 pub mod RowForms

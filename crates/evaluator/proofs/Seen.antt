@@ -5,9 +5,9 @@
 --     stand_in_value      what stands for a value may be stored
 --     truth_shown, truth_refused, truth_left, truth_stops      what tells whether a value is true
 --     left_seen, left_refused, leaves_so, stops_so      what tells whether anything was written
-use Rattle.std.proofs.Common.{◌≡◌, Bool, true, false, cond, pos, Result, Ok, Err, refl, sym, ap, ◌∙◌, arith}
+use Rattle.std.proofs.Common.{◌≡◌, Bool, true, false, cond, pos, nat_lt, Result, Ok, Err, refl, sym, ap, ◌∙◌, arith}
 use Rattle.std.proofs.lemmas.Bool.{false≢true}
-use Rattle.lisp_object.specs.Object.{Object, integer, rational, character, text, symbol, uninterned, pair, vector, nil, is_nil}
+use Rattle.lisp_object.specs.Object.{Object, integer, rational, character, text, symbol, uninterned, pair, vector, nil, is_nil, object_depth}
 use Rattle.lisp_object.proofs.ProperLists.{nil_symbol}
 use Rattle.plist_state.specs.State.{WorldState}
 use Rattle.lisp_operators.specs.declared.error.EvaluationError.{EvaluationError}
@@ -20,7 +20,7 @@ use Rattle.lisp_operators.proofs.SoundBase.{base_value}
 use Rattle.package_table.specs.Table.{Table}
 use Rattle.plist_state.specs.Sound.{IsValue}
 use Rattle.evaluator.specs.declared.wanted.Wanted.{Wanted}
-use Rattle.evaluator.specs.declared.wanted.Wanted.TheVariants.{Value, Truth, Nothing}
+use Rattle.evaluator.specs.declared.wanted.Wanted.TheVariants.{Value, Truth, Depth, Nothing}
 use Rattle.evaluator.specs.Wanted.{stand_in, seen}
 
 pub seen_value : (o : Evaluation Object) → seen Value o ≡ o
@@ -58,6 +58,7 @@ truth_of x = by_test (is_true x) refl
 pub stand_in_value : (w : Wanted) (u : Table) (x : Object) → IsValue u x → IsValue u (stand_in w x)
 stand_in_value Value u x is = is
 stand_in_value Truth u x is = elim (is_true x) as (λ b. IsValue u (cond b (integer (pos 1)) x)) [ true ↦ base_value u 1 (omega arith) | false ↦ is ]
+stand_in_value Depth u x is = elim (nat_lt 99 (object_depth x)) as (λ b. IsValue u (cond b x (integer (pos 1)))) [ true ↦ is | false ↦ base_value u 1 (omega arith) ]
 stand_in_value Nothing u x is = base_value u 1 (omega arith)
 
 -- ---- what the calls of operators tell

@@ -16,7 +16,7 @@ use crate::operation::{Operation, operation_of};
 use crate::perform::perform;
 use crate::place::check_place;
 use crate::values::Values;
-use crate::wanted::{Task, Wanted, seen};
+use crate::wanted::{Task, Wanted, seen, wanted_for};
 use lisp_object::refusal::{ARGUMENT_KIND, NOT_A_FORM};
 use lisp_object::{Datum, Items};
 use lisp_operators::EvaluationError::Refused;
@@ -294,7 +294,8 @@ fn extended(
     Ok(values)
 }
 
-// LIST: the list of the values of these forms (standard 14.2, `list`). Of values that are too large together none is held.
+// LIST: the list of the values of these forms (standard 14.2, `list`). Of values that are too large together none is held, and those after
+// them are not made.
 #[cycle(evaluation)]
 fn listed(
     alloc: Global,
@@ -313,7 +314,8 @@ fn listed(
     let mut values = ListBuilder::new(alloc);
     let mut wrote = false;
     for i in 1..items.len() {
-        let evaluated = match evaluate_for(alloc, world, names, &items[i], Wanted::Value) {
+        let wanted = wanted_for(&values);
+        let evaluated = match evaluate_for(alloc, world, names, &items[i], wanted) {
             Ok(evaluated) => evaluated,
             Err(error) => return Err(error),
         };

@@ -7,7 +7,8 @@
 //!
 //! - `calls`: the value of a form (`evaluate`), and what a form does, where its value is not asked for (`apply`)
 //! - `evaluation`: the value of a form, by recursion on it; `wanted`: what is asked of a value, and what stands for it. Of PROGN
-//!   all values but the last are not made, and of IF's test it is only asked whether it is true
+//!   all values but the last are not made. Of IF's test it is only asked whether it is true, and of a value behind those that are
+//!   too large for a LIST whether it is too deep
 //! - `direct`: GET of two quoted symbols, and SETF of such a property to a literal, from the form as it stands
 //! - `operation`: what is at its head; `place`: the places of SETF, INCF and PUSH; `control`: the operators of control, and
 //!   atoms; `perform`, `effects`: what an operator makes of the values of its arguments; `values`: these values

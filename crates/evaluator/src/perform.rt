@@ -11,7 +11,7 @@ use crate::effects::{effect, truth};
 use crate::operation::Operation;
 use crate::place::Place;
 use crate::values::Values;
-use crate::wanted::{Task, Wanted};
+use crate::wanted::{Task, Wanted, seen};
 use lisp_object::Datum;
 use lisp_object::refusal::ARGUMENT_KIND;
 use lisp_operators::EvaluationError::Refused;
@@ -46,6 +46,10 @@ pub(crate) fn perform(
             carry_out(alloc, world, names, operation, place, values),
         ),
         Wanted::Truth => after(wrote, truth(alloc, world, names, operation, place, values)),
+        Wanted::Depth => {
+            let evaluated = carry_out(alloc, world, names, operation, place, values);
+            after(wrote, seen(evaluated, Wanted::Depth))
+        }
         Wanted::Nothing => after(wrote, effect(alloc, world, names, operation, place, values)),
     }
 }

@@ -5,11 +5,11 @@ ghost use Rattle.plist_state.specs.State.{WorldState};
 ghost use Rattle.lisp_operators.specs.Evaluation.{Evaluation};
 ghost use Rattle.lisp_object.specs.Datum.{object_of};
 ghost use Rattle.lisp_operators.specs.Evaluated.{Answers, done, IsProper, IsProperValue};
-ghost use Rattle.evaluator.specs.Wanted.{stand_in, seen};
+ghost use Rattle.evaluator.specs.Wanted.{stand_in, seen, wanted_for};
 
 use crate::operation::Operation;
 use lisp_object::Datum;
-use lisp_operators::{Evaluated, EvaluationError, kinds};
+use lisp_operators::{Evaluated, EvaluationError, ListBuilder, kinds, values};
 use std::alloc::{AllocError, Global};
 
 /// What is asked of the value of a form.
@@ -19,6 +19,8 @@ pub(crate) enum Wanted {
     Value,
     /// Whether it is true.
     Truth,
+    /// Whether it has too many levels for an item of a list.
+    Depth,
     /// Nothing: the form is evaluated for what it does.
     Nothing,
 }
@@ -28,6 +30,17 @@ pub(crate) enum Wanted {
 pub(crate) struct Task {
     pub operation: Operation,
     pub wanted: Wanted,
+}
+
+/// What is asked of one value more for a list.
+pub(crate) fn wanted_for(values: &ListBuilder) -> Wanted
+    ensures { result ≡ wanted_for values.now }
+{
+    match values {
+        ListBuilder::Within { .. } => Wanted::Value,
+        ListBuilder::TooLarge => Wanted::Depth,
+        ListBuilder::TooDeep => Wanted::Nothing,
+    }
 }
 
 /// The value, or what stands for it.
@@ -43,6 +56,13 @@ fn stand_in(value: Datum, wanted: Wanted) -> Datum
                 Datum::Integer(1)
             } else {
                 value
+            }
+        }
+        Wanted::Depth => {
+            if values::is_too_deep_within(&value) {
+                value
+            } else {
+                Datum::Integer(1)
             }
         }
         Wanted::Nothing => Datum::Integer(1),
@@ -62,6 +82,13 @@ pub(crate) fn shown(alloc: Global, value: &Datum, wanted: Wanted) -> Result<Datu
                 Ok(Datum::Integer(1))
             } else {
                 value.copy(alloc)
+            }
+        }
+        Wanted::Depth => {
+            if values::is_too_deep_within(value) {
+                value.copy(alloc)
+            } else {
+                Ok(Datum::Integer(1))
             }
         }
         Wanted::Nothing => Ok(Datum::Integer(1)),

@@ -21,6 +21,7 @@
 //!   proofs/SoundReadtables.antt, proofs/SoundBase.antt: each operator leaves a sound state, and a value that may
 //!   be stored.
 //! - proofs/Covering.antt: readtables name no other functions than those that may be named.
+//! - proofs/ListBuilding.antt: the depth and the size of a list with one value more.
 //! - proofs/SameBase.antt: no operator but SETF of `*READ-BASE*` changes the base.
 //! - proofs/PackageSteps.antt, proofs/Unmoved.antt: changes of the packages one after the other, and those that
 //!   change nothing.

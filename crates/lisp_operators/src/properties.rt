@@ -27,8 +27,8 @@ fn symbol(datum: Datum) -> Result<Symbol, EvaluationError>
 {
     match datum {
         Datum::Symbol { package, name } => Ok(Symbol {
-            home: package.into_vec(),
-            name: name.into_vec(),
+            home: package,
+            name,
         }),
         Datum::Integer(_) => Err(Refused(ARGUMENT_KIND)),
         Datum::Rational(_) => Err(Refused(ARGUMENT_KIND)),

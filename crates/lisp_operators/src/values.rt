@@ -89,7 +89,7 @@ pub(crate) fn is_too_large(value: &Datum) -> bool
 
 /// Whether a value has more levels than an item of a list that is built may have.
 #[tactic(auto, using(crate::proofs::Pushes::within_depth, crate::proofs::Pushes::before_depth))]
-pub(crate) fn is_too_deep_within(item: &Datum) -> bool
+pub fn is_too_deep_within(item: &Datum) -> bool
     requires { IsProper item.now }
     ensures value { result ≡ nat_lt 99 (object_depth (object_of item.now)) }
     ensures before { (list : Object) → holds_pair (Some list) ≡ true → object_depth list ≤ 100

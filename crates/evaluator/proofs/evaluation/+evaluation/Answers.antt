@@ -11,7 +11,8 @@ use Rattle.lisp_object.proofs.datum.Datum.TheLaws.{the_size}
 use Rattle.lisp_operators.specs.Kinds.{is_pair}
 use Rattle.evaluator.specs.Gathered.{arguments_of, operation_value, followed, subforms, sequence_value}
 use Rattle.evaluator.specs.declared.wanted.Wanted.TheVariants.{Value, Nothing}
-use Rattle.evaluator.specs.Wanted.{seen}
+use Rattle.evaluator.specs.Wanted.{stand_in, seen}
+use Rattle.evaluator.proofs.ListItems.{held_so}
 use Rattle.evaluator.proofs.Seen.{seen_value, seen_also, refused_seen, refused_so, evaluated_so, stand_in_value}
 use Rattle.evaluator.proofs.Sequences.{sequence_step, sequence_stops, sequence_last, no_forms, also_refused, also_also}
 use Rattle.evaluator.specs.Value.{value}
@@ -237,19 +238,20 @@ listed-returns-in-Err-clause-gives t c =
     list_stops c.args.names.now c.args.world.now.0 c.evaluate_for.new.world.0 c.args.items.now c.in-Err.error
     (followed_stops c.args.names.now so.0 c.loop-i.wrote c.loop-i.world.0 c.evaluate_for.new.world.0 c.evaluate_for.new.world.0 c.args.items.now c.loop-i.i c.index-items-i.result c.in-Err.error
     (followed c.args.names.now [] false c.args.world.now.0 (list_of (map object_of (drop 1 c.args.items.now)))) so.2 c.loop-i-test.true c.index-items-i.is
-    (refused_so Value c.in-Err.error c.evaluate_for.new.world.0 c.evaluate_for.new.world.0 (value c.args.names.now c.loop-i.world.0 (object_of c.index-items-i.result)) c.in-Err.ensures.gives))
+    (refused_so c.wanted_for-wanted.result c.in-Err.error c.evaluate_for.new.world.0 c.evaluate_for.new.world.0 (value c.args.names.now c.loop-i.world.0 (object_of c.index-items-i.result)) c.in-Err.ensures.gives))
 
 pub listed-loop-i-preserved : goal.listed-loop-i-preserved
 listed-loop-i-preserved t c =
     let so = c.loop-i.invariant.listed in
+    let given = evaluated_so c.wanted_for-wanted.result (value c.args.names.now c.loop-i.world.0 (object_of c.index-items-i.result)) (done c.in-Ok.evaluated c.evaluate_for.new.world.0) c.in-Ok.ensures.gives in
     record {
       listed = (
-        so.0 ++ object_of c.in-Ok.evaluated.value ∷ [],
-        c.in_ok-values.ensures so.0 so.1,
+        so.0 ++ given.0 ∷ [],
+        held_so so.0 given.0 (object_of c.in-Ok.evaluated.value) c.loop-i.values c.in_ok-values.values (subst (λ w. stand_in w given.0 ≡ object_of c.in-Ok.evaluated.value) c.wanted_for-wanted.ensures given.2) so.1 (c.in_ok-values.ensures so.0 so.1),
         so.2
-            ∙ followed_step c.args.names.now so.0 c.loop-i.wrote c.loop-i.world.0 c.args.items.now c.loop-i.i c.index-items-i.result (object_of c.in-Ok.evaluated.value) c.evaluate_for.new.world.0 c.in-Ok.evaluated.wrote
-            c.loop-i-test.true c.index-items-i.is (sym (seen_value (value c.args.names.now c.loop-i.world.0 (object_of c.index-items-i.result))) ∙ c.in-Ok.ensures.gives)
-            ∙ ap (λ w. followed c.args.names.now (so.0 ++ object_of c.in-Ok.evaluated.value ∷ []) w c.evaluate_for.new.world.0 (list_of (map object_of (drop (c.loop-i.i + 1) c.args.items.now)))) (sym c.either-wrote.ensures),
+            ∙ followed_step c.args.names.now so.0 c.loop-i.wrote c.loop-i.world.0 c.args.items.now c.loop-i.i c.index-items-i.result given.0 c.evaluate_for.new.world.0 c.in-Ok.evaluated.wrote
+            c.loop-i-test.true c.index-items-i.is given.1
+            ∙ ap (λ w. followed c.args.names.now (so.0 ++ given.0 ∷ []) w c.evaluate_for.new.world.0 (list_of (map object_of (drop (c.loop-i.i + 1) c.args.items.now)))) (sym c.either-wrote.ensures),
       );
       forms = λ k d h. c.in-Ok.ensures.kept _ (c.loop-i.invariant.forms k d h);
       marked = c.in-Ok.ensures.marked ∙ c.loop-i.invariant.marked;
