@@ -4,3 +4,4 @@ pub mod Making
 pub mod Settling
 pub mod Shapes
 pub mod Owned
+pub mod Fronts

@@ -3,3 +3,4 @@ pub mod Position
 pub mod Answers
 pub mod Rounds
 pub mod Calls
+pub mod Fronts

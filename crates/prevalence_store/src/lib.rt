@@ -82,7 +82,9 @@ pub use laws::{
     what_is_answered_is_stored,
 };
 pub use lisp_object::refusal::name_of as refusal_name;
-pub use messages::request::{Answer, NO_POSITION, OLD_NUMBER, QUESTION_WRITES, Replies, Request};
+pub use messages::request::{
+    ANSWER_BYTES, Answer, NO_POSITION, OLD_NUMBER, QUESTION_WRITES, Replies, Request,
+};
 pub use open_fault::OpenFault;
 pub use outcome::{Ended, Ending, Outcome, Place};
 pub use recipient::{OutputFault, Recipient};

@@ -9,6 +9,9 @@ pub const QUESTION_WRITES: u16 = 51;
 /// The number of a refusal: the property that is to be the position is no number of 64 bits, or its name stands for another symbol.
 pub const NO_POSITION: u16 = 52;
 
+/// How many bytes of answers end a batch of which the first requests are answered.
+pub const ANSWER_BYTES: usize = 65_536;
+
 /// A message with its number, or a question.
 #[derive(Clone, Copy, Debug)]
 pub struct Request<'a> {

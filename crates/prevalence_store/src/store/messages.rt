@@ -1,9 +1,11 @@
 // Messages with numbers, and questions, over a store.
-ghost use Rattle.std.specs.Prelude.{◌≡◌, ◌≢◌, ℕ, true, false, None, Some, IsSome, IfOk, IfErr, Err};
+ghost use Rattle.std.specs.Prelude.{◌≡◌, ◌≢◌, ℕ, ◌<◌, ◌≤◌, [], true, false, length, None, Some, IsSome, IfOk, IfErr, Err};
 ghost use Rattle.std.specs.Option.{option_and_then};
 ghost use Rattle.lisp_object.specs.declared.refusal.TheConstants.{DEVICE as DEVICE_FAULT, REOPEN as NOT_OPEN};
 ghost use Rattle.plist_state.specs.State.{WorldState};
+ghost use Rattle.prevalence_store.specs.messages.Answers.{begun};
 ghost use Rattle.prevalence_store.specs.messages.Calls.{AnswersRequests, BeginsMessages, TakesRound};
+ghost use Rattle.prevalence_store.specs.messages.Fronts.{AnswersFirst, first_of};
 ghost use Rattle.prevalence_store.specs.messages.Position.{is_hidden, position, position_property};
 ghost use Rattle.prevalence_store.specs.steps.Failure.{is_device};
 ghost use Rattle.user_macros.specs.Functions.{are_registered};
@@ -12,7 +14,7 @@ use crate::batch::Batch;
 use crate::failure::Failure;
 use crate::messages::own::Own;
 use crate::messages::place::Place;
-use crate::messages::request::{NO_POSITION, Replies, Request};
+use crate::messages::request::{ANSWER_BYTES, NO_POSITION, Replies, Request};
 use crate::messages::round::Round;
 use crate::outcome::Outcome;
 use crate::store::Store;
@@ -103,31 +105,79 @@ impl<D: Disk, R: MacroFunctions> Store<D, R> {
         ensures honest { (D.state self.new.disk).honest ≡ (D.state self.old.disk).honest }
         ensures macros { self.new.macros ≡ self.old.macros }
     {
+        self.answer_up_to(last, requests, None)
+    }
+
+    /// Answers the first of these requests, as `answer_requests` does: up to the one with whose answer the answers have `ANSWER_BYTES`
+    /// bytes, or all. So at least one is answered, if there is one, and there is an answer for each that is. The rest is as if it had not
+    /// been asked: who goes on hands it in again, with the last number of these replies.
+    ///
+    /// # Errors
+    ///
+    /// As `answer_requests`, of those that are to be answered together.
+    pub fn answer_first_requests(
+        &mut self,
+        last: u64,
+        requests: &[Request<'_>],
+    ) -> Result<Replies, u16>
+        requires answers { R.answers self.old.macros }
+        requires whole { are_registered R.Meaning.functions (R.functions self.old.macros) ≡ true }
+        ensures reopen { self.old.world ≡ None → (result ≡ Err NOT_OPEN) × (self.new ≡ self.old) }
+        ensures answer { (world : WorldState) → self.old.world ≡ Some world
+            → AnswersFirst R.Meaning.functions D.state self.old self.new world last requests.now result }
+        ensures most { IfOk result (λ replies. length replies.answers.items ≤ length requests.now) }
+        ensures some { requests.now ≢ [] → IfOk result (λ replies. 0 < length replies.answers.items) }
+        ensures unchanged { IfErr result (λ number. number ≢ DEVICE_FAULT → self.new ≡ self.old) }
+        ensures honest { (D.state self.new.disk).honest ≡ (D.state self.old.disk).honest }
+        ensures macros { self.new.macros ≡ self.old.macros }
+    {
+        self.answer_up_to(last, requests, Some(ANSWER_BYTES))
+    }
+
+    // Answers the first of these requests, until their answers have so many bytes, or all.
+    fn answer_up_to(
+        &mut self,
+        last: u64,
+        requests: &[Request<'_>],
+        most: Option<usize>,
+    ) -> Result<Replies, u16>
+        requires answers { R.answers self.old.macros }
+        requires whole { are_registered R.Meaning.functions (R.functions self.old.macros) ≡ true }
+        ensures reopen { self.old.world ≡ None → (result ≡ Err NOT_OPEN) × (self.new ≡ self.old) }
+        ensures answer { (world : WorldState) → self.old.world ≡ Some world
+            → AnswersRequests R.Meaning.functions D.state self.old self.new world last
+            (first_of R.Meaning.functions most (begun last world) requests.now) result }
+        ensures unchanged { IfErr result (λ number. number ≢ DEVICE_FAULT → self.new ≡ self.old) }
+        ensures honest { (D.state self.new.disk).honest ≡ (D.state self.old.disk).honest }
+        ensures macros { self.new.macros ≡ self.old.macros }
+    {
         if !self.is_open() {
             return Err(REOPEN);
         }
         let Ok(place) = Place::new(self.alloc) else {
             return Err(NO_MEMORY);
         };
-        match self.take_round(place, last, requests) {
+        match self.take_round(place, last, requests, most) {
             Ok(replies) => Ok(replies),
             Err(failure) => Err(failure.number()),
         }
     }
 
-    // Answers requests one after the other, and logs what those that wrote need together, with the position. Where nothing is logged,
-    // the store is as it was.
+    // Answers the first of these requests one after the other, and logs what those that wrote need together, with the position. Where
+    // nothing is logged, the store is as it was.
     fn take_round(
         &mut self,
         place: Place,
         last: u64,
         requests: &[Request<'_>],
+        most: Option<usize>,
     ) -> Result<Replies, Failure>
         requires answers { R.answers self.old.macros }
         requires whole { are_registered R.Meaning.functions (R.functions self.old.macros) ≡ true }
         requires open { IsSome self.old.world }
         ensures takes { (world : WorldState) → self.old.world ≡ Some world
-            → TakesRound R.Meaning.functions D.state self.old self.new world last requests.now result }
+            → TakesRound R.Meaning.functions D.state self.old self.new world last
+            (first_of R.Meaning.functions most (begun last world) requests.now) result }
         ensures honest { (D.state self.new.disk).honest ≡ (D.state self.old.disk).honest }
         ensures macros { self.new.macros ≡ self.old.macros }
     {
@@ -135,7 +185,7 @@ impl<D: Disk, R: MacroFunctions> Store<D, R> {
             return Err(Failure::OutOfMemory);
         };
         let mut round = Round::new(batch, place, last, &self.world);
-        match round.answer_all(&mut self.world, &self.macros, requests) {
+        match round.answer_up_to(&mut self.world, &self.macros, requests, most) {
             Ok(()) => {}
             Err(failure) => {
                 self.world.back_to(0);

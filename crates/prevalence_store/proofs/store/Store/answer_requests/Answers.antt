@@ -1,13 +1,11 @@
-use Rattle.std.proofs.Common.{rules, IsSome}
-use Rattle.prevalence_store.proofs.calls.Executing.{known_world}
-use Rattle.prevalence_store.proofs.requests.Owned.{no_device}
+use Rattle.std.proofs.Common.{List, subst}
+use Rattle.prevalence_store.specs.declared.messages.request.Request.{Request}
+use Rattle.prevalence_store.specs.messages.Answers.{begun}
+use Rattle.prevalence_store.specs.messages.Calls.{AnswersRequests}
+use Rattle.prevalence_store.proofs.requests.Fronts.{first_all}
 use Rattle.prevalence_store.proofs.store.Store.answer_requests.Goals as goal
 
-pub returns-in-Err-clause-answer : goal.returns-in-Err-clause-answer
-returns-in-Err-clause-answer g c = λ world known. let took = c.in-Err.ensures.takes world known in (c.in-Err.failure, c.number.ensures, took.0, took.1)
-
-pub returns-in-Err-clause-unchanged : goal.returns-in-Err-clause-unchanged
-returns-in-Err-clause-unchanged g c = λ other.
-    let is_open : IsSome c.args.self.now.world = search rules in
-    let here = known_world c.args.self.now.world is_open in
-    (c.in-Err.ensures.takes here.0 here.1).0.unchanged (no_device c.in-Err.failure c.number.result c.number.ensures other)
+pub returns-clause-answer : goal.returns-clause-answer
+returns-clause-answer g c = λ world known.
+    subst (λ (requests : List Request). AnswersRequests g.R.Meaning.Meaning.functions g.D.Disk.state c.args.self.now c.answer_up_to.new.self world c.args.last requests c.answer_up_to.result)
+    (first_all g.R.Meaning.Meaning.functions (begun c.args.last world) c.args.requests.now) (c.answer_up_to.ensures.answer world known)
