@@ -1,5 +1,5 @@
 -- Sessions in a row, one more.
-use Rattle.std.proofs.Common.{◌≡◌, ◌≢◌, ◌∙◌, Bool, List, ℕ, true, false, [], ◌∷◌, ◌++◌, Option, None, Some, refl, ap, subst, sym, inl, inr, append-nil, append_assoc}
+use Rattle.std.proofs.Common.{◌≡◌, ◌≢◌, ◌∙◌, Bool, List, ℕ, true, false, [], ◌∷◌, ◌++◌, Option, None, Some, IsSome, refl, ap, subst, sym, inl, inr, append-nil, append_assoc}
 use Rattle.std.proofs.KnownBytes.{Consumes-nil, Consumes-trans}
 use Rattle.std.specs.Io.KnownBytes.{Consumes}
 use Rattle.std.specs.List.{AllByRecursion}
@@ -76,6 +76,11 @@ module _ (functions : Functions) (wanted : Wanted) {D R : Type 0} (state : D →
   left_by first mid first_world begun there before between (Unreadable number place) is served = (served.0.serves.far.world, served.0.serves.ends.after.left)
   left_by first mid first_world begun there before between (Unaccepted number place) is served = (served.2.far.world, served.2.advances.after.left)
   left_by first mid first_world begun there before between (Store number) none session = absurd none
+
+  pub left_open : (mid : StoreView D R) (rest between : Option (List ℕ)) (ended : Ended) → EndsRefused ended → Row mid rest between ended → IsSome mid.world
+  left_open mid rest between ended refused (others, start, first, begun, before, earlier, session) =
+      let left = left_by start mid first begun rest before between ended refused session in
+      subst (λ (o : Option WorldState). IsSome o) (sym left.1) refl
 
   -- the next session begins in it, and with what the input has after some bytes more
   pub turn_after : (mid new : StoreView D R) (rest next_rest has between written : Option (List ℕ)) (ended next : Ended) → EndsRefused ended

@@ -1,3 +1,4 @@
+pub mod Accounts
 pub mod Commands
 pub mod Folders
 pub mod Report

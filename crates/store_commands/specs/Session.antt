@@ -10,7 +10,6 @@ use Rattle.prevalence_store.specs.declared.outcome.Place.{Place}
 use Rattle.session_words.specs.declared.wanted.Wanted.{Wanted}
 use Rattle.prevalence_store.specs.meaning.Acceptance.{read_in}
 use Rattle.user_macros.specs.Functions.{Functions}
-use Rattle.prevalence_store.specs.calls.Account.{Account, first_account}
 use Rattle.prevalence_store.specs.calls.Open.{IsOpened}
 use Rattle.prevalence_store.specs.meaning.Answers.{Progress, after_forms, last_line, refusal_line}
 use Rattle.prevalence_store.specs.calls.Serve.{IsPlace, IsUnaccepted, ServesWanted}
@@ -25,13 +24,6 @@ use Rattle.store_commands.specs.declared.told.Told.TheVariants.{Refused}
 -- how many bytes each of the two files of a store may have
 abbrev pub half_limit : ℕ
 half_limit = 1073741824
-
-module _ (functions : Functions) (wanted : Wanted) {D R : Type 0} (state : D → State) (disk : D) (macros : R) (had : Option (List ℕ)) where
-  -- If the recipient of a session keeps account, that begins with this session, whatever store is opened there.
-  abbrev pub IsFirstAccount : Option (Account D) → Type 0
-  IsFirstAccount account =
-      (kept : Account D) → account ≡ Some kept → (opened : StoreView D R) → (is_opened : IsOpened functions state disk macros half_limit opened)
-      → kept ≡ first_account is_opened.world wanted.mode had opened.disk
 
 -- The store that a disk holds was opened with these macro functions, it served the input as was wanted, and it was closed: this is its
 -- disk.

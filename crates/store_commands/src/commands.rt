@@ -13,6 +13,7 @@ ghost use Rattle.store_commands.specs.declared.told.Told.{Told};
 use crate::folders::{Folders, TellsCause, open_folder};
 use crate::on_disk::carry_out_on;
 use crate::opening::Opening;
+use crate::recipient::SessionRecipient;
 use crate::sessions::sessions_on;
 use crate::status::Status;
 use crate::terminal::Sessions;
@@ -23,7 +24,7 @@ use diagnostics::Places;
 use disk_trait::HostError;
 use lisp_object::refusal::{INPUT, NO_MEMORY, OUTPUT};
 use plist_state::Seed;
-use prevalence_store::{Recipient, Wanted};
+use prevalence_store::Wanted;
 use program_streams::Shown;
 use std::convert::AsStr;
 use std::fmt::Write as WriteText;
@@ -187,9 +188,9 @@ where
     R: Folders + RandomSource + AllocGlobal,
     M: MacroFunctions + Drop,
     I: Sessions,
-    O: Recipient<R::Disk, M>,
+    O: SessionRecipient<R::Disk, M, I>,
     requires answers { M.answers macros }
-    requires keeps_none { (recipient : O) → O.account recipient ≡ None }
+    requires none { O.account output.old ≡ None }
     ensures performs { PerformsInTurn M.Meaning.functions I.remaining O.contents
         input.old input.new output.old output.new asked.entry.folder.now wanted result.0 result.1 }
     ensures opened { OpensFolder input.old input.new output.old output.new

@@ -7,6 +7,8 @@
 //!   writes the forms that make the world, and `report_on` writes what is told of a store (modules `session`, `snapshot`, `upgrade`,
 //!   `export` and `report`). What the store is opened with is handed to them as an `Opening` (module `opening`).
 //! - `sessions_on` serves sessions in a row (module `sessions`), and `terminal` has the input that asks for them, with its prompts.
+//! - `recipient` has who gets the lines of sessions in a row, and may keep account of each; `sessions_go_on` (module `laws`): what follows
+//!   at each moment of them.
 //! - `answers` has an output that tells what was answered, and an input that knows whether anything was; `given` tells comments from
 //!   text there.
 //! - `command_words` has the command line; `diagnostics` writes the line of a fault, and that on the refusal that ended a session, and
@@ -32,6 +34,7 @@ mod laws;
 mod looking;
 mod on_disk;
 mod opening;
+mod recipient;
 mod report;
 mod session;
 mod sessions;
@@ -51,9 +54,10 @@ pub use diagnostics::{
 pub use export::export_on;
 pub use folders::{Folders, TellsCause, holds_store, open_folder};
 pub use half_line::write_half_line;
-pub use laws::existing_stores_are_open;
+pub use laws::{existing_stores_are_open, sessions_go_on};
 pub use looking::Looking;
 pub use opening::{HALF_LIMIT, Opening};
+pub use recipient::SessionRecipient;
 pub use report::{report_on, status_of_output};
 pub use session::serve_on;
 pub use sessions::sessions_on;

@@ -1,12 +1,12 @@
 // What is done over the store that a disk holds.
-ghost use Rattle.std.specs.Prelude.{◌≡◌, ◌<◌, ◌-◌, ◌^◌};
+ghost use Rattle.std.specs.Prelude.{◌≡◌, ◌<◌, ◌-◌, ◌^◌, None};
 ghost use Rattle.command_words.specs.declared.words.Task.{Task};
 ghost use Rattle.store_commands.specs.Commands.{DoesOn};
-ghost use Rattle.store_commands.specs.Session.{IsFirstAccount};
 ghost use Rattle.user_macros.specs.Functions.{are_registered};
 
 use crate::export::export_on;
 use crate::opening::Opening;
+use crate::recipient::SessionRecipient;
 use crate::report::report_on;
 use crate::session::serve_on;
 use crate::snapshot::snapshot_on;
@@ -16,7 +16,7 @@ use crate::upgrade::upgrade_on;
 use command_words::Task;
 use diagnostics::Places;
 use disk_trait::Disk;
-use prevalence_store::{Recipient, Unopened, Wanted};
+use prevalence_store::{Unopened, Wanted};
 use std::io::Write;
 use user_macros::MacroFunctions;
 
@@ -72,11 +72,10 @@ where
     D: Disk + Drop,
     M: MacroFunctions + Drop,
     I: Places,
-    O: Recipient<D, M>,
+    O: SessionRecipient<D, M, I>,
     requires room { (D.state opening.disk).failures < 2 ^ 64 - 1 }
     requires answers { M.answers opening.macros }
-    requires begins { IsFirstAccount M.Meaning.functions wanted D.state opening.disk opening.macros
-        (I.remaining input.old) (O.account output.old) }
+    requires none { O.account output.old ≡ None }
     ensures { DoesOn M.Meaning.functions D.state opening.macros
         (are_registered M.Meaning.functions (M.functions opening.macros)) I.remaining O.contents
         input.old input.new output.old output.new opening.disk result.1 (Task.Run wanted) result.0 result.2 }

@@ -1,20 +1,22 @@
 // A session over the store that a disk holds.
-ghost use Rattle.std.specs.Prelude.{◌≡◌, ◌<◌, ◌-◌, ◌^◌, IfOk, IfErr};
+ghost use Rattle.std.specs.Prelude.{◌≡◌, ◌<◌, ◌-◌, ◌^◌, None, IfOk, IfErr};
 ghost use Rattle.prevalence_store.specs.calls.Open.{IsUnopened};
 ghost use Rattle.user_macros.specs.Functions.{are_registered};
 ghost use Rattle.store_commands.specs.Commands.{IsUntouched};
-ghost use Rattle.store_commands.specs.Session.{IsFirstAccount, IsSession, half_limit};
+ghost use Rattle.store_commands.specs.Accounts.{IsAccounted};
+ghost use Rattle.store_commands.specs.Session.{IsSession, half_limit};
 
 use crate::opening::Opening;
+use crate::recipient::SessionRecipient;
 use disk_trait::Disk;
-use prevalence_store::{Ended, Recipient, Unopened, Wanted};
+use prevalence_store::{Ended, Unopened, Wanted};
 use std::io::Read;
 use user_macros::MacroFunctions;
 
 /// A session over the store that a disk holds, as it is wanted. The disk is given back as the store left it, and the macro functions.
 ///
-/// It knows no way to the output but that of a session (`Recipient`): so nothing goes there that is not stored by then. A recipient that
-/// keeps account begins with this session.
+/// It knows no way to the output but that of a session (`Recipient`): so nothing goes there that is not stored by then. The account of a
+/// recipient that keeps one begins with this session, and has all of it at the end.
 ///
 /// # Errors
 ///
@@ -29,22 +31,23 @@ where
     D: Disk,
     M: MacroFunctions,
     I: Read,
-    O: Recipient<D, M>,
+    O: SessionRecipient<D, M, I>,
     requires room { (D.state opening.disk).failures < 2 ^ 64 - 1 }
     requires answers { M.answers opening.macros }
-    requires begins { IsFirstAccount M.Meaning.functions wanted D.state opening.disk opening.macros
-        (I.remaining input.old) (O.account output.old) }
-    ensures served { IfOk result (λ p. IsSession M.Meaning.functions wanted
+    requires none { O.account output.old ≡ None }
+    ensures served { IfOk result (λ p. (session : IsSession M.Meaning.functions wanted
         D.state opening.disk opening.macros (I.remaining input.old) (I.remaining input.new)
-        (O.contents output.old) (O.contents output.new) p.0 p.1) }
+        (O.contents output.old) (O.contents output.new) p.0 p.1)
+        × IsAccounted M.Meaning.functions D.state wanted.mode (I.remaining input.old)
+        session.opened session.closed (O.first output.new) (O.account output.new)) }
     ensures kept { IfOk result (λ p. p.2 ≡ opening.macros) }
     ensures refused { IfErr result (λ e. IsUnopened M.Meaning.functions D.state opening.disk
         (are_registered M.Meaning.functions (M.functions opening.macros)) half_limit e.number e.disk
         × IsUntouched input.old input.new output.old output.new) }
     ensures given_back { IfErr result (λ e. e.macros ≡ opening.macros) }
-    ensures first { O.first output.new ≡ O.first output.old }
 {
     let mut store = opening.open()?;
+    output.begin(&store, input, wanted.mode);
     let ended = store.serve_wanted(input, output, wanted);
     let (disk, macros) = store.close();
     Ok((ended, disk, macros))

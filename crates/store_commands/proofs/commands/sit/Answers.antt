@@ -30,7 +30,7 @@ returns-in-Ok-sessions_on-clause-performs g c =
     (named_by c.args.input.now c.args.input.now c.args.output.now c.args.output.now (OpensStore _ g.R.Disk.TellsCause.tells (g.R.Folders.opens c.args.rt.now)) (λ disk. Unit {0}) c.args.asked.folder.now c.args.asked.existing
     c.open_folder.result c.in-Ok-open_folder.disk c.in-Ok-open_folder.is c.open_folder.ensures.opens)
     c.of_ended.ensures
-    (kept_so c.in-Ok-sessions_on.ended c.of_session.result c.told_after.result c.told_after.ensures c.of_session.ensures) c.in-Ok-sessions_on.ensures.served
+    (kept_so c.in-Ok-sessions_on.ended c.of_session.result c.told_after.result c.told_after.ensures c.of_session.ensures) c.in-Ok-sessions_on.ensures.served.0
 
 pub returns-in-Ok-sessions_on-clause-opened : goal.returns-in-Ok-sessions_on-clause-opened
 returns-in-Ok-sessions_on-clause-opened g c =
@@ -41,7 +41,7 @@ returns-in-Ok-sessions_on-clause-opened g c =
         c.in-Ok-sessions_on.ended,
         c.of_ended.ensures,
         kept_so c.in-Ok-sessions_on.ended c.of_session.result c.told_after.result c.told_after.ensures c.of_session.ensures,
-        c.in-Ok-sessions_on.ensures.served,
+        c.in-Ok-sessions_on.ensures.served.0,
       ),
     )
 

@@ -1,29 +1,39 @@
-use Rattle.std.proofs.Common.{◌∙◌}
-use Rattle.store_commands.proofs.Accounts.{keeps_none}
-use Rattle.store_commands.proofs.Turns.{ends_refused, first_turn, last_turn, no_more_turns, turn_after}
+use Rattle.std.proofs.Common.{◌≡◌, ◌∙◌, ℕ, List, Option, subst}
+use Rattle.prevalence_store.specs.calls.Serve.{ServesWanted}
+use Rattle.store_commands.proofs.Accounts.{known_world}
+use Rattle.store_commands.proofs.Turns.{ends_refused, first_turn, last_turn, left_open, no_more_turns, turn_after}
 use Rattle.store_commands.proofs.sessions.serve_in_turn.Goals as goal
 
 pub serve_wanted-ended-requires-clause-begins : goal.serve_wanted-ended-requires-clause-begins
-serve_wanted-ended-requires-clause-begins g c = λ world known kept is.
-    absurd (keeps_none (g.O.Recipient.account c.args.output.now) kept (c.requires.keeps_none c.args.output.now) is)
+serve_wanted-ended-requires-clause-begins g c = c.requires.begins
+
+pub begin_again-requires : goal.begin_again-requires
+begin_again-requires g c = record { under_way = c.sessions.invariant.2 }
 
 pub serve_wanted-ended-requires-in-sessions-clause-begins : goal.serve_wanted-ended-requires-in-sessions-clause-begins
-serve_wanted-ended-requires-in-sessions-clause-begins g c = λ world known kept is.
-    absurd (keeps_none (g.O.Recipient.account c.sessions.output) kept (c.requires.keeps_none c.sessions.output) is)
+serve_wanted-ended-requires-in-sessions-clause-begins g c = c.begin_again.ensures.begins
 
 pub sessions-init : goal.sessions-init
 sessions-init g c = (
   c.serve_wanted-ended.ensures.macros,
   λ world known. first_turn _ _ _ _ world _ _ _ _ _ _ (c.serve_wanted-ended.ensures.serves world known),
+  c.serve_wanted-ended.ensures.under_way c.requires.is_open,
+  c.serve_wanted-ended.ensures.first,
 )
 
 pub sessions-preserved : goal.sessions-preserved
-sessions-preserved g c = (
-  c.serve_wanted-ended-in-sessions.ensures.macros ∙ c.sessions.invariant.0,
-  λ world known. turn_after _ _ _ _ world _ _ _ _ _ _ _ _ _ c.sessions.ended _ (ends_refused c.sessions.ended c.of.result c.in-Some.refusal c.in-Some.is c.of.ensures)
-      (c.sessions.invariant.1 world known) c.next_session.ensures.drops
-      (λ left there. c.serve_wanted-ended-in-sessions.ensures.serves left there),
-)
+sessions-preserved g c =
+    let refused = ends_refused c.sessions.ended c.of.result c.in-Some.refusal c.in-Some.is c.of.ensures in
+    let first = known_world c.args.store.now.world c.requires.is_open in (
+      c.serve_wanted-ended-in-sessions.ensures.macros ∙ c.sessions.invariant.0,
+      λ world known. turn_after _ _ _ _ world _ _ _ _ _ _ _ _ _ c.sessions.ended _ refused
+          (c.sessions.invariant.1 world known) c.next_session.ensures.drops
+          (λ left there. subst (λ (held : Option (List ℕ)). ServesWanted g.M.Meaning.Meaning.functions g.D.Disk.state c.args.wanted c.sessions.store c.serve_wanted-ended-in-sessions.new.self left
+          (g.I.Read.remaining c.next_session.new.self) (g.I.Read.remaining c.serve_wanted-ended-in-sessions.new.reader) held (g.O.Recipient.contents c.serve_wanted-ended-in-sessions.new.writer)
+          c.serve_wanted-ended-in-sessions.result) c.begin_again.ensures.unwritten (c.serve_wanted-ended-in-sessions.ensures.serves left there)),
+      c.serve_wanted-ended-in-sessions.ensures.under_way (left_open _ _ _ _ first.0 _ _ _ _ _ c.sessions.ended refused (c.sessions.invariant.1 first.0 first.1)),
+      c.serve_wanted-ended-in-sessions.ensures.first ∙ c.begin_again.ensures.first ∙ c.sessions.invariant.3,
+    )
 
 pub returns-then-not-next_session-clause-serves : goal.returns-then-not-next_session-clause-serves
 returns-then-not-next_session-clause-serves g c = λ world known. last_turn _ _ _ _ world _ _ _ _ _ _ c.sessions.ended (c.sessions.invariant.1 world known) c.next_session.ensures.drops
@@ -33,3 +43,12 @@ returns-in_default-clause-serves g c = λ world known. no_more_turns _ _ _ _ wor
 
 pub returns-after-sessions-clause-serves : goal.returns-after-sessions-clause-serves
 returns-after-sessions-clause-serves g c = λ world known. no_more_turns _ _ _ _ world _ _ _ _ _ c.sessions.ended (c.sessions.invariant.1 world known)
+
+pub returns-then-not-next_session-clause-ends : goal.returns-then-not-next_session-clause-ends
+returns-then-not-next_session-clause-ends g c = c.sessions.invariant.2
+
+pub returns-in_default-clause-ends : goal.returns-in_default-clause-ends
+returns-in_default-clause-ends g c = c.sessions.invariant.2
+
+pub returns-after-sessions-clause-ends : goal.returns-after-sessions-clause-ends
+returns-after-sessions-clause-ends g c = c.sessions.invariant.2
