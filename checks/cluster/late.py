@@ -218,7 +218,7 @@ def skipped_away(folder, program):
     os.chmod(small, 0o755)
     cluster = begun(folder, small, nodes=2)
     try:
-        Client(cluster.places).request(b"do large", b"#999999(A)")
+        Client(cluster.places).request(b"do large", b'#999999("0123456789abcdef")')
         cluster.nodes[0].signal(signal.SIGSTOP)
         time.sleep(17)
         number = stuck_at(cluster)

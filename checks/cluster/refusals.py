@@ -198,7 +198,7 @@ def skipped(folder, program):
     cluster = begun(folder, small, nodes=2)
     answers = []
     try:
-        large = threading.Thread(target=lambda: answers.append(Client(cluster.places).request(b"do large", b"#999999(A)")))
+        large = threading.Thread(target=lambda: answers.append(Client(cluster.places).request(b"do large", b'#999999("0123456789abcdef")')))
         after = threading.Thread(target=lambda: answers.append(Client(cluster.places[1:]).request(b"do after", ADD)))
         large.start()
         time.sleep(2)
