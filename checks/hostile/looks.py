@@ -108,6 +108,8 @@ def never_had(room, stops):
     """Where a half is begun anew within each try, that is told."""
     room.put(None)
     writer = Writer(room, ["--snapshot-every", "1"])
+    # (the store is there once a form is answered)
+    writer.write(1)
     got, reads = looked(room, stops, ["show", room.store], lambda read: writer.write(2))
     want(got == Answer(3, b"", BUSY), "snapshots without an end:", got, reads)
     writer.end()
