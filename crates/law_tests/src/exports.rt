@@ -6,6 +6,7 @@ ghost use Rattle.user_macros.specs.Functions.{are_registered};
 ghost use Rattle.world_forms.specs.Properties.{left_out_lines};
 
 use crate::disks::{AMPLE, Trouble};
+use crate::same::have_same_export;
 use disk_trait::{Disk, MemoryDisk};
 use plist_state::World;
 use prevalence_store::{Ended, Mode, Store, Wanted};
@@ -52,7 +53,8 @@ fn taken_in<D: Disk, M: MacroFunctions>(
     Ok(is_at_end(ended))
 }
 
-/// The same of the world that a store has after an input, and of another store; and how many records this has then.
+/// The same of the world that a store has after an input, and of another store; and how many records this has then. It says so only if
+/// the two have the same export too.
 fn taken_from<D: Disk, M: MacroFunctions>(
     alloc: Global,
     one: &mut Store<D, M>,
@@ -70,7 +72,8 @@ fn taken_from<D: Disk, M: MacroFunctions>(
     match one.world() {
         Some(world) => {
             let is_taken = taken_in(alloc, world, other)?;
-            Ok((is_taken, other.record_count()))
+            let is_same = have_same_export(alloc, one, other)?;
+            Ok((is_taken && is_same, other.record_count()))
         }
         None => Err(Trouble::Memory),
     }

@@ -5,7 +5,7 @@
 //! - `lives`: a store that is opened, stopped, refused once, opened again and called again
 //! - `replicas`: two stores that are handed the same input
 //! - `migration`: a store that is opened on files of version 1
-//! - `exports`: a store that takes the export of a world
+//! - `exports`: a store that takes the export of a world; `same`: two stores with the same export
 //! - `reopened`: a store that is opened with macro functions on files of a program without any
 //! - `disks`: disks of these tests, and what may go wrong in them
 #![tactic(auto)]
@@ -22,3 +22,5 @@ mod migration;
 mod reopened;
 #[cfg(test)]
 mod replicas;
+#[cfg(test)]
+mod same;

@@ -1,11 +1,13 @@
 // A session of messages, as the words ask.
-ghost use Rattle.std.specs.Prelude.{◌≡◌, ◌<◌, ◌-◌, ◌^◌, ℕ, Bool, [], map, Some};
+ghost use Rattle.std.specs.Prelude.{◌≡◌, ◌<◌, ◌-◌, ◌^◌, ℕ, Bool, [], map, Some, true};
 ghost use Rattle.clap.specs.Words.{Text};
 ghost use Rattle.command_words.specs.MessageLine.{message_faults, messages_in};
 ghost use Rattle.store_commands.specs.Commands.{OpensFolder};
 ghost use Rattle.store_commands.specs.Folders.{OpensStore};
+ghost use Rattle.message_command.specs.Session.{ServesAfter, ServesOn, status_of};
 ghost use Rattle.store_commands.specs.Status.{EndsAfter, TakesWords};
 ghost use Rattle.store_commands.specs.declared.told.Told.{Told};
+ghost use Rattle.user_macros.specs.Functions.{are_registered};
 
 use command_words::{Messages, messages_in};
 use disk_trait::{Disk, HostError};
@@ -46,7 +48,9 @@ where
         → message_faults (map S.text words.now) ≡ []
         → messages_in (map S.text words.now) ≡ Some (folder, existing, every)
         → (told : Told) × OpensFolder input.old input.new output.old output.new
-        (OpensStore R.Disk.state R.Disk.tells (R.opens rt.now)) (λ disk. Unit {0})
+        (OpensStore R.Disk.state R.Disk.tells (R.opens rt.now))
+        (ServesAfter M.Meaning.functions R.Disk.state macros (are_registered M.Meaning.functions (M.functions macros))
+        I.remaining O.contents input.old input.new output.old output.new result)
         folder existing result told }
 {
     match messages_in(rt.alloc(), words) {
@@ -76,7 +80,9 @@ where
     requires answers { M.answers macros }
     ensures taken { TakesWords result }
     ensures opened { (told : Told) × OpensFolder input.old input.new output.old output.new
-        (OpensStore R.Disk.state R.Disk.tells (R.opens rt.now)) (λ disk. Unit {0})
+        (OpensStore R.Disk.state R.Disk.tells (R.opens rt.now))
+        (ServesAfter M.Meaning.functions R.Disk.state macros (are_registered M.Meaning.functions (M.functions macros))
+        I.remaining O.contents input.old input.new output.old output.new result)
         messages.entry.folder.now messages.entry.existing result told }
 {
     let Ok(seed) = Seed::draw(rt) else {
@@ -114,6 +120,9 @@ where
     O: Write,
     requires room { (D.state opening.disk).failures < 2 ^ 64 - 1 }
     requires answers { M.answers opening.macros }
+    ensures { ServesOn M.Meaning.functions D.state opening.macros
+        (are_registered M.Meaning.functions (M.functions opening.macros)) I.remaining O.contents
+        input.old input.new output.old output.new opening.disk result.1 result.0 }
 {
     let alloc = opening.alloc;
     match opening.open() {
@@ -129,7 +138,7 @@ where
 
 // The status after a session that ended so; what ended it is told.
 fn end_after<D: TellsCause, F: Write>(faults: &mut F, ended: Ended, disk: &D) -> Status
-    ensures { TakesWords result }
+    ensures { result ≡ status_of ended }
 {
     match ended {
         Ended::End => end_with(faults, Status::Done),

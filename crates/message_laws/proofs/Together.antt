@@ -1,5 +1,6 @@
 -- Requests after one another, in one round or in batches.
 --     one_near, each_near      the next requests make the same of two rounds that are near
+--     cleared_left, cleared_last, cleared_tidy      a round without its position
 --     StandsAt, batches_stand      batches, beside one round of all their requests
 use Rattle.std.proofs.Common.{◌≡◌, ℕ, Bool, true, false, ◌||◌, if◌then◌else◌, List, [], ◌∷◌, ◌++◌, Option, None, Some, is_some, unwrap_or, Result, Ok, Err, pos, length, codes, refl, sym, ap, subst, ◌∙◌, append_assoc, length-append, arith}
 use Rattle.std.specs.Prelude.{◌≤◌, ◌^◌, nat_le, nat_lt}
@@ -52,7 +53,7 @@ absent : (o : Option Object) → is_some o ≡ false → o ≡ None
 absent None none = refl
 absent (Some x) none = absurd (cc)
 
-cleared_left : (r : Round) → IsTidy r.left.properties → (cleared r).left ≡ without_position r.left
+pub cleared_left : (r : Round) → IsTidy r.left.properties → (cleared r).left ≡ without_position r.left
 cleared_left r tidy =
     left_of (is_some (position_property r.left)) _ r (without_position r.left) refl
     (λ none. sym (out_of_none r.left position_symbol position_symbol tidy (absent (position_property r.left) none)))
@@ -60,13 +61,13 @@ cleared_left r tidy =
 cleared_told : (r : Round) → (cleared r).told ≡ r.told
 cleared_told r = told_of_either (is_some (position_property r.left)) _ r refl
 
-cleared_last : (r : Round) → (cleared r).last ≡ r.last
+pub cleared_last : (r : Round) → (cleared r).last ≡ r.last
 cleared_last r = last_of (is_some (position_property r.left)) _ r refl
 
 cleared_wrote : (r : Round) → (cleared r).wrote ≡ r.wrote
 cleared_wrote r = wrote_of (is_some (position_property r.left)) _ r refl
 
-cleared_tidy : (r : Round) → IsTidy r.left.properties → IsTidy (cleared r).left.properties
+pub cleared_tidy : (r : Round) → IsTidy r.left.properties → IsTidy (cleared r).left.properties
 cleared_tidy r tidy = subst (λ (w : WorldState). IsTidy w.properties) (sym (cleared_left r tidy)) (tidy_out r.left tidy)
 
 -- ---- two rounds

@@ -1,12 +1,14 @@
 -- How messages are begun.
-use Rattle.std.proofs.Common.{◌≡◌, inl, inr, ℕ, Bool, true, false, List, Some, Ok, Err, ap, ◌∙◌, arith}
+use Rattle.std.proofs.Common.{◌≡◌, inl, inr, ℕ, Bool, true, false, List, Some, Ok, Err, unwrap_or, sym, ap, subst, ◌∙◌, arith}
 use Rattle.disk_trait.specs.Disk.{State}
 use Rattle.lisp_object.specs.declared.refusal.TheConstants.{LOG_FULL}
+use Rattle.message_session.specs.Account.{IsToldIn}
 use Rattle.plist_state.specs.State.{WorldState}
 use Rattle.prevalence_store.specs.calls.Execute.{Executes, Stores}
 use Rattle.prevalence_store.specs.calls.Store.{StoreView}
 use Rattle.prevalence_store.specs.declared.outcome.Outcome.TheVariants.{Refused}
 use Rattle.prevalence_store.specs.messages.Calls.{BeginsMessages}
+use Rattle.prevalence_store.specs.messages.Position.{position}
 use Rattle.session_words.specs.declared.mode.Mode.{Mode}
 use Rattle.user_macros.specs.Functions.{Functions}
 
@@ -19,6 +21,14 @@ module _ (functions : Functions) {D R : Type 0} (state : D → State) (old new :
   pub world_begun : (w : WorldState) (number : ℕ) → old.world ≡ Some w → BeginsMessages functions state old new w (Ok number) → (first : WorldState) × (new.world ≡ Some first)
   world_begun w number known (inl there) = (w, ap (λ (s : StoreView D R). s.world) there.1 ∙ known)
   world_begun w number known (inr set) = (set.3.1.given.world, left_by_form set.3.1.given.wrote _ set.3.1.given.text set.3.1.given.world set.3.1.stored)
+
+  -- and the number is told in it
+  pub told_in : (w : WorldState) (number : ℕ) → old.world ≡ Some w → BeginsMessages functions state old new w (Ok number) → (now : WorldState) → new.world ≡ Some now → IsToldIn number now
+  told_in w number known (inl there) now is =
+      let both : Some w ≡ Some now = sym known ∙ sym (ap (λ (s : StoreView D R). s.world) there.1) ∙ is in
+      let same : w ≡ now = cc in
+      omega (arith, ap (λ o. unwrap_or o 0) (subst (λ v. position v ≡ Some number) same there.0))
+  told_in w number known (inr set) now is = omega (arith, set.0)
 
   of_full : (w : WorldState) (mode : Mode) (text : List ℕ) (number : ℕ) → number ≡ LOG_FULL → Executes functions state old new w mode text (Refused number) → new ≡ old
   of_full w mode text number full (inl down) = down.unchanged

@@ -1,9 +1,13 @@
 pub mod Beginning
+pub mod Causes
 pub mod Frames
 pub mod Held
+pub mod Next
 pub mod Pieces
 pub mod Requests
 pub mod Rounds
+pub mod Slices
 pub mod Standing
 pub mod Stops
 pub mod Streams
+pub mod Told

@@ -1,16 +1,21 @@
 -- What requests are answered that frames are.
-use Rattle.std.proofs.Common.{◌≡◌, ℕ, Bool, true, false, List, [], map, None, Err, refl, sym, ap, subst, ◌∙◌}
+--     front_alike      the first of them
+--     bytes_are, carried_out      the answers to all, and the world after them
+--     left_alone, refused_first      where the store did not take them
+use Rattle.std.proofs.Common.{◌≡◌, inr, ℕ, Bool, true, false, List, [], ◌++◌, length, map, take, drop, None, Ok, Err, refl, sym, ap, subst, ◌∙◌}
 use Rattle.std.specs.List.{flat_map}
 use Rattle.std.specs.Prelude.{IsSome}
+use Rattle.std.proofs.Math.Seq.{take-append_seam}
+use Rattle.std.proofs.lemmas.List.{length-map, take-append-drop, take-map}
 use Rattle.disk_trait.specs.Disk.{State}
 use Rattle.message_frames.specs.Frames.{Sent, answer_bytes}
 use Rattle.message_laws.specs.Batches.{at_first, with_batch}
 use Rattle.message_laws.specs.Near.{Near}
 use Rattle.message_laws.proofs.Together.{StandsAt, one_stands, stands_first}
 use Rattle.message_laws.proofs.Tidy.{sound_tidy}
-use Rattle.message_session.specs.Answers.{answered_bytes, answers_to, each_frame}
+use Rattle.message_session.specs.Answers.{AskAlike, answered_bytes, answers_to, each_frame, parts_of_frame, parts_of_request}
 use Rattle.message_session.specs.Sessions.{HasCarriedOut}
-use Rattle.message_session.specs.Steps.{parts_of_frame, parts_of_request}
+use Rattle.message_session.specs.Steps.{AreUntaken}
 use Rattle.message_session.proofs.Rounds.{same_rounds}
 use Rattle.plist_state.specs.Sound.{IsSound}
 use Rattle.plist_state.specs.State.{WorldState}
@@ -19,12 +24,35 @@ use Rattle.prevalence_store.specs.declared.messages.request.Replies.{Replies}
 use Rattle.prevalence_store.specs.declared.messages.request.Request.{Request}
 use Rattle.prevalence_store.specs.messages.Answers.{Round, answered, begun, each_request}
 use Rattle.prevalence_store.specs.messages.Calls.{AnswersRequests, AreAnswered, left_after}
+use Rattle.prevalence_store.specs.messages.Fronts.{AnswersFirst}
 use Rattle.prevalence_store.specs.messages.Rounds.{told_in}
 use Rattle.prevalence_store.specs.steps.Failure.{is_device}
 use Rattle.user_macros.specs.Functions.{Functions}
 
+-- as many requests as frames
+pub as_many : (requests : List Request) (frames : List Sent) → AskAlike requests frames → length requests ≡ length frames
+as_many requests frames alike = sym (length-map requests parts_of_request) ∙ ap length alike ∙ length-map frames parts_of_frame
+
+-- the first of them ask what the first frames do
+pub front_alike : (requests front rest : List Request) (frames : List Sent) → requests ≡ front ++ rest → AskAlike requests frames → AskAlike front (take (length front) frames)
+front_alike requests front rest frames parts alike =
+    ap (map parts_of_request) (sym (take-append_seam front rest) ∙ ap (take (length front)) (sym parts))
+    ∙ sym (take-map parts_of_request (length front) requests)
+    ∙ ap (take (length front)) alike
+    ∙ take-map parts_of_frame (length front) frames
+
+-- those that were answered
+pub of_first : (functions : Functions) {D R : Type 0} (state : D → State) (old new : StoreView D R) (w : WorldState) (last : ℕ) (frames : List Sent) (requests : List Request) (replies : Replies)
+    (count : ℕ) → count ≡ length replies.answers.items → AskAlike requests frames → AnswersFirst functions state old new w last requests (Ok replies)
+    → (front : List Request) × AskAlike front (take count frames) × AnswersRequests functions state old new w last front (Ok replies)
+of_first functions state old new w last frames requests replies count is alike first = (
+  first.front,
+  subst (λ n. AskAlike first.front (take n frames)) (sym (is ∙ first.count)) (front_alike requests first.front first.rest frames first.parts alike),
+  first.answers,
+)
+
 module _ (functions : Functions) {D R : Type 0} (state : D → State) (old new : StoreView D R) (w : WorldState) (last : ℕ) where
-  module _ (sound : IsSound w) (frames : List Sent) (requests : List Request) (same : map parts_of_request requests ≡ map parts_of_frame frames)
+  module _ (sound : IsSound w) (frames : List Sent) (requests : List Request) (same : AskAlike requests frames)
       (replies : Replies) (given : AreAnswered functions state old new w (answered functions (begun last w) requests) replies) where
     stands : StandsAt functions (each_request functions (begun last w) requests) (with_batch (at_first last w) (answered functions (begun last w) requests))
     stands =
@@ -56,3 +84,15 @@ module _ (functions : Functions) {D R : Type 0} (state : D → State) (old new :
   -- requests that were not answered left the store as it was, if it has a world
   pub left_alone : (requests : List Request) (number : ℕ) → AnswersRequests functions state old new w last requests (Err number) → IsSome new.world → new ≡ old
   left_alone requests number left known = by_device (is_device left.0) left.2.unchanged (λ device. (left.2.stopped device).failed.unknown) known
+
+-- the first of the frames were refused
+pub refused_first : (functions : Functions) {D R : Type 0} (state : D → State) (old new : StoreView D R) (w : WorldState) (last : ℕ) (frames : List Sent) (requests : List Request) (number : ℕ)
+    → AskAlike requests frames → (first : AnswersFirst functions state old new w last requests (Err number)) → new ≡ old → AreUntaken functions last w state old frames number
+refused_first functions state old new w last frames requests number alike first same = inr (record {
+  front = take (length first.front) frames;
+  undone = drop (length first.front) frames;
+  parts = sym (take-append-drop (length first.front) frames);
+  requests = first.front;
+  asked = front_alike requests first.front first.rest frames first.parts alike;
+  refused = subst (λ (s : StoreView _ _). AnswersRequests functions state old s w last first.front (Err number)) same first.answers;
+})

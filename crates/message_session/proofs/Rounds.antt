@@ -1,7 +1,8 @@
 -- Frames that are answered after others.
 --     same_rounds      what requests make, the frames make that they are of
+--     each_near, both_rounds, answers_append      the rounds of frames, and their answers, one after the other
 --     first_after, more_after      frames after none, and after others
---     bytes_of_both, bytes_of_first      the bytes of all, and of the first
+--     bytes_of_both      the bytes of all
 use Rattle.std.proofs.Common.{◌≡◌, ℕ, Bool, List, [], ◌∷◌, ◌++◌, Option, Some, length, map, fold, refl, sym, ap, subst, ◌∙◌, append_assoc, length-append, arith}
 use Rattle.std.specs.List.{flat_map}
 use Rattle.std.proofs.lemmas.Grind.{flat_map-append}
@@ -10,16 +11,15 @@ use Rattle.std.proofs.lemmas.List.Sums.{fold-append}
 use Rattle.message_frames.specs.Frames.{Sent, answer_bytes}
 use Rattle.message_laws.specs.Near.{IsTidy, Near}
 use Rattle.message_laws.proofs.Together.{More, near_itself, near_on, one_near}
-use Rattle.message_session.specs.Answers.{answered_bytes, answers_to, each_frame, message_number, one_frame}
+use Rattle.message_session.specs.Answers.{answered_bytes, answers_to, each_frame, message_number, one_frame, parts_of_frame, parts_of_request}
 use Rattle.message_session.specs.Sessions.{HasCarriedOut}
-use Rattle.message_session.specs.Steps.{parts_of_frame, parts_of_request}
 use Rattle.plist_state.specs.State.{WorldState}
 use Rattle.prevalence_store.specs.calls.Store.{StoreView}
 use Rattle.prevalence_store.specs.declared.messages.request.Request.{Request}
 use Rattle.prevalence_store.specs.messages.Answers.{Round, begun, by_number, each_request, one_request}
 use Rattle.user_macros.specs.Functions.{Functions}
 
-answers_append : (xs ys : List Sent) (ts us : List (List ℕ × Bool)) → length ts ≡ length xs → answers_to (xs ++ ys) (ts ++ us) ≡ answers_to xs ts ++ answers_to ys us
+pub answers_append : (xs ys : List Sent) (ts us : List (List ℕ × Bool)) → length ts ≡ length xs → answers_to (xs ++ ys) (ts ++ us) ≡ answers_to xs ts ++ answers_to ys us
 answers_append [] ys [] us same = refl
 answers_append [] ys (t ∷ ts) us same = absurd (omega (arith, same))
 answers_append (x ∷ xs) ys [] us same = absurd (omega (arith, same))
@@ -44,7 +44,7 @@ module _ (functions : Functions) where
 
   -- ---- frames
 
-  each_near : (frames : List Sent) (a b : Round) → Near a b → More (length frames) a b (each_frame functions a frames) (each_frame functions b frames)
+  pub each_near : (frames : List Sent) (a b : Round) → Near a b → More (length frames) a b (each_frame functions a frames) (each_frame functions b frames)
   each_near [] a b near = record { told = []; count = refl; here = sym (append-nil a.told); there = sym (append-nil b.told); near = near }
   each_near (frame ∷ frames) a b near =
       let one = one_near functions a b near (message_number frame.0) frame.1 in
@@ -57,7 +57,7 @@ module _ (functions : Functions) where
         near = rest.near;
       }
 
-  both_rounds : (xs ys : List Sent) (round : Round) → each_frame functions round (xs ++ ys) ≡ each_frame functions (each_frame functions round xs) ys
+  pub both_rounds : (xs ys : List Sent) (round : Round) → each_frame functions round (xs ++ ys) ≡ each_frame functions (each_frame functions round xs) ys
   both_rounds xs ys round = fold-append (λ (far : Round) frame. one_frame functions far frame) round xs ys
 
   module _ (last : ℕ) (w : WorldState) (tidy : IsTidy w.properties) where
@@ -76,14 +76,6 @@ module _ (functions : Functions) where
         ∙ ap (flat_map answer_bytes) (answers_append frames more far.told ts count)
         ∙ flat_map-append answer_bytes (answers_to frames far.told) (answers_to more ts)
 
-    -- the bytes of the first frames come first
-    pub bytes_of_first : (frames more : List Sent) → (rest : List ℕ) × (answered_bytes functions last w (frames ++ more) ≡ answered_bytes functions last w frames ++ rest)
-    bytes_of_first frames more =
-        let far = each_frame functions (begun last w) frames in
-        let here = each_near frames (begun last w) (begun last w) itself in
-        let later = each_near more far far (near_itself functions far here.near.tidy) in
-        (flat_map answer_bytes (answers_to more later.told), by_told frames more later.told later.here)
-
     pub first_after : {D R : Type 0} (store : StoreView D R) → store.world ≡ Some w → HasCarriedOut functions last w [] last store
     first_after store known = record { left = w; known = known; near = itself }
 
@@ -96,13 +88,12 @@ module _ (functions : Functions) where
           by_told frames more here.told here.here
           ∙ ap (λ ts. answered_bytes functions last w frames ++ flat_map answer_bytes (answers_to more ts)) (sym here.there)
 
-      pub more_after : (new_last : ℕ) (new : StoreView D R) → HasCarriedOut functions mid_last before.left more new_last new → HasCarriedOut functions last w (frames ++ more) new_last new
-      more_after new_last new after =
+      pub more_near : (new_last : ℕ) (left : WorldState) → Near (each_frame functions (begun mid_last before.left) more) (begun new_last left)
+          → Near (each_frame functions (begun last w) (frames ++ more)) (begun new_last left)
+      more_near new_last left near =
           let far = each_frame functions (begun last w) frames in
           let here = each_near more far (begun mid_last before.left) before.near in
-          record {
-            left = after.left;
-            known = after.known;
-            near = subst (λ (r : Round). Near r (begun new_last after.left)) (sym (both_rounds frames more (begun last w)))
-                (near_on functions _ _ _ here.near after.near);
-          }
+          subst (λ (r : Round). Near r (begun new_last left)) (sym (both_rounds frames more (begun last w))) (near_on functions _ _ _ here.near near)
+
+      pub more_after : (new_last : ℕ) (new : StoreView D R) → HasCarriedOut functions mid_last before.left more new_last new → HasCarriedOut functions last w (frames ++ more) new_last new
+      more_after new_last new after = record { left = after.left; known = after.known; near = more_near new_last after.left after.near }

@@ -1,19 +1,20 @@
 -- Where a session stands to the recipient of its answers, and that they may be handed to it.
-use Rattle.std.proofs.Common.{◌≡◌, ℕ, ◌+◌, Bool, true, false, List, [], length, map, Option, None, Some, IsTrue, Result, Ok, Err, inl, inr, refl, sym, ap, subst, ◌∙◌, arith}
+use Rattle.std.proofs.Common.{◌≡◌, ℕ, ◌+◌, ◌<◌, Bool, true, false, List, [], length, map, Option, None, Some, IsTrue, take, Result, Ok, Err, inl, inr, refl, sym, ap, subst, ◌∙◌, arith}
 use Rattle.std.specs.Option.{option_map}
-use Rattle.std.specs.Prelude.{take, unwrap_or}
+use Rattle.std.specs.Prelude.{unwrap_or}
 use Rattle.disk_trait.specs.Disk.{Image, State, IsHonest, IsSound, Throughout}
 use Rattle.disk_trait.specs.Moments.{joined, weaker}
 use Rattle.gate_log.specs.Layout.{LogRecord}
 use Rattle.message_frames.specs.Frames.{Sent}
-use Rattle.message_session.specs.Account.{Account, AreLogged, AreStored, AreUnderWay, first_account, round_after, with_frames}
-use Rattle.message_session.specs.Answers.{answered_bytes, each_frame}
-use Rattle.message_session.specs.Standing.{AcknowledgesNone, IsAtRest, Rests, RestsOrStops}
-use Rattle.message_session.specs.Steps.{KeepsOrLoses, RenewsForRoom, StopsAfter, parts_of_frame, parts_of_request}
+use Rattle.message_session.specs.Account.{Account, AreLogged, AreNext, AreStored, AreUnderWay, first_account, round_after, with_frames}
+use Rattle.message_session.specs.Answers.{AskAlike, answered_bytes, each_frame}
+use Rattle.message_session.specs.Standing.{AcknowledgesNone, ComeNext, IsAtRest, Rests, RestsOrStops}
+use Rattle.message_session.specs.Steps.{RenewsForRoom, RenewsIfDue, StopsAfter}
 use Rattle.message_session.specs.declared.answer.Stop.{Stop}
 use Rattle.message_session.specs.declared.answer.Stop.TheVariants as stop
 use Rattle.message_session.specs.declared.ended.Ended.{Ended}
-use Rattle.message_session.proofs.Requests.{left_alone}
+use Rattle.message_session.proofs.Next.{kept_before, next_begun, next_none, next_taken}
+use Rattle.message_session.proofs.Requests.{front_alike, left_alone}
 use Rattle.message_session.proofs.Rounds.{same_rounds}
 use Rattle.plist_state.specs.State.{WorldState}
 use Rattle.prevalence_store.specs.Theorem.{Keeps, MeansSome, Survives}
@@ -29,14 +30,10 @@ use Rattle.prevalence_store.specs.meaning.Acceptance.{after}
 use Rattle.prevalence_store.specs.meaning.Files.{MeansWorld}
 use Rattle.prevalence_store.specs.messages.Answers.{Round, answered, begun, closed}
 use Rattle.prevalence_store.specs.messages.Calls.{AnswersRequests, AreAnswered, entries_by, left_after}
+use Rattle.prevalence_store.specs.messages.Fronts.{AnswersFirst}
 use Rattle.prevalence_store.specs.steps.Failure.{is_device}
 use Rattle.prevalence_store.proofs.Surviving.{both_survive, fewer_survive, none_taken}
 use Rattle.user_macros.specs.Functions.{Functions}
-
--- what a recipient that keeps account kept before
-kept_before : {A : Type 0} (change : A → A) (told : Option A) (later : A) → option_map change told ≡ Some later → (account : A) × (told ≡ Some account) × (change account ≡ later)
-kept_before change None later is = absurd (cc)
-kept_before change (Some account) later is = (account, refl, cc)
 
 module _ (functions : Functions) where
   -- no records are all of them or none
@@ -47,6 +44,18 @@ module _ (functions : Functions) where
       let same : some.left ≡ w = cc in
       inl (subst (MeansWorld functions i) same some.meant)
 
+module _ (functions : Functions) where
+  -- the records of a round make the world after it
+  abbrev IsMadeBy : WorldState → Round → Type 0
+  IsMadeBy w round = after functions w (entries_by round.wrote round.entries) ≡ Some (left_after round.wrote w round.left)
+
+  -- where some are logged, a message wrote
+  made_of_some : (w : WorldState) (round : Round) → 0 < length (entries_by round.wrote round.entries) → after functions w (entries_by round.wrote round.entries) ≡ Some round.left → IsMadeBy w round
+  made_of_some w round some again = again ∙ by round.wrote some where
+    by : (wrote : Bool) → 0 < length (entries_by wrote round.entries) → ◌≡◌ {A = Option WorldState} (Some round.left) (Some (left_after wrote w round.left))
+    by true some = refl
+    by false some = absurd (omega (arith, some))
+
 -- what a snapshot survives
 pub snapshot_survives : (functions : Functions) {D R : Type 0} (state : D → State) (old new : StoreView D R) (w : WorldState) (outcome : Outcome) → Snapshots functions state old new w outcome → SurvivesAs functions state old new w [] 0
 snapshot_survives functions state old new w (Accepted value) is = absurd is
@@ -55,14 +64,11 @@ snapshot_survives functions state old new w (Refused number) (inl none) = none.s
 snapshot_survives functions state old new w (Refused number) (inr (inl fault)) = fault.survives
 snapshot_survives functions state old new w (Refused number) (inr (inr memory)) = memory.survives
 
--- it leaves this world, or none
-module _ (functions : Functions) {D R : Type 0} (state : D → State) (old new : StoreView D R) (w : WorldState) (known : old.world ≡ Some w) where
-  pub snapshot_keeps : (outcome : Outcome) → Snapshots functions state old new w outcome → KeepsOrLoses new w
-  snapshot_keeps (Accepted value) is = absurd is
-  snapshot_keeps Snapshotted is = inl is.renews.left
-  snapshot_keeps (Refused number) (inl none) = inl (ap (λ (s : StoreView D R). s.world) none.unchanged ∙ known)
-  snapshot_keeps (Refused number) (inr (inl fault)) = inr fault.failed.unknown
-  snapshot_keeps (Refused number) (inr (inr memory)) = inl (ap (λ (s : StoreView D R). s.world) memory.unchanged ∙ known)
+-- one that was due
+pub due_survives : (functions : Functions) {D R : Type 0} (state : D → State) (old new : StoreView D R) (w : WorldState) (result : Result Unit Ended) → RenewsIfDue functions state old new w result
+    → SurvivesAs functions state old new w [] 0
+due_survives functions state old new w (Ok done) renews = renews.1
+due_survives functions state old new w (Err ended) refused = snapshot_survives functions state old new w (Refused refused.0) refused.3
 
 -- and one that was taken for room
 pub room_survives : (functions : Functions) {D R : Type 0} (state : D → State) (old new : StoreView D R) (w : WorldState) (result : Result Unit Ended) → RenewsForRoom functions state old new w result
@@ -110,6 +116,7 @@ module _ (functions : Functions) {D R : Type 0} (state : D → State) (sound : (
         far.0,
         same far.0 far.1,
         record {
+          of_input = far.2.of_input;
           last_is = far.2.last_is;
           now = far.2.now;
           since = λ honest.
@@ -122,20 +129,23 @@ module _ (functions : Functions) {D R : Type 0} (state : D → State) (sound : (
       → AcknowledgesNone functions state told new
   none_further told mid new last rests survives account is =
       let far = rests account is in
-      ([], logged_since account mid new last far.0 far.1 far.2 [] 0 (survives far.0 far.1) (none_by mid new far.0 (survives far.0 far.1)))
+      record { frames = []; next = far.2.of_input; logged = logged_since account mid new last far.0 far.1 far.2 [] 0 (survives far.0 far.1) (none_by mid new far.0 (survives far.0 far.1)); made = λ _. refl }
 
   pub none_at_rest : (told : Option (Account D)) (store : StoreView D R) (last : ℕ) → Rests functions state told store last → AcknowledgesNone functions state told store
   none_at_rest told store last rests account is =
-      let far = rests account is in (
-        [],
-        record {
+      let far = rests account is in
+      record {
+        frames = [];
+        next = far.2.of_input;
+        logged = record {
           survives = λ honest. subst (λ v. Survives functions (state account.disk) (state store.disk) v [] 0 store.world) (sym far.2.now)
               (subst (λ o. Survives functions (state account.disk) (state store.disk) far.0 [] 0 o) (sym far.1) (far.2.since honest));
           all_or_none = λ honest.
               subst (λ v. Throughout (state account.disk) (state store.disk) (MeansAllOrNone functions v [])) (sym far.2.now)
               (weaker (state account.disk) (state store.disk) (MeansSome functions far.0 [] 0) (MeansAllOrNone functions far.0 []) (far.2.since honest).any_moment (means_before functions far.0 []));
-        },
-      )
+        };
+        made = λ _. refl;
+      }
 
   -- a session that does not go on after frames that were tried
   pub stops_end : (told : Option (Account D)) (store : StoreView D R) (last : ℕ) (why : Stop) → RestsOrStops functions state told store last (Err why) → AcknowledgesNone functions state told store
@@ -148,110 +158,128 @@ module _ (functions : Functions) {D R : Type 0} (state : D → State) (sound : (
 
   -- ---- requests that frames are
 
-  module _ (told : Option (Account D)) (old new : StoreView D R) (last : ℕ) (rests : Rests functions state told old last) (frames : List Sent) (requests : List Request)
-      (same : map parts_of_request requests ≡ map parts_of_frame frames) where
-    round_is : (account : Account D) (w : WorldState) → IsAtRest functions state account old last w → answered functions (begun last w) requests ≡ round_after functions account frames
-    round_is account w rest =
-        ap closed (same_rounds functions requests frames (begun last w) same) ∙ (λ i. closed (each_frame functions (begun (sym rest.last_is i) (sym rest.now i)) frames))
+  round_is : (old : StoreView D R) (last : ℕ) (frames : List Sent) (requests : List Request) → AskAlike requests frames → (account : Account D) (w : WorldState)
+      → IsAtRest functions state account old last w → answered functions (begun last w) requests ≡ round_after functions account frames
+  round_is old last frames requests alike account w rest =
+      ap closed (same_rounds functions requests frames (begun last w) alike) ∙ (λ i. closed (each_frame functions (begun (sym rest.last_is i) (sym rest.now i)) frames))
 
-    -- they are under way
-    under_way : (account : Account D) (w : WorldState) → old.world ≡ Some w → IsAtRest functions state account old last w
-        → SurvivesAs functions state old new w (entries_by (answered functions (begun last w) requests).wrote (answered functions (begun last w) requests).entries) 0
-        → AllOrNone functions state old new w (entries_by (answered functions (begun last w) requests).wrote (answered functions (begun last w) requests).entries)
-        → AreUnderWay functions state account new
-    under_way account w known rest survives all_or_none =
-        let round = answered functions (begun last w) requests in (
-          frames,
-          subst (λ (r : Round). AreLogged functions state account new (entries_by r.wrote r.entries) 0) (round_is account w rest)
-              (logged_since account old new last w known rest (entries_by round.wrote round.entries) 0 survives all_or_none),
-        )
+  -- they are under way
+  under_way : (old new : StoreView D R) (last : ℕ) (frames : List Sent) (requests : List Request) → AskAlike requests frames → (account : Account D) → AreNext account frames
+      → (w : WorldState) → old.world ≡ Some w → IsAtRest functions state account old last w
+      → SurvivesAs functions state old new w (entries_by (answered functions (begun last w) requests).wrote (answered functions (begun last w) requests).entries) 0
+      → AllOrNone functions state old new w (entries_by (answered functions (begun last w) requests).wrote (answered functions (begun last w) requests).entries)
+      → (IsHonest (state account.disk) → IsMadeBy functions w (answered functions (begun last w) requests)) → AreUnderWay functions state account new
+  under_way old new last frames requests alike account next w known rest survives all_or_none made =
+      let round = answered functions (begun last w) requests in
+      record {
+        frames = frames;
+        next = next;
+        logged = subst (λ (r : Round). AreLogged functions state account new (entries_by r.wrote r.entries) 0) (round_is old last frames requests alike account w rest)
+            (logged_since account old new last w known rest (entries_by round.wrote round.entries) 0 survives all_or_none);
+        made = λ honest. subst (λ v. IsMadeBy functions v (round_after functions account frames)) (sym rest.now) (subst (IsMadeBy functions w) (round_is old last frames requests alike account w rest) (made honest));
+      }
 
-    -- they were answered, and nobody was told so
-    pub none_told : (replies : Replies) → ((w : WorldState) → old.world ≡ Some w → AnswersRequests functions state old new w last requests (Ok replies)) → AcknowledgesNone functions state told new
-    none_told replies answers account is =
-        let far = rests account is in
-        let given = answers far.0 far.1 in
-        let round = answered functions (begun last far.0) requests in
-        let taken = entries_by round.wrote round.entries in
-        under_way account far.0 far.1 far.2
-        (λ known honest keeps. fewer_survive functions (state old.disk) (state new.disk) far.0 taken (length taken) 0 new.world (given.survives known honest keeps) (omega arith)) given.all_or_none
-
-    module _ (number : ℕ) (answers : (w : WorldState) → old.world ≡ Some w → AnswersRequests functions state old new w last requests (Err number)) where
-      -- they were not
+  module _ (told : Option (Account D)) (old new : StoreView D R) (last : ℕ) (rests : Rests functions state told old last) where
+    -- the first of the frames were not answered
+    module _ (frames : List Sent) (come : ComeNext told frames) (requests : List Request) (alike : AskAlike requests frames) (number : ℕ)
+        (answers : (w : WorldState) → old.world ≡ Some w → AnswersFirst functions state old new w last requests (Err number)) where
       none_of_requests : AcknowledgesNone functions state told new
       none_of_requests account is = by (is_device left.0) refl where
         far : (world : WorldState) × (old.world ≡ Some world) × IsAtRest functions state account old last world
         far = rests account is
 
-        left : AnswersRequests functions state old new far.0 last requests (Err number)
-        left = answers far.0 far.1
+        first : AnswersFirst functions state old new far.0 last requests (Err number)
+        first = answers far.0 far.1
+
+        left : AnswersRequests functions state old new far.0 last first.front (Err number)
+        left = first.answers
 
         by : (failed : Bool) → is_device left.0 ≡ failed → AreUnderWay functions state account new
         by false calm =
             subst (λ (s : StoreView D R). AreUnderWay functions state account s) (sym (left.2.unchanged calm)) (none_at_rest told old last rests account is)
-        by true device = under_way account far.0 far.1 far.2 (left.2.stopped device).survives (left.2.stopped device).all_or_none
+        by true device =
+            under_way old new last (take (length first.front) frames) first.front (front_alike requests first.front first.rest frames first.parts alike)
+            account (next_taken account frames (length first.front) (come account is)) far.0 far.1 far.2
+            (left.2.stopped device).survives (left.2.stopped device).all_or_none
+            (λ _. made_of_some functions far.0 (answered functions (begun last far.0) first.front) (left.2.stopped device).some (left.2.stopped device).again)
 
       pub unanswered : (why : Stop) → StopsAfter new number why → RestsOrStops functions state told new last (Err why)
       unanswered (stop.Untaken n) stops = λ account is.
           let far = rests account is in
+          let first = answers far.0 far.1 in
           subst (λ (s : StoreView D R). (world : WorldState) × (s.world ≡ Some world) × IsAtRest functions state account s last world)
-          (sym (left_alone functions state old new far.0 last requests number (answers far.0 far.1) stops.1)) far
+          (sym (left_alone functions state old new far.0 last first.front number first.answers stops.1)) far
       unanswered (stop.Ended ended) stops = none_of_requests
 
-  -- ---- what is handed on
+    -- ---- what is handed on: the answers to frames that were answered
 
-  -- the answers to frames that were answered
-  module _ (told : Option (Account D)) (old new : StoreView D R) (last : ℕ) (rests : Rests functions state told old last) (frames : List Sent) (requests : List Request)
-      (same : map parts_of_request requests ≡ map parts_of_frame frames) (replies : Replies)
-      (answers : (w : WorldState) → old.world ≡ Some w → AnswersRequests functions state old new w last requests (Ok replies)) where
-    given_after : (account : Account D) (w : WorldState) → old.world ≡ Some w → (rest : IsAtRest functions state account old last w)
-        → AreAnswered functions state old new account.now (round_after functions account frames) replies
-    given_after account w known rest =
-        subst (λ v. AreAnswered functions state old new v (round_after functions account frames) replies) (sym rest.now)
-        (subst (λ (r : Round). AreAnswered functions state old new w r replies) (round_is told old new last rests frames requests same account w rest) (answers w known))
+    module _ (frames : List Sent) (come : ComeNext told frames) (replies : Replies)
+        (answers : (w : WorldState) → old.world ≡ Some w → (requests : List Request) × AskAlike requests frames × AnswersRequests functions state old new w last requests (Ok replies)) where
+      -- nobody was told so
+      pub none_told : AcknowledgesNone functions state told new
+      none_told account is =
+          let far = rests account is in
+          let given = answers far.0 far.1 in
+          let round = answered functions (begun last far.0) given.0 in
+          let taken = entries_by round.wrote round.entries in
+          under_way old new last frames given.0 given.1 account (come account is) far.0 far.1 far.2
+          (λ known honest keeps. fewer_survive functions (state old.disk) (state new.disk) far.0 taken (length taken) 0 new.world (given.2.survives known honest keeps) (omega arith)) given.2.all_or_none
+          (λ honest.
+          let before = far.2.since honest in
+          (given.2.survives far.1 (subst IsTrue (sym before.honest) honest) (before.kept far.0 refl)).after_all (left_after round.wrote far.0 round.left) given.2.logs.left)
 
-    pub answers_stored : (bytes : List ℕ) → ((w : WorldState) → old.world ≡ Some w → bytes ≡ answered_bytes functions last w frames)
-        → (account : Account D) → told ≡ Some account → AreStored functions state account new frames bytes
-    answers_stored bytes made account is =
-        let far = rests account is in
-        let here : old.world ≡ Some account.now = far.1 ∙ ap (λ v. Some v) (sym far.2.now) in
-        let rest : IsAtRest functions state account old last account.now = subst (λ v. IsAtRest functions state account old last v) (sym far.2.now) far.2 in
-        let given = given_after account far.0 far.1 far.2 in
-        let round = round_after functions account frames in
-        let taken = entries_by round.wrote round.entries in
-        record {
-          bytes_are = made far.0 far.1 ∙ (λ i. answered_bytes functions (sym far.2.last_is i) (sym far.2.now i) frames);
-          known = given.logs.left;
-          stored = logged_since account old new last account.now here rest taken (length taken) given.survives given.all_or_none;
-        }
+      given_after : (account : Account D) (w : WorldState) → old.world ≡ Some w → (rest : IsAtRest functions state account old last w)
+          → AreAnswered functions state old new account.now (round_after functions account frames) replies
+      given_after account w known rest =
+          let given = answers w known in
+          subst (λ v. AreAnswered functions state old new v (round_after functions account frames) replies) (sym rest.now)
+          (subst (λ (r : Round). AreAnswered functions state old new w r replies) (round_is old last frames given.0 given.1 account w rest) given.2)
 
-    -- it rests then
-    pub rests_handed : (now : Option (Account D)) → ((later : Account D) → now ≡ Some later → option_map (with_frames functions frames new) told ≡ Some later)
-        → ((w : WorldState) → new.world ≡ Some w → IsHonest (state new.disk) → Keeps functions (state new.disk) w) → Rests functions state now new replies.last
-    rests_handed now kept keeps later is =
-        let before = kept_before (with_frames functions frames new) told later (kept later is) in
-        let far = rests before.0 before.1 in
-        let given = given_after before.0 far.0 far.1 far.2 in
-        let round = round_after functions before.0 frames in
-        let left = left_after round.wrote before.0.now round.left in (
-          left,
-          given.logs.left,
-          subst (λ (a : Account D). IsAtRest functions state a new replies.last left) before.2 (record {
-            last_is = sym given.last;
-            now = ap (λ o. unwrap_or o before.0.now) given.logs.left;
-            since = λ honest. none_taken functions (state new.disk) left (sound new.disk honest) (keeps left given.logs.left honest);
-          }),
-        )
+      pub answers_stored : (bytes : List ℕ) → ((w : WorldState) → old.world ≡ Some w → bytes ≡ answered_bytes functions last w frames)
+          → (account : Account D) → told ≡ Some account → AreStored functions state account new frames bytes
+      answers_stored bytes made account is =
+          let far = rests account is in
+          let here : old.world ≡ Some account.now = far.1 ∙ ap (λ v. Some v) (sym far.2.now) in
+          let rest : IsAtRest functions state account old last account.now = subst (λ v. IsAtRest functions state account old last v) (sym far.2.now) far.2 in
+          let given = given_after account far.0 far.1 far.2 in
+          let round = round_after functions account frames in
+          let taken = entries_by round.wrote round.entries in
+          record {
+            next = come account is;
+            bytes_are = made far.0 far.1 ∙ (λ i. answered_bytes functions (sym far.2.last_is i) (sym far.2.now i) frames);
+            known = given.logs.left;
+            stored = logged_since account old new last account.now here rest taken (length taken) given.survives given.all_or_none;
+          }
+
+      -- it rests then
+      pub rests_handed : (now : Option (Account D)) → ((later : Account D) → now ≡ Some later → option_map (with_frames functions frames new) told ≡ Some later)
+          → ((w : WorldState) → new.world ≡ Some w → IsHonest (state new.disk) → Keeps functions (state new.disk) w) → Rests functions state now new replies.last
+      rests_handed now kept keeps later is =
+          let before = kept_before (with_frames functions frames new) told later (kept later is) in
+          let far = rests before.0 before.1 in
+          let given = given_after before.0 far.0 far.1 far.2 in
+          let round = round_after functions before.0 frames in
+          let left = left_after round.wrote before.0.now round.left in (
+            left,
+            given.logs.left,
+            subst (λ (a : Account D). IsAtRest functions state a new replies.last left) before.2 (record {
+              of_input = next_none before.0 (with_frames functions frames new before.0) frames refl refl (come before.0 before.1);
+              last_is = sym given.last;
+              now = ap (λ o. unwrap_or o before.0.now) given.logs.left;
+              since = λ honest. none_taken functions (state new.disk) left (sound new.disk honest) (keeps left given.logs.left honest);
+            }),
+          )
 
   -- the position
-  pub rests_begun : (now : Option (Account D)) (store : StoreView D R) (position : ℕ)
-      → ((later : Account D) → now ≡ Some later → (world : WorldState) × (store.world ≡ Some world) × (later ≡ first_account position world store.disk))
+  pub rests_begun : (input : Option (List ℕ)) (now : Option (Account D)) (store : StoreView D R) (position : ℕ)
+      → ((later : Account D) → now ≡ Some later → (world : WorldState) × (store.world ≡ Some world) × (later ≡ first_account input position world store.disk))
       → ((w : WorldState) → store.world ≡ Some w → IsHonest (state store.disk) → Keeps functions (state store.disk) w) → Rests functions state now store position
-  rests_begun now store position kept keeps later is =
+  rests_begun input now store position kept keeps later is =
       let first = kept later is in (
         first.0,
         first.1,
         subst (λ (a : Account D). IsAtRest functions state a store position first.0) (sym first.2) (record {
+          of_input = next_begun (first_account input position first.0 store.disk) refl;
           last_is = refl;
           now = refl;
           since = λ honest. none_taken functions (state store.disk) first.0 (sound store.disk honest) (keeps first.0 first.1 honest);

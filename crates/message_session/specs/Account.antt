@@ -1,27 +1,36 @@
 -- What a recipient of answers keeps account of, and what it asks before they are handed to it.
-use Rattle.std.specs.Prelude.{ℕ, ◌≡◌, List, length, Some, unwrap_or}
+use Rattle.std.specs.Prelude.{ℕ, ◌≡◌, ◌≤◌, List, [], ◌++◌, length, Option, Some, unwrap_or}
 use Rattle.disk_trait.specs.Disk.{State, IsHonest, Throughout}
 use Rattle.gate_log.specs.Layout.{LogRecord}
-use Rattle.message_frames.specs.Frames.{Sent}
+use Rattle.message_frames.specs.Frames.{AreFrames, Sent}
 use Rattle.message_session.specs.Answers.{answered_bytes, each_frame}
+use Rattle.message_session.specs.Sessions.{text_limit}
 use Rattle.plist_state.specs.State.{WorldState}
 use Rattle.prevalence_store.specs.Theorem.{Survives}
 use Rattle.prevalence_store.specs.calls.ExecuteAll.{MeansAllOrNone}
 use Rattle.prevalence_store.specs.calls.Store.{StoreView}
+use Rattle.prevalence_store.specs.meaning.Acceptance.{after}
 use Rattle.prevalence_store.specs.messages.Answers.{Round, begun, closed}
 use Rattle.prevalence_store.specs.messages.Calls.{entries_by, left_after}
+use Rattle.prevalence_store.specs.messages.Position.{position}
 use Rattle.user_macros.specs.Functions.{Functions}
 
--- How the session was as answers were last handed on, or, if none were, as its position was: the number of the last message, the world,
--- and the disk.
+-- What the reader of the session had before it was read, if that is told. And how the session was as answers were last handed on, or, if none
+-- were, as its position was: the frames that were answered, the number of the last message, the world, and the disk.
 pub record Account (D : Type 0) : Type 0 where
+  pub input : Option (List ℕ)
+  pub answered : List Sent
   pub last : ℕ
   pub now : WorldState
   pub disk : D
 
+-- This number is told as the position of a world. The position may be greater, but then no message up to it is carried out either.
+abbrev pub IsToldIn : ℕ → WorldState → Type 0
+IsToldIn number world = number ≤ unwrap_or (position world) 0
+
 -- as this position is told in this world
-abbrev pub first_account : {D : Type 0} → ℕ → WorldState → D → Account D
-first_account position world disk = record { last = position; now = world; disk = disk }
+abbrev pub first_account : {D : Type 0} → Option (List ℕ) → ℕ → WorldState → D → Account D
+first_account input position world disk = record { input = input; answered = []; last = position; now = world; disk = disk }
 
 -- these frames after those that were answered: the answers, and what was logged together, with the position
 abbrev pub round_after : Functions → {D : Type 0} → Account D → List Sent → Round
@@ -30,10 +39,19 @@ round_after functions account frames = closed (each_frame functions (begun accou
 -- after the answers to these frames
 abbrev pub with_frames : Functions → {D R : Type 0} → List Sent → StoreView D R → Account D → Account D
 with_frames functions frames store account = record {
+  input = account.input;
+  answered = account.answered ++ frames;
   last = (round_after functions account frames).last;
   now = unwrap_or store.world account.now;
   disk = store.disk;
 }
+
+-- These frames are the next ones of the input, after those that were answered: of some input, if it is not told.
+pub record AreNext {D : Type 0} (account : Account D) (frames : List Sent) : Type 0 where
+  pub all : List ℕ
+  pub of_input : (told : List ℕ) → account.input ≡ Some told → all ≡ told
+  pub rest : List ℕ
+  pub parts : AreFrames text_limit (account.answered ++ frames) rest all
 
 -- ---- what was done since then
 
@@ -45,15 +63,25 @@ module _ (functions : Functions) {D R : Type 0} (state : D → State) (account :
     pub all_or_none : IsHonest (state account.disk) → Throughout (state account.disk) (state store.disk) (MeansAllOrNone functions account.now taken)
 
   -- what these frames leave in the file, after those that were answered
-  abbrev records_of : List Sent → List LogRecord
+  abbrev pub records_of : List Sent → List LogRecord
   records_of frames = entries_by (round_after functions account frames).wrote (round_after functions account frames).entries
 
-  -- These bytes answer these frames, after those that were answered. All that their messages wrote is stored, with the position.
+  -- the world after these frames: if none of them wrote, the one before
+  abbrev pub left_by : List Sent → WorldState
+  left_by frames = left_after (round_after functions account frames).wrote account.now (round_after functions account frames).left
+
+  -- These bytes answer these frames, the next ones after those that were answered. All that their messages wrote is stored, with the
+  -- position.
   pub record AreStored (frames : List Sent) (bytes : List ℕ) : Type 0 where
+    pub next : AreNext account frames
     pub bytes_are : bytes ≡ answered_bytes functions account.last account.now frames
-    pub known : store.world ≡ Some (left_after (round_after functions account frames).wrote account.now (round_after functions account frames).left)
+    pub known : store.world ≡ Some (left_by frames)
     pub stored : AreLogged (records_of frames) (length (records_of frames))
 
-  -- Some frames were under way at most, together: nothing but what they leave was logged, and no answer to them was handed on.
-  abbrev pub AreUnderWay : Type 0
-  AreUnderWay = (frames : List Sent) × AreLogged (records_of frames) 0
+  -- The next frames were under way at most, together: nothing but what they leave was logged, and no answer to them was handed on.
+  pub record AreUnderWay : Type 0 where
+    pub frames : List Sent
+    pub next : AreNext account frames
+    pub logged : AreLogged (records_of frames) 0
+    -- the world after all of it is the one after these frames
+    pub made : IsHonest (state account.disk) → after functions account.now (records_of frames) ≡ Some (left_by frames)

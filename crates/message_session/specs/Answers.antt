@@ -1,10 +1,11 @@
 -- What is answered to frames one after the other, and what a session writes.
-use Rattle.std.specs.Prelude.{ℕ, Bool, List, [], ◌∷◌, ◌++◌, Option, None, Some, fold}
+use Rattle.std.specs.Prelude.{ℕ, ◌≡◌, Bool, List, [], ◌∷◌, ◌++◌, map, Option, None, Some, fold}
 use Rattle.std.specs.List.{flat_map}
 use Rattle.message_frames.specs.Frames.{Sent, answer_bytes, position_bytes}
 use Rattle.message_frames.specs.declared.frame.Kind.{Kind}
 use Rattle.message_frames.specs.declared.frame.Kind.TheVariants.{Do, Ask}
 use Rattle.plist_state.specs.State.{WorldState}
+use Rattle.prevalence_store.specs.declared.messages.request.Request.{Request}
 use Rattle.prevalence_store.specs.messages.Answers.{Round, begun, by_number}
 use Rattle.user_macros.specs.Functions.{Functions}
 
@@ -12,6 +13,17 @@ use Rattle.user_macros.specs.Functions.{Functions}
 abbrev pub message_number : Kind → Option ℕ
 message_number (Do number) = Some number
 message_number Ask = None
+
+-- what is asked by a request, and by a frame
+abbrev pub parts_of_request : Request → Option ℕ × List ℕ
+parts_of_request request = (request.number, request.text.now)
+
+abbrev pub parts_of_frame : Sent → Option ℕ × List ℕ
+parts_of_frame frame = (message_number frame.0, frame.1)
+
+-- these requests ask what these frames do
+abbrev pub AskAlike : List Request → List Sent → Type 0
+AskAlike requests frames = map parts_of_request requests ≡ map parts_of_frame frames
 
 -- a round with the answer to one frame more, and to frames one after the other
 abbrev pub one_frame : Functions → Round → Sent → Round
@@ -26,9 +38,12 @@ answers_to [] told = []
 answers_to (frame ∷ frames) [] = []
 answers_to (frame ∷ frames) (one ∷ more) = (frame.0, one.0) ∷ answers_to frames more
 
--- the bytes that answer frames, after the message of this number, in a world
+-- the answers to frames, after the message of this number, in a world; and their bytes
+abbrev pub answers_of : Functions → ℕ → WorldState → List Sent → List Sent
+answers_of functions last world frames = answers_to frames (each_frame functions (begun last world) frames).told
+
 abbrev pub answered_bytes : Functions → ℕ → WorldState → List Sent → List ℕ
-answered_bytes functions last world frames = flat_map answer_bytes (answers_to frames (each_frame functions (begun last world) frames).told)
+answered_bytes functions last world frames = flat_map answer_bytes (answers_of functions last world frames)
 
 -- What a session writes that begins in this world, with this position: the position, and the answer to each frame.
 abbrev pub session_bytes : Functions → ℕ → WorldState → List Sent → List ℕ

@@ -1,36 +1,28 @@
 -- How a session of messages goes, and how it ends.
-use Rattle.std.specs.Prelude.{ℕ, ◌≡◌, ◌⊎◌, List, [], ◌++◌, length, Option, None, Some, Ok, Err}
+use Rattle.std.specs.Prelude.{ℕ, ◌≡◌, ◌⊎◌, List, [], ◌++◌, length, Option, Some, Ok, Err}
 use Rattle.std.specs.Io.KnownBytes.{Consumes, IsAtEnd}
 use Rattle.std.specs.List.{flat_map}
 use Rattle.disk_trait.specs.Disk.{State}
-use Rattle.message_frames.specs.Frames.{AreFrames, IsBegun, IsMalformed, Sent, frame_bytes}
+use Rattle.message_frames.specs.Frames.{AreFrames, IsBegun, IsMalformed, Sent, frame_bytes, position_bytes}
 use Rattle.message_laws.specs.Near.{Near}
-use Rattle.message_session.specs.Answers.{each_frame, session_bytes}
+use Rattle.message_session.specs.Answers.{AskAlike, each_frame, session_bytes}
 use Rattle.message_session.specs.declared.ended.Ended.{Ended}
 use Rattle.message_session.specs.declared.ended.Ended.TheVariants.{End, NoFrame, Fault}
-use Rattle.lisp_object.specs.declared.refusal.TheConstants.{NO_MEMORY}
+use Rattle.lisp_object.specs.declared.refusal.TheConstants.{INPUT, LOG_FULL, NO_MEMORY, OUTPUT, REOPEN, SNAPSHOT_TOO_LARGE}
 use Rattle.plist_state.specs.State.{WorldState}
 use Rattle.prevalence_store.specs.calls.Execute.{SurvivesAs}
 use Rattle.prevalence_store.specs.calls.Snapshot.{IsSnapshotted, Snapshots}
 use Rattle.prevalence_store.specs.calls.Store.{StoreView}
-use Rattle.prevalence_store.specs.calls.Streams.{Writes}
+use Rattle.prevalence_store.specs.calls.Streams.{Writes, WritesPart}
+use Rattle.prevalence_store.specs.declared.messages.request.Request.{Request}
 use Rattle.prevalence_store.specs.declared.outcome.Outcome.TheVariants.{Refused}
 use Rattle.prevalence_store.specs.messages.Answers.{begun}
-use Rattle.prevalence_store.specs.messages.Calls.{BeginsMessages}
+use Rattle.prevalence_store.specs.messages.Calls.{AnswersRequests, BeginsMessages}
 use Rattle.user_macros.specs.Functions.{Functions}
 
 -- the most bytes of a text
 abbrev pub text_limit : ℕ
 text_limit = 1048576
-
--- these bytes were written, or the first few of them
-abbrev pub WritesFirstOf : Option (List ℕ) → Option (List ℕ) → List ℕ → Type 0
-WritesFirstOf held written bytes = (before : List ℕ) → held ≡ Some before → (front : List ℕ) × (rest : List ℕ) × (bytes ≡ front ++ rest) × (written ≡ Some (before ++ front))
-
-abbrev pub EndsByFault : Ended → Type 0
-EndsByFault End = ⊥
-EndsByFault (NoFrame place) = ⊥
-EndsByFault (Fault number) = Unit {0}
 
 -- ---- frames that come after the message of this number, in this world
 
@@ -41,15 +33,71 @@ module _ (functions : Functions) (last : ℕ) (world : WorldState) where
     pub known : store.world ≡ Some left
     pub near : Near (each_frame functions (begun last world) frames) (begun now_last left)
 
-  -- What it has at a fault: this world too; or none, until it is opened again.
-  abbrev pub IsLeft : {D R : Type 0} → List Sent → StoreView D R → Type 0
-  IsLeft frames store = (store.world ≡ None) ⊎ ((now_last : ℕ) × HasCarriedOut frames now_last store)
+  -- a store that goes on has carried them out
+  abbrev pub AreCarriedOut : {D R : Type 0} → List Sent → StoreView D R → Type 0
+  AreCarriedOut frames store = (now_last : ℕ) × HasCarriedOut frames now_last store
 
-  module _ {D R : Type 0} (store : StoreView D R) (held written : Option (List ℕ)) (bytes : List Sent → List ℕ) where
+  module _ {D R : Type 0} (state : D → State) (store : StoreView D R) (held written : Option (List ℕ)) (bytes : List Sent → List ℕ) where
     -- these frames were carried out, and the bytes that are written for them were written
     pub record AreFramesAnswered (frames : List Sent) (now_last : ℕ) : Type 0 where
       pub after : HasCarriedOut frames now_last store
       pub output : Writes held written (bytes frames)
+
+    -- ---- why a fault ends it: these frames were answered whole, and these come next
+
+    module _ (answered next : List Sent) (number : ℕ) where
+      -- A read failed, or there were too many of them. Less than a frame is left.
+      pub record IsUnread (rest : List ℕ) : Type 0 where
+        pub input : number ≡ INPUT
+        pub none_next : next ≡ []
+        pub begun : IsBegun text_limit rest
+        pub carried_out : AreCarriedOut answered store
+        pub output : Writes held written (bytes answered)
+
+      -- A write failed, or took nothing. The next frames are carried out too, and of their answers a part was written.
+      pub record IsUnwritten : Type 0 where
+        pub output : number ≡ OUTPUT
+        pub carried_out : AreCarriedOut (answered ++ next) store
+        pub more : List ℕ
+        pub more_is : bytes (answered ++ next) ≡ bytes answered ++ more
+        pub between : Option (List ℕ)
+        pub first : Writes held between (bytes answered)
+        pub part : WritesPart between written more
+
+      -- There was no memory for the session. The next frames, if any, are carried out too, and no byte of their answers was written.
+      pub record IsOutOfMemory : Type 0 where
+        pub memory : number ≡ NO_MEMORY
+        pub carried_out : AreCarriedOut (answered ++ next) store
+        pub output : Writes held written (bytes answered)
+
+      -- The store, as those that were answered left it, refused the next ones. Its own clause says why, and what it has now.
+      pub record IsUntaken : Type 0 where
+        pub before : StoreView D R
+        pub before_last : ℕ
+        pub after : HasCarriedOut answered before_last before
+        pub requests : List Request
+        pub asked : AskAlike requests next
+        pub refused : AnswersRequests functions state before store after.left before_last requests (Err number)
+        pub output : Writes held written (bytes answered)
+
+      -- It refused the next ones for want of room, as they found it.
+      pub record HasNoRoom (before : StoreView D R) (left : WorldState) (before_last : ℕ) : Type 0 where
+        pub requests : List Request
+        pub asked : AskAlike requests next
+        pub refused : AnswersRequests functions state before before left before_last requests (Err LOG_FULL)
+
+      -- It refused a snapshot, that was due, or for the next ones, which had no room. One that is due and too large is passed over.
+      pub record IsUnrenewed : Type 0 where
+        pub before : StoreView D R
+        pub before_last : ℕ
+        pub after : HasCarriedOut answered before_last before
+        pub refused : Snapshots functions state before store after.left (Refused number)
+        pub large : number ≡ SNAPSHOT_TOO_LARGE → HasNoRoom before after.left before_last
+        pub output : Writes held written (bytes answered)
+
+      -- a cause that is not of the input
+      abbrev pub HasCause : Type 0
+      HasCause = IsUnwritten ⊎ (IsOutOfMemory ⊎ (IsUntaken ⊎ IsUnrenewed))
 
     module _ (read : List ℕ) where
       -- what was read begins with these frames, which were answered, and these bytes come after them
@@ -57,14 +105,21 @@ module _ (functions : Functions) (last : ℕ) (world : WorldState) where
         pub parts : AreFrames text_limit frames rest read
         pub answered : AreFramesAnswered frames now_last
 
+      -- It ended by a fault, and this is why. What was read begins with the frames that were answered and the next ones.
+      pub record IsBroken (number : ℕ) : Type 0 where
+        pub answered : List Sent
+        pub next : List Sent
+        pub rest : List ℕ
+        pub parts : AreFrames text_limit (answered ++ next) rest read
+        pub cause : IsUnread answered next number rest ⊎ HasCause answered next number
+
       -- How it ends. At the end of the input, with less than a frame after those that were answered. At bytes that are no frame, however
-      -- they go on, with so many bytes before them. Or at a fault, after some frames that were read were carried out, with the first few of
-      -- the bytes for them.
+      -- they go on, with so many bytes before them. Or at a fault.
       abbrev pub EndsBy : Option (List ℕ) → Ended → Type 0
       EndsBy left End = (frames : List Sent) × (rest : List ℕ) × (now_last : ℕ) × AreServed frames rest now_last × IsBegun text_limit rest × IsAtEnd left
       EndsBy left (NoFrame place) = (frames : List Sent) × (rest : List ℕ) × (now_last : ℕ) × AreServed frames rest now_last × IsMalformed text_limit rest
           × (place ≡ length (flat_map frame_bytes frames))
-      EndsBy left (Fault number) = (frames : List Sent) × (rest : List ℕ) × AreFrames text_limit frames rest read × WritesFirstOf held written (bytes frames) × IsLeft frames store
+      EndsBy left (Fault number) = IsBroken number
 
 -- ---- a session
 
@@ -102,6 +157,15 @@ module _ (functions : Functions) {D R : Type 0} (state : D → State) where
       pub unread : left ≡ has
       pub unwritten : written ≡ held
 
+    -- A write failed, or took nothing, before the position was told whole. Nothing was read.
+    pub record IsUntold (ended : Ended) : Type 0 where
+      pub position : ℕ
+      pub first : WorldState
+      pub begins : MessagesBegin old new world position first
+      pub fault : ended ≡ Fault OUTPUT
+      pub unread : left ≡ has
+      pub part : WritesPart held written (position_bytes position)
+
     -- The position was told, and frames were read and answered, until it ended so.
     pub record IsServed (ended : Ended) : Type 0 where
       pub position : ℕ
@@ -110,8 +174,12 @@ module _ (functions : Functions) {D R : Type 0} (state : D → State) where
       pub begins : MessagesBegin old mid world position first
       pub read : List ℕ
       pub reads : Consumes has left read
-      pub ends : EndsBy functions position first new held written (session_bytes functions position first) read left ended
+      pub ends : EndsBy functions position first state new held written (session_bytes functions position first) read left ended
 
     -- What `serve_messages` does.
     abbrev pub ServesMessages : Ended → Type 0
-    ServesMessages ended = IsUnbegun ended ⊎ IsServed ended
+    ServesMessages ended = IsUnbegun ended ⊎ (IsUntold ended ⊎ IsServed ended)
+
+-- A session over a store that has met a device fault does nothing.
+abbrev pub AsksToReopen : {D R I O : Type 0} → (old new : StoreView D R) → (input left : I) → (held written : O) → Ended → Type 0
+AsksToReopen old new input left held written ended = (ended ≡ Fault REOPEN) × (new ≡ old) × (left ≡ input) × (written ≡ held)

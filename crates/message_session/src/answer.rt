@@ -1,14 +1,12 @@
 // The answers to frames: from the store, and to the output.
-ghost use Rattle.std.specs.Prelude.{◌≡◌, ◌≤◌, [], map, true, IfErr, IfOk, OnOk, Some};
+ghost use Rattle.std.specs.Prelude.{◌≡◌, ℕ, ◌<◌, ◌≤◌, length, map, take, true, IfErr, IfOk, OnOk, Some};
 ghost use Rattle.std.specs.List.{flat_map};
 ghost use Rattle.message_frames.specs.Frames.{answer_bytes, sent};
-ghost use Rattle.message_session.specs.Answers.{answers_to, message_number};
-ghost use Rattle.message_session.specs.Sessions.{EndsByFault};
-ghost use Rattle.message_session.specs.Standing.{Rests, RestsOrEnds, RestsOrStops};
-ghost use Rattle.message_session.specs.Steps.{AnswersFrames, KeepsOrLoses, RenewsForRoom, StopsAfter, TakesFrames, parts_of_frame, parts_of_request, ended_by};
+ghost use Rattle.message_session.specs.Answers.{AskAlike, answers_to, message_number};
+ghost use Rattle.message_session.specs.Standing.{AnswersMore, ComeNext, Rests, RestsOrEnds, RestsOrStops};
+ghost use Rattle.message_session.specs.Steps.{AnswersFront, AnswersFrames, RenewsForRoom, RenewsIfDue, StopsAfter, TakesFrames, ended_by};
 ghost use Rattle.plist_state.specs.Sound.{IsSound};
 ghost use Rattle.plist_state.specs.State.{WorldState};
-ghost use Rattle.prevalence_store.specs.calls.Execute.{SurvivesAs};
 ghost use Rattle.prevalence_store.specs.messages.Rounds.{told_in};
 ghost use Rattle.user_macros.specs.Functions.{are_registered};
 
@@ -45,11 +43,8 @@ impl Course {
         &mut self,
         store: &mut Store<D, R>,
     ) -> Result<(), Ended>
-        ensures same { (w : WorldState) → store.old.world ≡ Some w → OnOk result (store.new.world ≡ Some w) }
-        ensures survives { (w : WorldState) → store.old.world ≡ Some w
-            → SurvivesAs R.Meaning.functions D.state store.old store.new w [] 0 }
-        ensures fault { IfErr result EndsByFault }
-        ensures known { (w : WorldState) → store.old.world ≡ Some w → KeepsOrLoses store.new w }
+        ensures renews { (w : WorldState) → store.old.world ≡ Some w
+            → RenewsIfDue R.Meaning.functions D.state store.old store.new w result }
         ensures last { self.new.last ≡ self.old.last }
         ensures macros { store.new.macros ≡ store.old.macros }
     {
@@ -73,11 +68,8 @@ pub(crate) fn its_world_is_sound<D: Disk, R: MacroFunctions>(store: &Store<D, R>
 
 // Takes a snapshot. One that is too large for the half is passed over.
 fn renew<D: Disk, R: MacroFunctions>(store: &mut Store<D, R>) -> Result<(), Ended>
-    ensures same { (w : WorldState) → store.old.world ≡ Some w → OnOk result (store.new.world ≡ Some w) }
-    ensures survives { (w : WorldState) → store.old.world ≡ Some w
-        → SurvivesAs R.Meaning.functions D.state store.old store.new w [] 0 }
-    ensures fault { IfErr result EndsByFault }
-    ensures known { (w : WorldState) → store.old.world ≡ Some w → KeepsOrLoses store.new w }
+    ensures renews { (w : WorldState) → store.old.world ≡ Some w
+        → RenewsIfDue R.Meaning.functions D.state store.old store.new w result }
     ensures macros { store.new.macros ≡ store.old.macros }
 {
     match store.snapshot() {
@@ -92,7 +84,6 @@ pub(crate) fn renew_for_room<D: Disk, R: MacroFunctions>(
     store: &mut Store<D, R>,
 ) -> Result<(), Ended>
     ensures renews { (w : WorldState) → store.old.world ≡ Some w → RenewsForRoom R.Meaning.functions D.state store.old store.new w result }
-    ensures fault { IfErr result EndsByFault }
     ensures macros { store.new.macros ≡ store.old.macros }
 {
     match store.snapshot() {
@@ -121,7 +112,7 @@ impl Stop {
     }
 }
 
-/// Answers frames: together, or one by one where there is no room or no memory for them together.
+/// Answers frames: the first of them together until all are answered, or one by one where there is no room or no memory for them together.
 pub(crate) fn answer_frames<D: Disk, R: MacroFunctions, O: AnswerRecipient<D, R>>(
     alloc: Global,
     store: &mut Store<D, R>,
@@ -132,18 +123,53 @@ pub(crate) fn answer_frames<D: Disk, R: MacroFunctions, O: AnswerRecipient<D, R>
     requires answers { R.answers store.old.macros }
     requires whole { are_registered R.Meaning.functions (R.functions store.old.macros) ≡ true }
     requires rests { Rests R.Meaning.functions D.state (O.account output.old) store.old course.old.last }
+    requires next { ComeNext (O.account output.old) (map sent frames.now) }
     ensures answers { (w : WorldState) → store.old.world ≡ Some w
-        → AnswersFrames R.Meaning.functions course.old.last w (O.contents output.old) (O.contents output.new)
-        store.new course.new.last (map sent frames.now) result }
+        → AnswersFrames R.Meaning.functions course.old.last w D.state store.new (O.contents output.old) (O.contents output.new)
+        course.new.last (map sent frames.now) result }
     ensures rests { RestsOrEnds R.Meaning.functions D.state (O.account output.new) store.new course.new.last result }
+    ensures more { OnOk result (AnswersMore (O.account output.old) (O.account output.new) (map sent frames.now)) }
+    ensures input { O.input output.new ≡ O.input output.old }
     ensures macros { store.new.macros ≡ store.old.macros }
 {
     its_world_is_sound(store);
-    if frames.is_empty() {
-        return Ok(());
+    let mut done = 0;
+    'fronts: while done < frames.len() {
+        its_world_is_sound(store);
+        match answer_front(alloc, store, course, &frames[done..], output) {
+            Ok(count) => done += count,
+            Err(ended) => return Err(ended),
+        }
     }
+    Ok(())
+}
+
+// Answers the first of these frames, of which there are some: together, or one by one. Gives how many.
+fn answer_front<D: Disk, R: MacroFunctions, O: AnswerRecipient<D, R>>(
+    alloc: Global,
+    store: &mut Store<D, R>,
+    course: &mut Course,
+    frames: &[Frame<'_>],
+    output: &mut O,
+) -> Result<usize, Ended>
+    requires answers { R.answers store.old.macros }
+    requires whole { are_registered R.Meaning.functions (R.functions store.old.macros) ≡ true }
+    requires rests { Rests R.Meaning.functions D.state (O.account output.old) store.old course.old.last }
+    requires next { ComeNext (O.account output.old) (map sent frames.now) }
+    requires any { 0 < length frames.now }
+    ensures answers { (w : WorldState) → store.old.world ≡ Some w
+        → AnswersFront R.Meaning.functions course.old.last w D.state store.new (O.contents output.old) (O.contents output.new)
+        course.new.last (map sent frames.now) result }
+    ensures rests { RestsOrEnds R.Meaning.functions D.state (O.account output.new) store.new course.new.last result }
+    ensures more { IfOk result (λ count. AnswersMore (O.account output.old) (O.account output.new) (take count (map sent frames.now))) }
+    ensures most { IfOk result (λ count. count ≤ length frames.now) }
+    ensures some { IfOk result (λ count. 0 < count) }
+    ensures input { O.input output.new ≡ O.input output.old }
+    ensures macros { store.new.macros ≡ store.old.macros }
+{
+    its_world_is_sound(store);
     let stop = match take_frames(alloc, store, course, frames, output) {
-        Ok(()) => return Ok(()),
+        Ok(count) => return Ok(count),
         Err(stop) => stop,
     };
     match stop {
@@ -161,26 +187,32 @@ pub(crate) fn answer_frames<D: Disk, R: MacroFunctions, O: AnswerRecipient<D, R>
     }
 }
 
-// Answers frames together; where they have no room or no memory, one by one.
+// Answers the first of these frames together; where they have no room or no memory, all one by one.
 fn answer_each<D: Disk, R: MacroFunctions, O: AnswerRecipient<D, R>>(
     alloc: Global,
     store: &mut Store<D, R>,
     course: &mut Course,
     frames: &[Frame<'_>],
     output: &mut O,
-) -> Result<(), Ended>
+) -> Result<usize, Ended>
     requires answers { R.answers store.old.macros }
     requires whole { are_registered R.Meaning.functions (R.functions store.old.macros) ≡ true }
     requires rests { Rests R.Meaning.functions D.state (O.account output.old) store.old course.old.last }
+    requires next { ComeNext (O.account output.old) (map sent frames.now) }
+    requires any { 0 < length frames.now }
     ensures answers { (w : WorldState) → store.old.world ≡ Some w
-        → AnswersFrames R.Meaning.functions course.old.last w (O.contents output.old) (O.contents output.new)
-        store.new course.new.last (map sent frames.now) result }
+        → AnswersFront R.Meaning.functions course.old.last w D.state store.new (O.contents output.old) (O.contents output.new)
+        course.new.last (map sent frames.now) result }
     ensures rests { RestsOrEnds R.Meaning.functions D.state (O.account output.new) store.new course.new.last result }
+    ensures more { IfOk result (λ count. AnswersMore (O.account output.old) (O.account output.new) (take count (map sent frames.now))) }
+    ensures most { IfOk result (λ count. count ≤ length frames.now) }
+    ensures some { IfOk result (λ count. 0 < count) }
+    ensures input { O.input output.new ≡ O.input output.old }
     ensures macros { store.new.macros ≡ store.old.macros }
 {
     its_world_is_sound(store);
     let stop = match take_frames(alloc, store, course, frames, output) {
-        Ok(()) => return Ok(()),
+        Ok(count) => return Ok(count),
         Err(stop) => stop,
     };
     match stop {
@@ -190,73 +222,88 @@ fn answer_each<D: Disk, R: MacroFunctions, O: AnswerRecipient<D, R>>(
     }
 }
 
-// Answers frames one by one.
+// Answers all frames, one by one. Gives how many they are.
 fn answer_in_turn<D: Disk, R: MacroFunctions, O: AnswerRecipient<D, R>>(
     alloc: Global,
     store: &mut Store<D, R>,
     course: &mut Course,
     frames: &[Frame<'_>],
     output: &mut O,
-) -> Result<(), Ended>
+) -> Result<usize, Ended>
     requires answers { R.answers store.old.macros }
     requires whole { are_registered R.Meaning.functions (R.functions store.old.macros) ≡ true }
     requires rests { Rests R.Meaning.functions D.state (O.account output.old) store.old course.old.last }
+    requires next { ComeNext (O.account output.old) (map sent frames.now) }
+    requires any { 0 < length frames.now }
     ensures answers { (w : WorldState) → store.old.world ≡ Some w
-        → AnswersFrames R.Meaning.functions course.old.last w (O.contents output.old) (O.contents output.new)
-        store.new course.new.last (map sent frames.now) result }
+        → AnswersFront R.Meaning.functions course.old.last w D.state store.new (O.contents output.old) (O.contents output.new)
+        course.new.last (map sent frames.now) result }
     ensures rests { RestsOrEnds R.Meaning.functions D.state (O.account output.new) store.new course.new.last result }
+    ensures more { IfOk result (λ count. AnswersMore (O.account output.old) (O.account output.new) (take count (map sent frames.now))) }
+    ensures most { IfOk result (λ count. count ≤ length frames.now) }
+    ensures some { IfOk result (λ count. 0 < count) }
+    ensures input { O.input output.new ≡ O.input output.old }
     ensures macros { store.new.macros ≡ store.old.macros }
 {
     its_world_is_sound(store);
     'frames: for i in 0..frames.len() {
         its_world_is_sound(store);
         match take_frames(alloc, store, course, &frames[i..i + 1], output) {
-            Ok(()) => {}
+            Ok(_) => {}
             Err(stop) => return Err(stop.ended()),
         }
     }
-    Ok(())
+    Ok(frames.len())
 }
 
-// Answers frames together, writes the answers, and takes a snapshot if one is due.
+// Answers the first of these frames together, writes the answers, and takes a snapshot if one is due. Gives how many.
 fn take_frames<D: Disk, R: MacroFunctions, O: AnswerRecipient<D, R>>(
     alloc: Global,
     store: &mut Store<D, R>,
     course: &mut Course,
     frames: &[Frame<'_>],
     output: &mut O,
-) -> Result<(), Stop>
+) -> Result<usize, Stop>
     requires answers { R.answers store.old.macros }
     requires whole { are_registered R.Meaning.functions (R.functions store.old.macros) ≡ true }
     requires rests { Rests R.Meaning.functions D.state (O.account output.old) store.old course.old.last }
+    requires next { ComeNext (O.account output.old) (map sent frames.now) }
+    requires any { 0 < length frames.now }
     ensures takes { (w : WorldState) → store.old.world ≡ Some w
-        → TakesFrames R.Meaning.functions course.old.last w (O.contents output.old) (O.contents output.new)
-        store.new course.new.last store.old (map sent frames.now) result }
+        → TakesFrames R.Meaning.functions course.old.last w D.state store.new (O.contents output.old) (O.contents output.new)
+        course.new.last store.old (map sent frames.now) result }
     ensures rests { RestsOrStops R.Meaning.functions D.state (O.account output.new) store.new course.new.last result }
+    ensures more { IfOk result (λ count. AnswersMore (O.account output.old) (O.account output.new) (take count (map sent frames.now))) }
+    ensures most { IfOk result (λ count. count ≤ length frames.now) }
+    ensures untouched { IfErr result (λ stop. (number : ℕ) → stop ≡ Stop.Untaken number → output.new ≡ output.old) }
+    ensures some { IfOk result (λ count. 0 < count) }
+    ensures input { O.input output.new ≡ O.input output.old }
     ensures macros { store.new.macros ≡ store.old.macros }
 {
     its_world_is_sound(store);
     let Ok(requests) = requests_of(alloc, frames) else {
         return Err(Stop::Untaken(NO_MEMORY));
     };
-    let replies = match store.answer_requests(course.last, requests.as_slice()) {
+    let replies = match store.answer_first_requests(course.last, requests.as_slice()) {
         Ok(replies) => replies,
         Err(number) => return Err(stop_after(store, number)),
     };
     course.last = replies.last;
     course.wrote = course.wrote.saturating_add(count_written(&replies));
+    let count = replies.answers.len();
+    let answered = &frames[..count];
     // they are carried out, so that nothing tries them again
-    let Ok(bytes) = bytes_of(alloc, frames, replies.answers.as_slice()) else {
+    let Ok(bytes) = bytes_of(alloc, answered, replies.answers.as_slice()) else {
         return Err(Stop::Ended(Ended::Fault(NO_MEMORY)));
     };
     store.keeps_its_world();
     // what is answered is stored: the answers come after the records
-    match output.write_answers(store, bytes.as_slice(), frames) {
+    match output.write_answers(store, bytes.as_slice(), answered) {
         Ok(()) => {}
         Err(_) => return Err(Stop::Ended(Ended::Fault(OUTPUT))),
     }
     match course.renew_if_due(store) {
-        Ok(()) => Ok(()),
+        Ok(()) => Ok(count),
         Err(ended) => Err(Stop::Ended(ended)),
     }
 }
@@ -284,7 +331,8 @@ fn count_written(replies: &Replies) -> u64 {
 
 // What is asked of the store.
 fn requests_of<'a>(alloc: Global, frames: &[Frame<'a>]) -> Result<Vec<Request<'a>>, AllocError>
-    ensures { IfOk result (λ requests. map parts_of_request requests.items ≡ map parts_of_frame (map sent frames.now)) }
+    ensures pairs { IfOk result (λ requests. AskAlike requests.items (map sent frames.now)) }
+    ensures many { IfOk result (λ requests. length requests.items ≡ length frames.now) }
 {
     let mut requests = Vec::with_capacity(alloc, frames.len())?;
     for frame in frames {

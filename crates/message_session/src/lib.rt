@@ -1,16 +1,18 @@
 //! A session of messages: frames come in, each is answered, and what they write is logged before that.
 //!
 //! `serve_messages` (module `serve`) serves the frames of an input over a store, to an output. It promises what is written: the position,
-//! and the answer to each frame (specs/Answers.antt), as far as the session came (specs/Sessions.antt). How a session ended is `Ended`.
+//! and the answer to each frame (specs/Answers.antt), as far as the session came, and why a fault ended it (specs/Sessions.antt). How a session
+//! ended is `Ended`.
 //!
 //! - `serve`: messages are begun, and the input is read to its end. What came is held (`Held` of message_frames) until it is whole frames
-//! - `answer`: frames are handed to the store together (`answer_requests` of prevalence_store), and their answers written. A half that is
-//!   full gets a snapshot; what has no memory together is tried one by one
+//! - `answer`: frames are handed to the store together, which answers the first of them (`answer_first_requests` of prevalence_store), and
+//!   their answers are written, until all are. A half that is full gets a snapshot; what has no memory together is tried one by one
 //!
 //! - `recipient`: who gets the answers (`AnswerRecipient`). It asks for them that what their messages wrote is stored by then, with the
-//!   position (`AreStored` of specs/Account.antt), so this is said of each moment of a session
+//!   position, and that they are the next ones of the input (`AreStored` of specs/Account.antt): so this is said of each moment of a session
 //!
-//! Its proofs rest on `Together` of message_laws: a batch is answered as in one round of all frames.
+//! Its proofs rest on `Together` of message_laws: a batch is answered as in one round of all frames. Crates above cite `Rounds` and `Pieces`: frames that are
+//! answered after others.
 #![tactic(auto)]
 
 mod answer;

@@ -2,7 +2,7 @@
 ghost use Rattle.std.specs.Prelude.{◌≡◌, ℕ, List, map, Option, None, Some, OnOk, OnErr};
 ghost use Rattle.std.specs.Option.{option_map};
 ghost use Rattle.message_frames.specs.Frames.{position_bytes, sent};
-ghost use Rattle.message_session.specs.Account.{Account, AreStored, first_account, with_frames};
+ghost use Rattle.message_session.specs.Account.{Account, AreStored, IsToldIn, first_account, with_frames};
 ghost use Rattle.plist_state.specs.State.{WorldState};
 ghost use Rattle.prevalence_store.specs.calls.Streams.{Writes, WritesPart};
 
@@ -13,7 +13,8 @@ use std::io::Write;
 use user_macros::MacroFunctions;
 
 /// Who gets the position and the answers of a session over a store. A session knows no other way to it, and does not touch the disk
-/// there: so at whatever moment answers go out, what their messages wrote is stored, with its position.
+/// there: so at whatever moment answers go out, what their messages wrote is stored, with its position, and they answer the next frames
+/// of its input.
 ///
 /// Each `Write` is one that keeps no account.
 pub trait AnswerRecipient<D: Disk, R: MacroFunctions> {
@@ -22,6 +23,9 @@ pub trait AnswerRecipient<D: Disk, R: MacroFunctions> {
 
     /// The account that it keeps of its session from the position on, if it keeps one.
     ghost account: { Self → Option (Account D) };
+
+    /// What the reader of its session had before it was read, if it tells that.
+    ghost input: { Self → Option (List ℕ) };
 
     /// Takes the bytes that tell the position whole, or a part of them from their front. An account begins with it.
     fn write_position(
@@ -32,11 +36,13 @@ pub trait AnswerRecipient<D: Disk, R: MacroFunctions> {
     ) -> Result<(), OutputFault>
         requires begins { (kept : Account D) → account self.old ≡ Some kept → ⊥ }
         requires told { bytes.now ≡ position_bytes position }
+        requires in_world { (world : WorldState) → store.now.world ≡ Some world → IsToldIn position world }
         ensures whole { OnOk result (Writes (contents self.old) (contents self.new) bytes.now) }
         ensures part { OnErr result (WritesPart (contents self.old) (contents self.new) bytes.now) }
         ensures kept { (later : Account D) → account self.new ≡ Some later
             → (world : WorldState) × (store.now.world ≡ Some world)
-            × (later ≡ first_account position world store.now.disk) };
+            × (later ≡ first_account (input self.old) position world store.now.disk) }
+        ensures input { input self.new ≡ input self.old };
 
     /// Takes the answers to these frames whole, or a part of them from their front.
     fn write_answers(
@@ -50,13 +56,16 @@ pub trait AnswerRecipient<D: Disk, R: MacroFunctions> {
         ensures whole { OnOk result (Writes (contents self.old) (contents self.new) bytes.now) }
         ensures part { OnErr result (WritesPart (contents self.old) (contents self.new) bytes.now) }
         ensures kept { (later : Account D) → account self.new ≡ Some later
-            → option_map (with_frames R.Meaning.functions (map sent frames.now) store.now) (account self.old) ≡ Some later };
+            → option_map (with_frames R.Meaning.functions (map sent frames.now) store.now) (account self.old) ≡ Some later }
+        ensures input { input self.new ≡ input self.old };
 }
 
 impl<D: Disk, R: MacroFunctions, W: Write> AnswerRecipient<D, R> for W {
     ghost contents = { W.contents };
 
     ghost account = { λ _. None };
+
+    ghost input = { λ _. None };
 
     fn write_position(
         &mut self,

@@ -1,9 +1,10 @@
 // A session of messages.
-ghost use Rattle.std.specs.Prelude.{◌≡◌, ◌<◌, ◌≤◌, length, true, IfOk, Some};
+ghost use Rattle.std.specs.Prelude.{◌≡◌, ◌<◌, ◌≤◌, ℕ, List, [], length, true, IfOk, OnOk, Err, None, Some};
+ghost use Rattle.lisp_object.specs.declared.refusal.TheConstants.{REOPEN};
 ghost use Rattle.message_frames.specs.declared.held.Next.TheVariants as next;
-ghost use Rattle.message_session.specs.Account.{Account};
-ghost use Rattle.message_session.specs.Sessions.{ServesMessages};
-ghost use Rattle.message_session.specs.Standing.{AcknowledgesNone, Rests, RestsOrEnds};
+ghost use Rattle.message_session.specs.Account.{Account, IsToldIn};
+ghost use Rattle.message_session.specs.Sessions.{AsksToReopen, ServesMessages};
+ghost use Rattle.message_session.specs.Standing.{AcknowledgesNone, AnswersFirstOf, ComesNext, IsReadIn, Rests, RestsOrEnds};
 ghost use Rattle.message_session.specs.Steps.{AnswersAllHeld, AnswersFramesOfInput, AnswersSomeHeld, MayBegin, TakesPiece};
 ghost use Rattle.plist_state.specs.State.{WorldState};
 ghost use Rattle.user_macros.specs.Functions.{are_registered};
@@ -32,11 +33,20 @@ const MOST_READS: u64 = 1 << 40;
 /// read at once. A snapshot is taken after so many messages that wrote, never if that is 0, and where the half has no room.
 ///
 /// What is written is the position, and the answer to each frame, in order (`session_bytes` of specs/Answers.antt): whole at the end of the
-/// input and at bytes that are no frame, a front of it where a fault ends the session. Then the store has the world of the frames that were
-/// carried out, or none until it is opened again. Of faults nothing is written: 67 if a read failed, or after 2^40 reads; 68 if a write failed
-/// or took nothing; others are those of the store's calls, where 65 is told for what has no room if the snapshot does not fit.
+/// input and at bytes that are no frame. A fault has one of these causes (`IsBroken` of specs/Sessions.antt), and nothing is written of it:
 ///
-/// It writes by its recipient alone: what answered messages wrote is stored before an answer goes out, with its position.
+/// - 67: a read failed, or there were 2^40 of them. All that came whole is answered.
+/// - 68: a write failed or took nothing. The frames whose answers were to go out are stored, and a part of their answers is written.
+/// - 90: there was no memory. All is answered, or the next frames are stored and none of their answers is written.
+/// - 60, 64, 90, and that of a form of the store's own: the store did not take the next frames. All before them is answered.
+/// - 60, 65, 90: it took no snapshot that was due, or for the next frames, which had no room (65 for these alone). All is answered.
+/// - 61: it met a device fault before. Nothing is done.
+///
+/// After 60 the store has no world until it is opened again, and the next frames may be stored, all of them or none; after any other it has
+/// the world of those that were carried out, and goes on.
+///
+/// It writes by its recipient alone: what answered messages wrote is stored before an answer goes out, with its position, and the answers
+/// are those to the next frames of the input.
 pub fn serve_messages<D: Disk, R: MacroFunctions, I: Read, O: AnswerRecipient<D, R>>(
     alloc: Global,
     store: &mut Store<D, R>,
@@ -47,10 +57,14 @@ pub fn serve_messages<D: Disk, R: MacroFunctions, I: Read, O: AnswerRecipient<D,
     requires answers { R.answers store.old.macros }
     requires whole { are_registered R.Meaning.functions (R.functions store.old.macros) ≡ true }
     requires begins { (kept : Account D) → O.account output.old ≡ Some kept → ⊥ }
+    requires of_input { (all : List ℕ) → O.input output.old ≡ Some all → I.remaining input.old ≡ Some all }
+    ensures reopen { store.old.world ≡ None
+        → AsksToReopen store.old store.new input.old input.new output.old output.new result }
     ensures serves { (w : WorldState) → store.old.world ≡ Some w
         → ServesMessages R.Meaning.functions D.state store.old store.new w
         (I.remaining input.old) (I.remaining input.new) (O.contents output.old) (O.contents output.new) result }
     ensures under_way { AcknowledgesNone R.Meaning.functions D.state (O.account output.new) store.new }
+    ensures input { O.input output.new ≡ O.input output.old }
     ensures macros { store.new.macros ≡ store.old.macros }
 {
     let last = match begin(store) {
@@ -79,7 +93,9 @@ pub fn serve_messages<D: Disk, R: MacroFunctions, I: Read, O: AnswerRecipient<D,
 fn begin<D: Disk, R: MacroFunctions>(store: &mut Store<D, R>) -> Result<u64, Ended>
     requires answers { R.answers store.old.macros }
     requires whole { are_registered R.Meaning.functions (R.functions store.old.macros) ≡ true }
+    ensures reopen { store.old.world ≡ None → (result ≡ Err (Ended.Fault REOPEN)) × (store.new ≡ store.old) }
     ensures begun { (w : WorldState) → store.old.world ≡ Some w → MayBegin R.Meaning.functions D.state store.old store.new w result }
+    ensures told { IfOk result (λ position. (w : WorldState) → store.new.world ≡ Some w → IsToldIn position w) }
     ensures macros { store.new.macros ≡ store.old.macros }
 {
     match store.begin_messages() {
@@ -94,6 +110,8 @@ fn begin_anew<D: Disk, R: MacroFunctions>(store: &mut Store<D, R>) -> Result<u64
     requires answers { R.answers store.old.macros }
     requires whole { are_registered R.Meaning.functions (R.functions store.old.macros) ≡ true }
     ensures begun { (w : WorldState) → store.old.world ≡ Some w → MayBegin R.Meaning.functions D.state store.old store.new w result }
+    ensures told { (before : WorldState) → store.old.world ≡ Some before
+        → IfOk result (λ position. (w : WorldState) → store.new.world ≡ Some w → IsToldIn position w) }
     ensures macros { store.new.macros ≡ store.old.macros }
 {
     match renew_for_room(store) {
@@ -117,10 +135,12 @@ fn serve_frames<D: Disk, R: MacroFunctions, I: Read, O: AnswerRecipient<D, R>>(
     requires answers { R.answers store.old.macros }
     requires whole { are_registered R.Meaning.functions (R.functions store.old.macros) ≡ true }
     requires rests { Rests R.Meaning.functions D.state (O.account output.old) store.old course.last }
+    requires read { IsReadIn (O.account output.old) (I.remaining input.old) [] }
     ensures serves { (w : WorldState) → store.old.world ≡ Some w
-        → AnswersFramesOfInput R.Meaning.functions course.last w store.new
+        → AnswersFramesOfInput R.Meaning.functions course.last w D.state store.new
         (I.remaining input.old) (I.remaining input.new) (O.contents output.old) (O.contents output.new) result }
     ensures under_way { AcknowledgesNone R.Meaning.functions D.state (O.account output.new) store.new }
+    ensures input { O.input output.new ≡ O.input output.old }
     ensures macros { store.new.macros ≡ store.old.macros }
 {
     its_world_is_sound(store);
@@ -186,10 +206,13 @@ impl Session {
         requires answers { R.answers store.old.macros }
         requires whole { are_registered R.Meaning.functions (R.functions store.old.macros) ≡ true }
         requires rests { Rests R.Meaning.functions D.state (O.account output.old) store.old self.old.course.last }
+        requires next { ComesNext (O.account output.old) self.old.held }
         ensures answers { (w : WorldState) → store.old.world ≡ Some w
-            → AnswersAllHeld R.Meaning.functions self.old self.new w store.new
+            → AnswersAllHeld R.Meaning.functions self.old self.new w D.state store.new
             (O.contents output.old) (O.contents output.new) result }
         ensures rests { RestsOrEnds R.Meaning.functions D.state (O.account output.new) store.new self.new.course.last result }
+        ensures more { OnOk result (AnswersFirstOf (O.account output.old) (O.account output.new) self.old.held self.new.held) }
+        ensures input { O.input output.new ≡ O.input output.old }
         ensures macros { store.new.macros ≡ store.old.macros }
     {
         its_world_is_sound(store);
@@ -212,12 +235,15 @@ impl Session {
         requires answers { R.answers store.old.macros }
         requires whole { are_registered R.Meaning.functions (R.functions store.old.macros) ≡ true }
         requires rests { Rests R.Meaning.functions D.state (O.account output.old) store.old self.old.course.last }
+        requires next { ComesNext (O.account output.old) self.old.held }
         ensures answers { (w : WorldState) → store.old.world ≡ Some w
-            → AnswersSomeHeld R.Meaning.functions self.old self.new w store.new
+            → AnswersSomeHeld R.Meaning.functions self.old self.new w D.state store.new
             (O.contents output.old) (O.contents output.new) result }
         ensures fewer { IfOk result (λ after. after ≡ next.Unread
             → length self.new.held < length self.old.held) }
         ensures rests { RestsOrEnds R.Meaning.functions D.state (O.account output.new) store.new self.new.course.last result }
+        ensures more { OnOk result (AnswersFirstOf (O.account output.old) (O.account output.new) self.old.held self.new.held) }
+        ensures input { O.input output.new ≡ O.input output.old }
         ensures macros { store.new.macros ≡ store.old.macros }
     {
         its_world_is_sound(store);

@@ -29,10 +29,11 @@ use Rattle.store_commands.specs.Texts.{TellsText}
 use Rattle.store_commands.specs.declared.status.Status.{Status}
 use Rattle.store_commands.specs.declared.status.Status.TheVariants as statuses
 use Rattle.store_looks.specs.Looks.{PrintsText}
-use Rattle.store_looks.specs.Told.{BacksUp, IsSelection, Looks, LooksAt, TellsLog, TellsLook, Unopens, WithholdsFigures, WithholdsLog, WithholdsLook, part_of, status_in}
-use Rattle.store_looks.specs.Unlooked.{of_log, of_show}
+use Rattle.store_looks.specs.Told.{BacksUp, IsSelection, Looks, LooksAt, System, TellsDump, TellsFigures, TellsLog, TellsLook, TellsShown, Unopens, WithholdsBackup, WithholdsDump, WithholdsFigures, WithholdsLog, WithholdsLook, WithholdsShown, part_of, status_in}
+use Rattle.store_looks.specs.Unlooked.{IsOfBackup, of_log, of_show}
 use Rattle.store_reports.specs.Figures.{AreFiguresOf, info_text}
 use Rattle.store_reports.specs.Shown.{IsShown, IsUnshown}
+use Rattle.store_reports.specs.declared.backups.BackupError.{BackupError}
 use Rattle.store_reports.specs.declared.figures.HalfFigures.{HalfFigures}
 use Rattle.store_reports.specs.declared.selection.Selection.{Selection}
 use Rattle.store_reports.specs.declared.showing.ShowError.{ShowError}
@@ -45,48 +46,93 @@ use Rattle.world_text.specs.Snapshot.{snapshot}
 nothing_prints : (held written : Option (List ℕ)) → written ≡ held → PrintsText held written statuses.Done
 nothing_prints held written same = ([], λ had holds. same ∙ holds ∙ ap (λ (l : List ℕ). Some l) (sym (append-nil had)))
 
-module _ (functions : Functions) {R : Type 0} (macros : R) (held written : Option (List ℕ)) where
+module _ (functions : Functions) {R : Type 0} (macros : R) (held written : Option (List ℕ)) (system : System) (folder : Text) where
   -- each look that tells something writes one text
-  told_prints : (look : Look) (sight : Sight) (status : Status) → TellsLook functions macros held written look sight status → PrintsText held written status
-  unfolding TellsLook BacksUp TellsLog
+  told_prints : (look : Look) (sight : Sight) (status : Status) → TellsLook functions macros held written system folder look sight status → PrintsText held written status
+  unfolding TellsLook TellsShown TellsDump BacksUp TellsLog
   told_prints (Show shown) sight status told = (told.2.text, told.2.tells)
   told_prints Info sight status told = (told.tells.text, told.tells.tells)
   told_prints (Log records) sight status told = (told.0, told.2)
   told_prints (Backup to) sight status told = subst (PrintsText held written) (sym told.0.1) (nothing_prints held written told.1)
   told_prints (Dump place) sight status told = (snapshot told.2.1.is_opened.world, told.2.1.tells)
 
-  module _ (whole : Bool) (lacks_seeds : Type 0) (opens : Text → Result Sight HostError → Type 0) (folder : Text) (look : Look) where
-    pub look_prints : (status : Status) → LooksAt functions macros whole lacks_seeds opens folder look held written (Ok status) → PrintsText held written status
-    unfolding LooksAt
-    look_prints status (inl none) = let is : ◌≡◌ {A = Result Status Unlooked} (Ok status) (Err (unlooked.Fault INPUT)) = none.1 in absurd (cc)
-    look_prints status (inr (inl not)) = let is : ◌≡◌ {A = Result Status Unlooked} (Ok status) (Err (unlooked.Host not.0)) = not.2 in absurd (cc)
-    look_prints status (inr (inr seen)) = told_prints look seen.0 status seen.2
+  module _ (whole : Bool) where
+    -- what a look came to
+    abbrev CameTo : Look → Sight → Result Status Unlooked → Type 0
+    CameTo look sight ended =
+        MatchResult ended (TellsLook functions macros held written system folder look sight) (WithholdsLook functions macros whole system folder look sight)
 
-    -- the folder was not opened
-    pub look_failed : (opened : Result Sight HostError) (error : HostError) → opened ≡ Err error → opens folder opened
-        → LooksAt functions macros whole lacks_seeds opens folder look held written (Err (unlooked.Host error))
-    unfolding LooksAt
-    look_failed opened error is given = inr (inl (error, subst (opens folder) is given, refl))
+    module _ (lacks_seeds : Type 0) (opens : Text → Result Sight HostError → Type 0) (look : Look) where
+      pub look_prints : (status : Status) → LooksAt functions macros whole system lacks_seeds opens folder look held written (Ok status) → PrintsText held written status
+      unfolding LooksAt
+      look_prints status (inl none) = let is : ◌≡◌ {A = Result Status Unlooked} (Ok status) (Err (unlooked.Fault INPUT)) = none.1 in absurd (cc)
+      look_prints status (inr (inl not)) = let is : ◌≡◌ {A = Result Status Unlooked} (Ok status) (Err (unlooked.Host not.0)) = not.2 in absurd (cc)
+      look_prints status (inr (inr seen)) = told_prints look seen.0 status seen.2
 
-    -- it was
-    pub look_done : (opened : Result Sight HostError) (sight : Sight) (ended : Result Status Unlooked) → opened ≡ Ok sight → opens folder opened
-        → MatchResult ended (TellsLook functions macros held written look sight) (WithholdsLook functions macros whole look sight)
-        → LooksAt functions macros whole lacks_seeds opens folder look held written ended
-    unfolding LooksAt
-    look_done opened sight ended is given looks = inr (inr (sight, subst (opens folder) is given, looks))
+      -- the folder was not opened
+      pub look_failed : (opened : Result Sight HostError) (error : HostError) → opened ≡ Err error → opens folder opened
+          → LooksAt functions macros whole system lacks_seeds opens folder look held written (Err (unlooked.Host error))
+      unfolding LooksAt
+      look_failed opened error is given = inr (inl (error, subst (opens folder) is given, refl))
 
-module _ (functions : Functions) {R : Type 0} (macros : R) (whole : Bool) (held : Option (List ℕ)) (to : Bor (List ℕ)) (sight : Sight) where
-  -- a backup writes nothing to the output
-  backed : (ended : Result Status Unlooked) → IfOk ended (BacksUp functions macros sight)
-      → MatchResult ended (TellsLook functions macros held held (Backup to) sight) (WithholdsLook functions macros whole (Backup to) sight)
-  unfolding TellsLook WithholdsLook
-  backed (Ok status) backs = (backs, refl)
-  backed (Err why) backs = tt
+      -- it was
+      pub look_done : (opened : Result Sight HostError) (sight : Sight) (ended : Result Status Unlooked) → opened ≡ Ok sight → opens folder opened → CameTo look sight ended
+          → LooksAt functions macros whole system lacks_seeds opens folder look held written ended
+      unfolding LooksAt
+      look_done opened sight ended is given looks = inr (inr (sight, subst (opens folder) is given, looks))
 
-  pub backed_up : (look : Look) → look ≡ Backup to → (ended : Result Status Unlooked) → IfOk ended (BacksUp functions macros sight)
-      → MatchResult ended (TellsLook functions macros held held look sight) (WithholdsLook functions macros whole look sight)
-  backed_up look is ended backs =
-      subst (λ (l : Look). MatchResult ended (TellsLook functions macros held held l sight) (WithholdsLook functions macros whole l sight)) (sym is) (backed ended backs)
+    -- ---- by what is asked for
+
+    module _ (look : Look) (sight : Sight) where
+      by_shown : (shown : Shown) (ended : Result Status Unlooked)
+          → MatchResult ended (TellsShown functions macros held written shown sight) (WithholdsShown functions macros whole shown sight) → CameTo (Show shown) sight ended
+      unfolding TellsLook WithholdsLook
+      by_shown shown (Ok status) shows = shows
+      by_shown shown (Err why) shows = shows
+
+      pub shown_told : (shown : Shown) → look ≡ Show shown → (ended : Result Status Unlooked)
+          → MatchResult ended (TellsShown functions macros held written shown sight) (WithholdsShown functions macros whole shown sight) → CameTo look sight ended
+      shown_told shown is ended shows = subst (λ (l : Look). CameTo l sight ended) (sym is) (by_shown shown ended shows)
+
+      by_dump : (place : RecordPlace) (ended : Result Status Unlooked)
+          → MatchResult ended (TellsDump functions macros held written place sight) (WithholdsDump functions macros whole place sight) → CameTo (Dump place) sight ended
+      unfolding TellsLook WithholdsLook
+      by_dump place (Ok status) dumps = dumps
+      by_dump place (Err why) dumps = dumps
+
+      pub dump_told : (place : RecordPlace) → look ≡ Dump place → (ended : Result Status Unlooked)
+          → MatchResult ended (TellsDump functions macros held written place sight) (WithholdsDump functions macros whole place sight) → CameTo look sight ended
+      dump_told place is ended dumps = subst (λ (l : Look). CameTo l sight ended) (sym is) (by_dump place ended dumps)
+
+      by_figures : (ended : Result Status Unlooked)
+          → MatchResult ended (TellsFigures functions macros held written (system.measures folder) sight) (WithholdsFigures functions macros whole (system.measures folder) sight) → CameTo Info sight ended
+      unfolding TellsLook WithholdsLook
+      by_figures (Ok status) tells = tells
+      by_figures (Err why) tells = tells
+
+      pub figures_told : look ≡ Info → (ended : Result Status Unlooked)
+          → MatchResult ended (TellsFigures functions macros held written (system.measures folder) sight) (WithholdsFigures functions macros whole (system.measures folder) sight) → CameTo look sight ended
+      figures_told is ended tells = subst (λ (l : Look). CameTo l sight ended) (sym is) (by_figures ended tells)
+
+      by_log : (records : Records) (ended : Result Status Unlooked) → IfOk ended (TellsLog held written records sight) → IfErr ended (WithholdsLog records sight) → CameTo (Log records) sight ended
+      unfolding TellsLook WithholdsLook
+      by_log records (Ok status) done failed = done
+      by_log records (Err why) done failed = failed
+
+      pub log_told : (records : Records) → look ≡ Log records → (ended : Result Status Unlooked) → IfOk ended (TellsLog held written records sight) → IfErr ended (WithholdsLog records sight)
+          → CameTo look sight ended
+      log_told records is ended done failed = subst (λ (l : Look). CameTo l sight ended) (sym is) (by_log records ended done failed)
+
+      -- a backup writes nothing to the output
+      by_backup : (to : Bor (List ℕ)) → written ≡ held → (ended : Result Status Unlooked)
+          → MatchResult ended (BacksUp functions macros (system.made to.now) sight) (WithholdsBackup functions macros whole (system.unmade to.now) sight) → CameTo (Backup to) sight ended
+      unfolding TellsLook WithholdsLook
+      by_backup to same (Ok status) backs = (backs, same)
+      by_backup to same (Err why) backs = backs
+
+      pub backed_up : (to : Bor (List ℕ)) → look ≡ Backup to → written ≡ held → (ended : Result Status Unlooked)
+          → MatchResult ended (BacksUp functions macros (system.made to.now) sight) (WithholdsBackup functions macros whole (system.unmade to.now) sight) → CameTo look sight ended
+      backed_up to is same ended backs = subst (λ (l : Look). CameTo l sight ended) (sym is) (by_backup to same ended backs)
 
 -- what is so of the world of an open store
 pub at_world : (P : WorldState → Type 0) (known : Option WorldState) (world : WorldState) → known ≡ Some world → IfSome known P → P world
@@ -101,8 +147,8 @@ module _ (functions : Functions) {R : Type 0} (macros : R) (store : StoreView Si
 
     -- properties were shown
     pub show_done : (held written : Option (List ℕ)) (status : Status) (text : Vec ℕ) (lines : List ℕ) → result ≡ Ok text → lines ≡ text.items → TellsText status held written lines
-        → TellsLook functions macros held written (Show shown) sight status
-    unfolding TellsLook
+        → TellsShown functions macros held written shown sight status
+    unfolding TellsShown
     show_done held written status text lines is same tells =
         let told : IsShown selection opened.world text.items =
         subst (λ (r : Result (Vec ℕ) ShowError). MatchResult r (λ t. IsShown selection opened.world t.items) (IsUnshown selection opened.world)) is showing in
@@ -110,20 +156,19 @@ module _ (functions : Functions) {R : Type 0} (macros : R) (store : StoreView Si
 
     -- none were
     pub show_failed : (whole : Bool) (error : ShowError) (why : Unlooked) → result ≡ Err error → why ≡ of_show error
-        → WithholdsLook functions macros whole (Show shown) sight why
-    unfolding WithholdsLook
+        → WithholdsShown functions macros whole shown sight why
+    unfolding WithholdsShown
     show_failed whole error why is given =
         let not : IsUnshown selection opened.world error =
         subst (λ (r : Result (Vec ℕ) ShowError). MatchResult r (λ t. IsShown selection opened.world t.items) (IsUnshown selection opened.world)) is showing in
         inr (selection, asked, (error, record { opened = store; is_opened = opened; is = not }, given))
 
   -- figures were told of a sight that is as it was
-  pub info_done : (sight same : Sight) (half : HalfFigures) (files : Figures) → AreFiguresOf (state_of sight).reads half → (state_of same).reads ≡ (state_of sight).reads
+  pub info_done : (measured : Result Figures HostError → Type 0) (sight same : Sight) (half : HalfFigures) (files : Figures) → measured (Ok files) → AreFiguresOf (state_of sight).reads half → (state_of same).reads ≡ (state_of sight).reads
       → (opened : IsOpened functions state_of same macros half_limit store) (E : Type 0) (result : Result (Vec ℕ) E) (text : Vec ℕ) (lines : List ℕ) → lines ≡ text.items
       → IfSome store.world (λ world. IfOk result (λ t. t.items ≡ info_text half world files)) → result ≡ Ok text
-      → (held written : Option (List ℕ)) (status : Status) → TellsText status held written lines → TellsLook functions macros held written Info sight status
-  unfolding TellsLook
-  info_done sight same half files figures reads opened E result text lines equal told is held written status tells =
+      → (held written : Option (List ℕ)) (status : Status) → TellsText status held written lines → TellsFigures functions macros held written measured sight status
+  info_done measured sight same half files are_measured figures reads opened E result text lines equal told is held written status tells =
       let of_world : IfOk result (λ t. t.items ≡ info_text half opened.world files) =
       at_world (λ world. IfOk result (λ t. t.items ≡ info_text half world files)) store.world opened.world opened.known told in
       let text_is : text.items ≡ info_text half opened.world files = subst (λ (r : Result (Vec ℕ) E). IfOk r (λ t. t.items ≡ info_text half opened.world files)) is of_world in
@@ -131,6 +176,7 @@ module _ (functions : Functions) {R : Type 0} (macros : R) (store : StoreView Si
         half = half;
         figures = figures;
         files = files;
+        are_measured = are_measured;
         same = same;
         reads = reads;
         tells = record { opened = store; is_opened = opened; text = lines; is = equal ∙ text_is; tells = tells };
@@ -157,75 +203,77 @@ module _ (functions : Functions) {R : Type 0} (macros : R) (sight : Sight) where
   -- the text of a world after so many records was written
   pub dump_done : (place : RecordPlace) (cut : Sight) → IsCut place.number place.generation (state_of sight).reads (state_of cut).reads
       → (held written : Option (List ℕ)) (status : Status) (back : Sight) → IsReport functions state_of reports.Dump cut macros held written status back
-      → TellsLook functions macros held written (Dump place) sight status
-  unfolding TellsLook
+      → TellsDump functions macros held written place sight status
+  unfolding TellsDump
   dump_done place cut is held written status back report = (cut, is, (back, report))
 
   pub dump_unopened : (whole : Bool) (place : RecordPlace) (cut : Sight) → IsCut place.number place.generation (state_of sight).reads (state_of cut).reads
       → (number : ℕ) (back : Sight) → IsUnopened functions state_of cut whole half_limit number back
-      → WithholdsLook functions macros whole (Dump place) sight (unlooked.Fault number)
-  unfolding WithholdsLook Unopens
+      → WithholdsDump functions macros whole place sight (unlooked.Fault number)
+  unfolding WithholdsDump Unopens
   dump_unopened whole place cut is number back refused = inr (cut, is, (number, back, refused, refl))
 
   pub dump_failed : (whole : Bool) (place : RecordPlace) (error : LogError) (why : Unlooked) → IsNoPlace place.number place.generation error (state_of sight).reads → why ≡ of_log error
-      → WithholdsLook functions macros whole (Dump place) sight why
-  unfolding WithholdsLook
+      → WithholdsDump functions macros whole place sight why
+  unfolding WithholdsDump
   dump_failed whole place error why none is = inl (error, none, is)
 
-  told_log : (whole : Bool) (held written : Option (List ℕ)) (records : Records) (ended : Result Status Unlooked) → IfOk ended (TellsLog held written records sight)
-      → IfErr ended (WithholdsLog records sight)
-      → MatchResult ended (TellsLook functions macros held written (Log records) sight) (WithholdsLook functions macros whole (Log records) sight)
-  unfolding TellsLook WithholdsLook
-  told_log whole held written records (Ok status) done failed = done
-  told_log whole held written records (Err why) done failed = failed
-
-  pub log_told : (whole : Bool) (held written : Option (List ℕ)) (records : Records) (look : Look) → look ≡ Log records → (ended : Result Status Unlooked)
-      → IfOk ended (TellsLog held written records sight) → IfErr ended (WithholdsLog records sight)
-      → MatchResult ended (TellsLook functions macros held written look sight) (WithholdsLook functions macros whole look sight)
-  log_told whole held written records look is ended done failed =
-      subst (λ (l : Look). MatchResult ended (TellsLook functions macros held written l sight) (WithholdsLook functions macros whole l sight)) (sym is)
-      (told_log whole held written records ended done failed)
-
-  pub show_unopened : (whole : Bool) (shown : Shown) (given why : Unlooked) → why ≡ given → Unopens functions whole sight given → WithholdsLook functions macros whole (Show shown) sight why
-  unfolding WithholdsLook
+  pub show_unopened : (whole : Bool) (shown : Shown) (given why : Unlooked) → why ≡ given → Unopens functions whole sight given → WithholdsShown functions macros whole shown sight why
+  unfolding WithholdsShown
   show_unopened whole shown given why is not = inl (subst (Unopens functions whole sight) (sym is) not)
 
-  pub backs_up : (store : StoreView Sight R) → IsOpened functions state_of sight macros half_limit store → (status : Status) → status ≡ statuses.Done → BacksUp functions macros sight status
-  unfolding BacksUp
-  backs_up store opened status is = (record { opened = store; is_opened = opened; is = tt }, is)
+  -- a backup was made of the world of the store that was opened, or not
+  module _ (store : StoreView Sight R) (opened : IsOpened functions state_of sight macros half_limit store) (made : WorldState → Type 0) (unmade : WorldState → BackupError → Type 0) where
+    pub backs_up : {U : Type 0} (u : U) (result : Result U BackupError) → IfSome store.world (λ world. MatchResult result (λ _. made world) (unmade world)) → result ≡ Ok u
+        → (status : Status) → status ≡ statuses.Done → BacksUp functions macros made sight status
+    unfolding BacksUp
+    backs_up {U} u result backs is status done =
+        let here : MatchResult result (λ _. made opened.world) (unmade opened.world) = at_world (λ world. MatchResult result (λ _. made world) (unmade world)) store.world opened.world opened.known backs in
+        (record { opened = store; is_opened = opened; is = subst (λ (r : Result U BackupError). MatchResult r (λ _. made opened.world) (unmade opened.world)) is here }, done)
 
-  module _ (whole : Bool) where
+    pub backup_failed : {U : Type 0} (whole : Bool) (error : BackupError) (result : Result U BackupError) → IfSome store.world (λ world. MatchResult result (λ _. made world) (unmade world)) → result ≡ Err error
+        → (why : Unlooked) → IsOfBackup error why → WithholdsBackup functions macros whole unmade sight why
+    unfolding WithholdsBackup
+    backup_failed {U} whole error result backs is why given =
+        let here : MatchResult result (λ _. made opened.world) (unmade opened.world) = at_world (λ world. MatchResult result (λ _. made world) (unmade world)) store.world opened.world opened.known backs in
+        inr (error, record { opened = store; is_opened = opened; is = subst (λ (r : Result U BackupError). MatchResult r (λ _. made opened.world) (unmade opened.world)) is here }, given)
+
+  pub backup_unopened : (whole : Bool) (unmade : WorldState → BackupError → Type 0) (given why : Unlooked) → why ≡ given → Unopens functions whole sight given → WithholdsBackup functions macros whole unmade sight why
+  unfolding WithholdsBackup
+  backup_unopened whole unmade given why is not = inl (subst (Unopens functions whole sight) (sym is) not)
+
+  module _ (whole : Bool) (measured : Result Figures HostError → Type 0) where
     -- no figures
-    pub info_unread : (error : HostError) (why : Unlooked) → why ≡ unlooked.Host error → WithholdsLook functions macros whole Info sight why
-    unfolding WithholdsLook WithholdsFigures
-    info_unread error why is = inl (error, is)
+    pub info_unread : (error : HostError) (why : Unlooked) → measured (Err error) → why ≡ unlooked.Host error → WithholdsFigures functions macros whole measured sight why
+    unfolding WithholdsFigures
+    info_unread error why not is = inl (error, not, is)
 
-    pub info_failed : (error : LogError) (why : Unlooked) → IsNoLog error (state_of sight).reads → why ≡ of_log error → WithholdsLook functions macros whole Info sight why
-    unfolding WithholdsLook WithholdsFigures
+    pub info_failed : (error : LogError) (why : Unlooked) → IsNoLog error (state_of sight).reads → why ≡ of_log error → WithholdsFigures functions macros whole measured sight why
+    unfolding WithholdsFigures
     info_failed error why none is = inr (inl (error, none, is))
 
     pub info_unopened : (same : Sight) (given why : Unlooked) → why ≡ given → (state_of same).reads ≡ (state_of sight).reads → Unopens functions whole same given
-        → WithholdsLook functions macros whole Info sight why
-    unfolding WithholdsLook WithholdsFigures
+        → WithholdsFigures functions macros whole measured sight why
+    unfolding WithholdsFigures
     info_unopened same given why is reads not = inr (inr (same, reads, inl (subst (Unopens functions whole same) (sym is) not)))
 
-    pub info_memory : (why : Unlooked) → why ≡ unlooked.Fault NO_MEMORY → WithholdsLook functions macros whole Info sight why
-    unfolding WithholdsLook WithholdsFigures
+    pub info_memory : (why : Unlooked) → why ≡ unlooked.Fault NO_MEMORY → WithholdsFigures functions macros whole measured sight why
+    unfolding WithholdsFigures
     info_memory why is = inr (inr (sight, refl, inr is))
 
 -- the whole look
-module _ (functions : Functions) {R : Type 0} (macros : R) (whole : Bool) (lacks_seeds : Type 0) (opens : Text → Result Sight HostError → Type 0) (words : List Text) (held written : Option (List ℕ)) where
-  pub look_of_words : (status : Status) → IsOfWords status → Looks functions macros whole lacks_seeds opens words held written status
+module _ (functions : Functions) {R : Type 0} (macros : R) (whole : Bool) (system : System) (lacks_seeds : Type 0) (opens : Text → Result Sight HostError → Type 0) (words : List Text) (held written : Option (List ℕ)) where
+  pub look_of_words : (status : Status) → IsOfWords status → Looks functions macros whole system lacks_seeds opens words held written status
   unfolding Looks
   look_of_words status of_words = inl of_words
 
   pub look_ended : (folder : Text) (look : Look) → AsksToLook words folder look → (ended : Result Status Unlooked) (status : Status) → status ≡ status_in ended
-      → LooksAt functions macros whole lacks_seeds opens folder look held written ended → Looks functions macros whole lacks_seeds opens words held written status
+      → LooksAt functions macros whole system lacks_seeds opens folder look held written ended → Looks functions macros whole system lacks_seeds opens words held written status
   unfolding Looks
   look_ended folder look asks ended status is looks = inr (folder, look, asks, (ended, is, looks))
 
 -- no seed was had
-pub look_without_seed : (functions : Functions) {R : Type 0} (macros : R) (whole : Bool) (lacks_seeds : Type 0) (opens : Text → Result Sight HostError → Type 0) (folder : Text) (look : Look) (held written : Option (List ℕ)) → lacks_seeds
-    → LooksAt functions macros whole lacks_seeds opens folder look held written (Err (unlooked.Fault INPUT))
+pub look_without_seed : (functions : Functions) {R : Type 0} (macros : R) (whole : Bool) (system : System) (lacks_seeds : Type 0) (opens : Text → Result Sight HostError → Type 0) (folder : Text) (look : Look) (held written : Option (List ℕ)) → lacks_seeds
+    → LooksAt functions macros whole system lacks_seeds opens folder look held written (Err (unlooked.Fault INPUT))
 unfolding LooksAt
-look_without_seed functions macros whole lacks_seeds opens folder look held written lacks = inl (lacks, refl)
+look_without_seed functions macros whole system lacks_seeds opens folder look held written lacks = inl (lacks, refl)

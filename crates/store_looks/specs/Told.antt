@@ -4,9 +4,11 @@ use Rattle.clap.specs.Words.{Text}
 use Rattle.command_words.specs.LookLine.{AsksToLook, text_of}
 use Rattle.command_words.specs.declared.looks.Look.{Look}
 use Rattle.command_words.specs.declared.looks.Look.TheVariants.{Backup, Dump, Info, Log, Show}
+use Rattle.command_words.specs.declared.looks.RecordPlace.{RecordPlace}
 use Rattle.command_words.specs.declared.looks.Records.{Records}
 use Rattle.command_words.specs.declared.looks.Shown.{Shown}
 use Rattle.command_words.specs.declared.words.Report.TheVariants as reports
+use Rattle.disk_trait.specs.Disk.{State}
 use Rattle.disk_trait.specs.declared.host.HostError.{HostError}
 use Rattle.disk_trait.specs.declared.host.HostError.TheVariants.{NoName}
 use Rattle.disk_trait.specs.declared.host.IfMissing.{IfMissing}
@@ -26,12 +28,15 @@ use Rattle.store_commands.specs.Texts.{TellsText}
 use Rattle.store_commands.specs.Status.{IsOfWords}
 use Rattle.store_commands.specs.declared.status.Status.{Status}
 use Rattle.store_commands.specs.declared.status.Status.TheVariants as statuses
-use Rattle.store_looks.specs.Unlooked.{of_log, of_show, status_of}
+use Rattle.store_looks.specs.Unlooked.{IsOfBackup, of_log, of_show, status_of}
 use Rattle.store_looks.specs.declared.unlooked.Unlooked.{Unlooked}
 use Rattle.store_looks.specs.declared.unlooked.Unlooked.TheVariants as unlooked
+use Rattle.store_reports.specs.Backup.{IsMade, IsUnmade}
 use Rattle.store_reports.specs.Figures.{AreFiguresOf, info_text}
 use Rattle.store_reports.specs.Log.{IsLogText, least}
+use Rattle.store_reports.specs.Places.{Deed}
 use Rattle.store_reports.specs.Shown.{IsShown, IsUnshown}
+use Rattle.store_reports.specs.declared.backups.BackupError.{BackupError}
 use Rattle.store_reports.specs.declared.figures.HalfFigures.{HalfFigures}
 use Rattle.store_reports.specs.declared.log.LogPart.{LogPart}
 use Rattle.store_reports.specs.declared.selection.Layout.TheVariants.{Forms, Lines}
@@ -44,6 +49,25 @@ use Rattle.user_macros.specs.Functions.{Functions}
 -- The files of a folder are opened so, of which one is a half in use; no folder has an empty name.
 unfoldable pub Sees : (Sight → Option HostError → Type 0) → (Text → IfMissing → Result Sight HostError → Type 0) → Text → Result Sight HostError → Type 0
 Sees tells opens folder result = ((folder ≡ []) × (result ≡ Err NoName)) ⊎ ((folder ≢ []) × OpensStore state_of tells opens folder true result)
+
+-- ---- the system
+
+-- what it may give where it is asked
+pub record System : Type 1 where
+  -- the files of a folder are measured so
+  pub measures : Text → Result Figures HostError → Type 0
+  -- a backup of a world is at a place
+  pub made : Text → WorldState → Type 0
+  -- there is none, and why
+  pub unmade : Text → WorldState → BackupError → Type 0
+
+-- where a backup is what was done for it
+abbrev pub system_of : (Text → Result Figures HostError → Type 0) → {D : Type 0} → (D → State) → (Deed D → Type 0) → System
+system_of measures state does = record {
+  measures = measures;
+  made = λ dir world. IsMade state does half_limit world dir;
+  unmade = λ dir world error. IsUnmade state does half_limit world dir error;
+}
 
 -- ---- what the words ask for
 
@@ -86,30 +110,39 @@ module _ (functions : Functions) {R : Type 0} (macros : R) where
     pub is : Is is_opened.world
 
   -- a backup was made of its world
-  unfoldable pub BacksUp : Sight → Status → Type 0
-  BacksUp sight status = Has (λ world. Unit {0}) sight × (status ≡ statuses.Done)
+  unfoldable pub BacksUp : (WorldState → Type 0) → Sight → Status → Type 0
+  BacksUp made sight status = Has made sight × (status ≡ statuses.Done)
 
   -- what is told
 
   module _ (held written : Option (List ℕ)) where
-    -- the figures of the half in use that was seen, of its world, and of the files
-    pub record TellsFigures (sight : Sight) (status : Status) : Type 0 where
+    -- the figures of the half in use that was seen, of its world, and of the files as they were measured
+    pub record TellsFigures (measured : Result Figures HostError → Type 0) (sight : Sight) (status : Status) : Type 0 where
       pub half : HalfFigures
       pub figures : AreFiguresOf (state_of sight).reads half
       pub files : Figures
+      pub are_measured : measured (Ok files)
       pub same : Sight
       pub reads : (state_of same).reads ≡ (state_of sight).reads
       pub tells : Tells (λ world text. text ≡ info_text half world files) same held written status
 
-    unfoldable pub TellsLook : Look → Sight → Status → Type 0
-    TellsLook (Show shown) sight status =
+    -- the properties that are asked for
+    unfoldable pub TellsShown : Shown → Sight → Status → Type 0
+    TellsShown shown sight status =
         (selection : Selection) × IsSelection shown selection × Tells (IsShown selection) sight held written status
-    TellsLook Info sight status = TellsFigures sight status
-    TellsLook (Log records) sight status = TellsLog held written records sight status
-    TellsLook (Backup to) sight status = BacksUp sight status × (written ≡ held)
-    TellsLook (Dump place) sight status =
+
+    -- the text of the world after so many records
+    unfoldable pub TellsDump : RecordPlace → Sight → Status → Type 0
+    TellsDump place sight status =
         (cut : Sight) × IsCut place.number place.generation (state_of sight).reads (state_of cut).reads
         × ((back : Sight) × IsReport functions state_of reports.Dump cut macros held written status back)
+
+    unfoldable pub TellsLook : System → Text → Look → Sight → Status → Type 0
+    TellsLook system folder (Show shown) sight status = TellsShown shown sight status
+    TellsLook system folder Info sight status = TellsFigures (system.measures folder) sight status
+    TellsLook system folder (Log records) sight status = TellsLog held written records sight status
+    TellsLook system folder (Backup to) sight status = BacksUp (system.made to.now) sight status × (written ≡ held)
+    TellsLook system folder (Dump place) sight status = TellsDump place sight status
 
 -- it was not opened, all macro functions registered or not
 unfoldable pub Unopens : Functions → Bool → Sight → Unlooked → Type 0
@@ -118,24 +151,36 @@ Unopens functions whole sight why =
 
 -- why nothing is told
 module _ (functions : Functions) {R : Type 0} (macros : R) (whole : Bool) where
-  -- the files were not looked at once more, or the log of the sight was not opened, or the store
-  unfoldable pub WithholdsFigures : Sight → Unlooked → Type 0
-  WithholdsFigures sight why =
-      ((error : HostError) × (why ≡ unlooked.Host error))
+  -- the files were not measured, or the log of the sight was not opened, or the store
+  unfoldable pub WithholdsFigures : (Result Figures HostError → Type 0) → Sight → Unlooked → Type 0
+  WithholdsFigures measured sight why =
+      ((error : HostError) × measured (Err error) × (why ≡ unlooked.Host error))
       ⊎ (((error : LogError) × IsNoLog error (state_of sight).reads × (why ≡ of_log error))
       ⊎ ((same : Sight) × ((state_of same).reads ≡ (state_of sight).reads) × (Unopens functions whole same why ⊎ (why ≡ unlooked.Fault NO_MEMORY))))
 
-  unfoldable pub WithholdsLook : Look → Sight → Unlooked → Type 0
-  WithholdsLook (Show shown) sight why =
+  unfoldable pub WithholdsShown : Shown → Sight → Unlooked → Type 0
+  WithholdsShown shown sight why =
       Unopens functions whole sight why
       ⊎ ((selection : Selection) × IsSelection shown selection
       × ((error : ShowError) × Has functions macros (λ world. IsUnshown selection world error) sight × (why ≡ of_show error)))
-  WithholdsLook Info sight why = WithholdsFigures sight why
-  WithholdsLook (Log records) sight why = WithholdsLog records sight why
-  WithholdsLook (Backup to) sight why = Unit {0}
-  WithholdsLook (Dump place) sight why =
+
+  unfoldable pub WithholdsDump : RecordPlace → Sight → Unlooked → Type 0
+  WithholdsDump place sight why =
       ((error : LogError) × IsNoPlace place.number place.generation error (state_of sight).reads × (why ≡ of_log error))
       ⊎ ((cut : Sight) × IsCut place.number place.generation (state_of sight).reads (state_of cut).reads × Unopens functions whole cut why)
+
+  -- the store was not opened, or a backup of its world was not made
+  unfoldable pub WithholdsBackup : (WorldState → BackupError → Type 0) → Sight → Unlooked → Type 0
+  WithholdsBackup unmade sight why =
+      Unopens functions whole sight why
+      ⊎ ((error : BackupError) × Has functions macros (λ world. unmade world error) sight × IsOfBackup error why)
+
+  unfoldable pub WithholdsLook : System → Text → Look → Sight → Unlooked → Type 0
+  WithholdsLook system folder (Show shown) sight why = WithholdsShown shown sight why
+  WithholdsLook system folder Info sight why = WithholdsFigures (system.measures folder) sight why
+  WithholdsLook system folder (Log records) sight why = WithholdsLog records sight why
+  WithholdsLook system folder (Backup to) sight why = WithholdsBackup (system.unmade to.now) sight why
+  WithholdsLook system folder (Dump place) sight why = WithholdsDump place sight why
 
 -- ---- the whole look
 
@@ -144,14 +189,15 @@ abbrev pub status_in : Result Status Unlooked → Status
 status_in (Ok status) = status
 status_in (Err why) = status_of why
 
-module _ (functions : Functions) {R : Type 0} (macros : R) (whole : Bool) (lacks_seeds : Type 0) (opens : Text → Result Sight HostError → Type 0) where
+module _ (functions : Functions) {R : Type 0} (macros : R) (whole : Bool) (system : System) (lacks_seeds : Type 0) (opens : Text → Result Sight HostError → Type 0) where
   -- The files of the folder were opened so, and this is told of what was seen, or nothing. Before that no seed was had, of a system that may lack them.
   unfoldable pub LooksAt : Text → Look → Option (List ℕ) → Option (List ℕ) → Result Status Unlooked → Type 0
   LooksAt folder look held written ended =
       (lacks_seeds × (ended ≡ Err (unlooked.Fault INPUT)))
       ⊎ (((error : HostError) × opens folder (Err error) × (ended ≡ Err (unlooked.Host error)))
       ⊎ ((sight : Sight) × opens folder (Ok sight)
-      × MatchResult ended (TellsLook functions macros held written look sight) (WithholdsLook functions macros whole look sight)))
+      × MatchResult ended (TellsLook functions macros held written system folder look sight)
+      (WithholdsLook functions macros whole system folder look sight)))
 
   -- the words are refused, or ask for help; or they ask for a look, which ended so
   unfoldable pub Looks : List Text → Option (List ℕ) → Option (List ℕ) → Status → Type 0

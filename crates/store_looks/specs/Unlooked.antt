@@ -1,10 +1,14 @@
 -- Why nothing is told of a store, and how a look ends then.
+use Rattle.std.specs.Prelude.{◌≡◌}
+use Rattle.disk_trait.specs.declared.host.HostError.{HostError}
 use Rattle.lisp_object.specs.declared.refusal.TheConstants.{DAMAGED, DEVICE, NO_MEMORY, VERSION}
 use Rattle.log_look.specs.declared.error.LogError.{LogError}
 use Rattle.log_look.specs.declared.error.LogError.TheVariants as telling
 use Rattle.store_commands.specs.Status.{status_of_host}
 use Rattle.store_commands.specs.declared.status.Status.{Status}
 use Rattle.store_commands.specs.declared.status.Status.TheVariants as statuses
+use Rattle.store_reports.specs.declared.backups.BackupError.{BackupError}
+use Rattle.store_reports.specs.declared.backups.BackupError.TheVariants as backing
 use Rattle.store_reports.specs.declared.showing.ShowError.{ShowError}
 use Rattle.store_reports.specs.declared.showing.ShowError.TheVariants as showing
 use Rattle.store_looks.specs.declared.unlooked.Unlooked.{Unlooked}
@@ -33,3 +37,12 @@ abbrev pub of_show : ShowError → Unlooked
 of_show showing.OutOfMemory = Fault NO_MEMORY
 of_show showing.NoPackage = Show showing.NoPackage
 of_show showing.NoIndicator = Show showing.NoIndicator
+
+-- a backup that was not made; one that differs from its world is a fault of the device
+abbrev pub IsOfBackup : BackupError → Unlooked → Type 0
+IsOfBackup backing.OutOfMemory why = why ≡ Fault NO_MEMORY
+IsOfBackup backing.Exists why = why ≡ Taken backing.Exists
+IsOfBackup (backing.Unfinished name) why = why ≡ Taken (backing.Unfinished name)
+IsOfBackup (backing.Host error) why = why ≡ Host error
+IsOfBackup (backing.Refused number) why = why ≡ Fault number
+IsOfBackup backing.Differs why = (error : HostError) × (why ≡ Host error) × (status_of_host error ≡ statuses.Fault DEVICE)

@@ -1,21 +1,18 @@
 // The figures of a store that was seen, and of its files.
 ghost use Rattle.std.specs.Prelude.{◌≡◌, ◌<◌, ◌-◌, ◌^◌, IfErr, IfOk, IfSome, MatchResult};
-ghost use Rattle.command_words.specs.declared.looks.Look.TheVariants as looking;
-ghost use Rattle.store_looks.specs.Told.{TellsLook, WithholdsLook};
+ghost use Rattle.store_looks.specs.Told.{TellsFigures, WithholdsFigures};
 ghost use Rattle.store_reports.specs.Figures.{info_text};
 ghost use Rattle.user_macros.specs.Functions.{are_registered};
 
 use crate::looks::{opened, write_told};
+use crate::measures::Measures;
 use crate::unlooked::Unlooked;
-use disk_trait::{Disk, HostError};
-use log_look::{Figures, HostFiles, Sight};
+use disk_trait::Disk;
+use log_look::{Figures, Sight};
 use plist_state::Seed;
 use prevalence_store::Store;
 use std::alloc::{AllocError, Global};
-use std::fs::File;
 use std::io::Write;
-use std::rt::Files;
-use std::time::Clock;
 use store_commands::Status;
 use store_reports::{HalfFigures, half_figures, info};
 use user_macros::MacroFunctions;
@@ -30,19 +27,19 @@ pub(crate) fn info_on<R, M, O>(
     output: &mut O,
 ) -> Result<Status, Unlooked>
 where
-    R: Files<File = File> + Clock + AllocGlobal,
+    R: Measures + AllocGlobal,
     M: MacroFunctions + Drop,
     O: Write,
     requires answers { M.answers macros }
     requires room { (⟦<Sight as Disk>⟧.state sight).failures < 2 ^ 64 - 1 }
     ensures refused { IfErr result (λ _. output.new ≡ output.old) }
     ensures looks { MatchResult result
-        (TellsLook M.Meaning.functions macros (O.contents output.old) (O.contents output.new) looking.Info sight)
-        (WithholdsLook M.Meaning.functions macros
-        (are_registered M.Meaning.functions (M.functions macros)) looking.Info sight) }
+        (TellsFigures M.Meaning.functions macros (O.contents output.old) (O.contents output.new) (R.measures rt.now folder.now) sight)
+        (WithholdsFigures M.Meaning.functions macros
+        (are_registered M.Meaning.functions (M.functions macros)) (R.measures rt.now folder.now) sight) }
 {
     let alloc = rt.alloc();
-    let figures = figures_of(rt, folder)?;
+    let figures = rt.figures(folder)?;
     let (half, sight) = half_figures(alloc, sight)?;
     let store = opened(alloc, sight, macros, seed)?;
     let told = info_of(alloc, &store, &half, &figures);
@@ -65,14 +62,4 @@ fn info_of<M: MacroFunctions>(
         Some(world) => info(alloc, half, world, files),
         None => Err(AllocError),
     }
-}
-
-// How long the files of a folder are, and how old.
-fn figures_of<R: Files<File = File> + Clock + AllocGlobal>(
-    rt: &R,
-    folder: &str,
-) -> Result<Figures, HostError> {
-    let files = HostFiles::open(rt, folder)?;
-    let figures = files.figures(rt)?;
-    Ok(figures)
 }

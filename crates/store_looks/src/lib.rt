@@ -2,7 +2,8 @@
 //!
 //! - `look` looks into the store of a folder: `show`, `info`, `log`, `backup`, and `dump --at N` (modules `looks`, `showing` and
 //!   `figures`, over `log_look` and `store_reports`; `unlooked` says why nothing is told).
-//! - `Seeds`: what gives the seed of a look; a look that has none ends with 67 (module `seeds`).
+//! - `Seeds`: what gives the seed of a look; a look that has none ends with 67 (module `seeds`). `Measures`: what measures files (module
+//!   `measures`). A look gets to the system by these, by `Folders` and by `Places` of store_reports, and in no other way.
 //! - `check` tells which forms of a file cannot be read (module `checking`, over `form_check`).
 //!
 //! `dump`, `verify` and `export` with `--existing` only look too: they are `program` of `store_commands` over a `Looking`.
@@ -11,10 +12,12 @@
 mod checking;
 mod figures;
 mod looks;
+mod measures;
 mod seeds;
 mod showing;
 mod unlooked;
 
 pub use checking::check;
 pub use looks::look;
+pub use measures::Measures;
 pub use seeds::Seeds;

@@ -1,18 +1,23 @@
 // Looks into the store of a folder: what is told of it with no lock and no right to write, also while it is served.
-ghost use Rattle.std.specs.Prelude.{◌≡◌, ◌<◌, ◌-◌, ◌^◌, true, map, IfErr, IfOk, MatchResult};
+ghost use Rattle.std.specs.Borrow.{Bor};
+ghost use Rattle.std.specs.Prelude.{◌≡◌, ◌<◌, ◌-◌, ◌^◌, true, map, IfErr, IfOk, IfSome, MatchResult};
+ghost use Rattle.clap.specs.Words.{Text};
 ghost use Rattle.command_words.specs.declared.looks.Look.TheVariants as looking;
 ghost use Rattle.store_commands.specs.Status.{IsQuiet};
 ghost use Rattle.store_commands.specs.Told.{TellsFault};
 ghost use Rattle.store_commands.specs.declared.told.Told.{Told};
 ghost use Rattle.prevalence_store.specs.calls.Open.{IsOpened};
 ghost use Rattle.store_commands.specs.Session.{half_limit};
+ghost use Rattle.command_words.specs.LookLine.{AsksToLook};
+ghost use Rattle.store_reports.specs.Backup.{IsMade, IsUnmade};
 ghost use Rattle.store_commands.specs.Texts.{TellsText};
 ghost use Rattle.store_looks.specs.Looks.{EndsUnlooked, Prints};
-ghost use Rattle.store_looks.specs.Told.{BacksUp, Looks, LooksAt, Sees, TellsLog, TellsLook, Unopens, WithholdsLog, WithholdsLook};
+ghost use Rattle.store_looks.specs.Told.{BacksUp, Looks, LooksAt, Sees, TellsDump, TellsLog, TellsLook, Unopens, WithholdsBackup, WithholdsDump, WithholdsLog, WithholdsLook, system_of};
 ghost use Rattle.store_looks.specs.Unlooked.{status_of};
 ghost use Rattle.user_macros.specs.Functions.{are_registered};
 
 use crate::figures::info_on;
+use crate::measures::Measures;
 use crate::seeds::Seeds;
 use crate::showing::show_on;
 use crate::unlooked::Unlooked;
@@ -26,15 +31,12 @@ use prevalence_store::Store;
 use std::alloc::Global;
 use std::convert::AsStr;
 use std::fmt::{Display, Write as WriteText};
-use std::fs::File;
 use std::io::Write;
-use std::rt::Files;
-use std::time::Clock;
 use store_commands::{
     Folders, HALF_LIMIT, Opening, Status, TellsCause, Told, answer_words, end_with, end_with_told,
     open_folder, report_on, status_of_output,
 };
-use store_reports::{BackupError, LogPart, backup, log_lines};
+use store_reports::{BackupError, LogPart, Places, backup, log_lines};
 use user_macros::MacroFunctions;
 
 /// Looks into the store in a folder, as the words ask (`Way::Look` of `command_words`), and answers how that ended. The first word is the
@@ -53,16 +55,19 @@ pub fn look<R, L, M, S, O, F>(
     faults: &mut F,
 ) -> Status
 where
-    R: Files<File = File> + Seeds + Clock + AllocGlobal,
+    R: Seeds + Measures + Places + AllocGlobal,
     L: Folders<Disk = Sight>,
     M: MacroFunctions + Drop,
     S: AsStr,
     O: Write,
     F: Write,
     requires answers { M.answers macros }
+    requires may { (folder : Text) (to : Bor Text) → AsksToLook (map S.text words.now) folder (looking.Backup to)
+        → R.may rt.now to.now }
     ensures prints { Prints O.contents output.old output.new result }
     ensures looks { Looks M.Meaning.functions macros
-        (are_registered M.Meaning.functions (M.functions macros)) (R.lacks rt.now)
+        (are_registered M.Meaning.functions (M.functions macros))
+        (system_of (R.measures rt.now) R.Disk.state (R.does rt.now)) (R.lacks rt.now)
         (Sees ⟦<Sight as TellsCause>⟧.tells (L.opens folders.now))
         (map S.text words.now) (O.contents output.old) (O.contents output.new) result }
     ensures told { (told : Told) × TellsFault result told (F.contents faults.old) (F.contents faults.new) }
@@ -140,14 +145,16 @@ fn look_at<R, L, M, O>(
     output: &mut O,
 ) -> Result<Status, Unlooked>
 where
-    R: Files<File = File> + Seeds + Clock + AllocGlobal,
+    R: Seeds + Measures + Places + AllocGlobal,
     L: Folders<Disk = Sight>,
     M: MacroFunctions + Drop,
     O: Write,
     requires answers { M.answers macros }
+    requires may { (to : Bor Text) → looked.entry.look ≡ looking.Backup to → R.may rt.now to.now }
     ensures refused { IfErr result (λ _. output.new ≡ output.old) }
     ensures looks { LooksAt M.Meaning.functions macros
-        (are_registered M.Meaning.functions (M.functions macros)) (R.lacks rt.now)
+        (are_registered M.Meaning.functions (M.functions macros))
+        (system_of (R.measures rt.now) R.Disk.state (R.does rt.now)) (R.lacks rt.now)
         (Sees ⟦<Sight as TellsCause>⟧.tells (L.opens folders.now))
         looked.entry.folder.now looked.entry.look (O.contents output.old) (O.contents output.new) result }
 {
@@ -171,23 +178,25 @@ fn look_into<R, M, O>(
     output: &mut O,
 ) -> Result<Status, Unlooked>
 where
-    R: Files<File = File> + Clock + AllocGlobal,
+    R: Measures + Places + AllocGlobal,
     M: MacroFunctions + Drop,
     O: Write,
     requires answers { M.answers macros }
+    requires may { (to : Bor Text) → looked.entry.look ≡ looking.Backup to → R.may rt.now to.now }
     requires room { (⟦<Sight as Disk>⟧.state sight).failures < 2 ^ 64 - 1 }
     ensures refused { IfErr result (λ _. output.new ≡ output.old) }
     ensures looks { MatchResult result
-        (TellsLook M.Meaning.functions macros (O.contents output.old) (O.contents output.new) looked.entry.look sight)
-        (WithholdsLook M.Meaning.functions macros
-        (are_registered M.Meaning.functions (M.functions macros)) looked.entry.look sight) }
+        (TellsLook M.Meaning.functions macros (O.contents output.old) (O.contents output.new)
+        (system_of (R.measures rt.now) R.Disk.state (R.does rt.now)) looked.entry.folder.now looked.entry.look sight)
+        (WithholdsLook M.Meaning.functions macros (are_registered M.Meaning.functions (M.functions macros))
+        (system_of (R.measures rt.now) R.Disk.state (R.does rt.now)) looked.entry.folder.now looked.entry.look sight) }
 {
     match looked.look {
         Look::Dump(place) => dump(rt.alloc(), sight, macros, seed, place, output),
         Look::Show(shown) => show_on(rt.alloc(), sight, macros, seed, shown, output),
         Look::Info => info_on(rt, looked.folder, sight, macros, seed, output),
         Look::Log(records) => log_on(rt.alloc(), sight, records, output),
-        Look::Backup(to) => back_up(rt, sight, macros, seed, to),
+        Look::Backup(to) => back_up(rt.alloc(), rt, sight, macros, seed, to),
     }
 }
 
@@ -214,9 +223,9 @@ where
     requires room { (⟦<Sight as Disk>⟧.state sight).failures < 2 ^ 64 - 1 }
     ensures refused { IfErr result (λ _. output.new ≡ output.old) }
     ensures looks { MatchResult result
-        (TellsLook M.Meaning.functions macros (O.contents output.old) (O.contents output.new) (looking.Dump place) sight)
-        (WithholdsLook M.Meaning.functions macros
-        (are_registered M.Meaning.functions (M.functions macros)) (looking.Dump place) sight) }
+        (TellsDump M.Meaning.functions macros (O.contents output.old) (O.contents output.new) place sight)
+        (WithholdsDump M.Meaning.functions macros
+        (are_registered M.Meaning.functions (M.functions macros)) place sight) }
 {
     let cut = cut_after(alloc, sight, place.number, place.generation)?;
     let opening = Opening {
@@ -273,20 +282,46 @@ pub(crate) fn opened<M: MacroFunctions + Drop>(
 }
 
 // Makes a new store of the world that was seen.
-fn back_up<R, M>(rt: &R, sight: Sight, macros: M, seed: Seed, to: &str) -> Result<Status, Unlooked>
+fn back_up<P, M>(
+    alloc: Global,
+    places: &P,
+    sight: Sight,
+    macros: M,
+    seed: Seed,
+    to: &str,
+) -> Result<Status, Unlooked>
 where
-    R: Files<File = File> + AllocGlobal,
+    P: Places,
     M: MacroFunctions + Drop,
     requires answers { M.answers macros }
+    requires may { P.may places.now to.now }
     requires room { (⟦<Sight as Disk>⟧.state sight).failures < 2 ^ 64 - 1 }
-    ensures { IfOk result (λ status. BacksUp M.Meaning.functions macros sight status) }
+    ensures { MatchResult result
+        (BacksUp M.Meaning.functions macros (λ world. IsMade P.Disk.state (P.does places.now) half_limit world to.now) sight)
+        (WithholdsBackup M.Meaning.functions macros (are_registered M.Meaning.functions (M.functions macros))
+        (λ world error. IsUnmade P.Disk.state (P.does places.now) half_limit world to.now error) sight) }
 {
-    let store = opened(rt.alloc(), sight, macros, seed)?;
-    let made = match store.world() {
-        Some(world) => backup(rt, world, to, HALF_LIMIT),
-        None => Err(BackupError::OutOfMemory),
-    };
+    let store = opened(alloc, sight, macros, seed)?;
+    let made = backed_up(alloc, places, &store, to);
     let _ = store.close();
     made?;
     Ok(Status::Done)
+}
+
+// Makes a new store of the world of an open one.
+fn backed_up<P: Places, M: MacroFunctions>(
+    alloc: Global,
+    places: &P,
+    store: &Store<Sight, M>,
+    to: &str,
+) -> Result<(), BackupError>
+    requires may { P.may places.now to.now }
+    ensures { IfSome store.now.world (λ world. MatchResult result
+        (λ _. IsMade P.Disk.state (P.does places.now) half_limit world to.now)
+        (IsUnmade P.Disk.state (P.does places.now) half_limit world to.now)) }
+{
+    match store.world() {
+        Some(world) => backup(alloc, places, world, to, HALF_LIMIT),
+        None => Err(BackupError::OutOfMemory),
+    }
 }

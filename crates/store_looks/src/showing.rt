@@ -1,8 +1,7 @@
 // The properties of a store that was seen.
 ghost use Rattle.std.specs.Prelude.{◌≡◌, ◌<◌, ◌-◌, ◌^◌, IfErr, IfSome, MatchResult};
 ghost use Rattle.command_words.specs.LookLine.{text_of};
-ghost use Rattle.command_words.specs.declared.looks.Look.TheVariants as looking;
-ghost use Rattle.store_looks.specs.Told.{IsSelection, TellsLook, WithholdsLook};
+ghost use Rattle.store_looks.specs.Told.{IsSelection, TellsShown, WithholdsShown};
 ghost use Rattle.store_reports.specs.Shown.{IsShown, IsUnshown};
 ghost use Rattle.user_macros.specs.Functions.{are_registered};
 
@@ -35,9 +34,9 @@ where
     requires room { (⟦<Sight as Disk>⟧.state sight).failures < 2 ^ 64 - 1 }
     ensures refused { IfErr result (λ _. output.new ≡ output.old) }
     ensures looks { MatchResult result
-        (TellsLook M.Meaning.functions macros (O.contents output.old) (O.contents output.new) (looking.Show shown.entry) sight)
-        (WithholdsLook M.Meaning.functions macros
-        (are_registered M.Meaning.functions (M.functions macros)) (looking.Show shown.entry) sight) }
+        (TellsShown M.Meaning.functions macros (O.contents output.old) (O.contents output.new) shown.entry sight)
+        (WithholdsShown M.Meaning.functions macros
+        (are_registered M.Meaning.functions (M.functions macros)) shown.entry sight) }
 {
     let selection = selection_of(shown);
     let store = opened(alloc, sight, macros, seed)?;

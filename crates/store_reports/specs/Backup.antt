@@ -1,18 +1,42 @@
--- What a backup leaves on a disk.
-use Rattle.std.specs.Prelude.{None, Some}
-use Rattle.disk_trait.specs.Disk.{State, IsDurable}
-use Rattle.gate_log.specs.Layout.{Contents}
+-- What a backup does, and what it leaves.
+use Rattle.std.specs.Prelude.{◌≡◌, ◌≢◌, ◌⊎◌, ℕ, ◌+◌, ◌^◌, ◌<◌, min, List, [], length, Bool, Option, None, Some, Ok, Err}
+use Rattle.disk_trait.specs.Disk.{IsDurable, IsHonest, State, Told}
+use Rattle.disk_trait.specs.declared.host.HostError.{HostError}
+use Rattle.disk_trait.specs.declared.host.IfMissing.TheVariants.{Make, Refuse}
+use Rattle.gate_log.specs.Failures.{is_open_fault, is_read_fault, is_start_fault}
+use Rattle.gate_log.specs.Layout.{Contents, written_version}
 use Rattle.gate_log.specs.Log.{FilesMean, started}
+use Rattle.gate_log.specs.Opening.{Refuses}
 use Rattle.gate_log.specs.Step.{Rests}
+use Rattle.gate_log.specs.declared.error.OpenRefusal.{OpenRefusal}
+use Rattle.gate_log.specs.declared.error.ReadError.{ReadError}
+use Rattle.gate_log.specs.declared.error.ReadError.TheVariants as reading
+use Rattle.gate_log.specs.declared.error.StartError.{StartError}
+use Rattle.gate_log.specs.declared.error.StartError.TheVariants as starting
+use Rattle.lisp_object.specs.declared.refusal.TheConstants.{DEVICE}
 use Rattle.plist_state.specs.State.{WorldState}
 use Rattle.world_text.specs.Snapshot.{snapshot}
+use Rattle.store_reports.specs.Numbers.{open_number, read_number, start_number}
+use Rattle.store_reports.specs.Places.{Deed, begun, not_begun, opened, told, placed, not_placed, taken_away}
 use Rattle.store_reports.specs.declared.backups.BackupError.{BackupError}
 use Rattle.store_reports.specs.declared.backups.BackupError.TheVariants as errors
+
+-- ---- a log
 
 -- the log holds the text of this world, and no record, and a crash leaves it so
 pub record HoldsWorld (world : WorldState) (disk : State) : Type 0 where
   pub holds : FilesMean (Some (started None (snapshot world))) disk.reads
   pub durable : IsDurable disk
+
+-- a half is open, of the version that is written, and has no record
+abbrev pub IsAlone : Option Contents → Type 0
+IsAlone None = ⊥
+IsAlone (Some k) = (k.version ≡ written_version) × (k.entries ≡ [])
+
+-- and its snapshot is this text
+abbrev pub IsBare : List ℕ → Option Contents → Type 0
+IsBare text None = ⊥
+IsBare text (Some k) = IsAlone (Some k) × (k.snapshot ≡ text)
 
 -- the disk held a log already, and nothing was written
 pub record IsLeft (old new : State) : Type 0 where
@@ -20,11 +44,95 @@ pub record IsLeft (old new : State) : Type 0 where
   pub held : FilesMean (Some contents) old.reads
   pub rests : Rests old new
 
--- what is left of the disk of a log that was not begun, for this reason
-abbrev pub LeavesDisk : BackupError → State → State → Type 0
-LeavesDisk errors.Exists old new = IsLeft old new
-LeavesDisk errors.OutOfMemory old new = Unit {0}
-LeavesDisk (errors.Unfinished name) old new = ⊥
-LeavesDisk (errors.Host error) old new = ⊥
-LeavesDisk (errors.Refused number) old new = Unit {0}
-LeavesDisk errors.Differs old new = ⊥
+-- ---- why a log is refused, with this number
+
+-- it was not opened
+pub record IsUnopened (number : ℕ) (old new : State) : Type 0 where
+  pub refusal : OpenRefusal
+  pub number_is : number ≡ open_number refusal
+  pub told : Told (is_open_fault refusal) old new
+  pub why : IsHonest old → Refuses refusal old.reads
+
+-- its half was not read; of an honest disk it is not damaged
+pub record IsUnread (number : ℕ) (old new : State) : Type 0 where
+  pub error : ReadError
+  pub number_is : number ≡ read_number error
+  pub told : Told (is_read_fault error) old new
+  pub whole : IsHonest old → error ≢ reading.Damaged
+
+-- its half was not started: the device failed, or the text is too long, or there was no memory
+pub record IsUnstarted (limit : ℕ) (text : List ℕ) (number : ℕ) (old new : State) : Type 0 where
+  pub error : StartError
+  pub number_is : number ≡ start_number error
+  pub told : Told (is_start_fault error) old new
+  pub large : error ≡ starting.TooLarge → (min limit (2 ^ 40) < 16 + length text) ⊎ (4294967295 < length text)
+
+-- why a log was not begun with a world
+abbrev pub IsNotBegun : ℕ → WorldState → State → State → BackupError → Type 0
+IsNotBegun limit world old new errors.Exists = IsHonest old → IsLeft old new
+IsNotBegun limit world old new errors.OutOfMemory = Unit {0}
+IsNotBegun limit world old new (errors.Unfinished name) = ⊥
+IsNotBegun limit world old new (errors.Host error) = ⊥
+IsNotBegun limit world old new (errors.Refused number) = IsUnopened number old new ⊎ IsUnstarted limit (snapshot world) number old new
+IsNotBegun limit world old new errors.Differs = ⊥
+
+-- ---- a backup at a place, by what was done
+
+-- a fault of the device is told with the cause that the disk tells, if it tells one
+abbrev pub IsToldAs : {D : Type 0} → (Deed D → Type 0) → D → BackupError → BackupError → Type 0
+IsToldAs does disk why error =
+    (error ≡ why) ⊎ ((cause : HostError) × does (told disk (Some cause)) × (why ≡ errors.Refused DEVICE) × (error ≡ errors.Host cause))
+
+module _ {D : Type 0} (state : D → State) (does : Deed D → Type 0) (limit : ℕ) (world : WorldState) (dir : List ℕ) where
+  -- The files were opened, and the world was written to them: of an honest disk it is what they hold then.
+  pub record IsWritten : Type 0 where
+    pub first : D
+    pub last : D
+    pub opens : does (opened dir Make (Ok first))
+    pub holds : IsHonest (state first) → HoldsWorld world (state last)
+
+  -- the files were not opened, or the world was not written to them
+  abbrev pub IsUnwritten : BackupError → Type 0
+  IsUnwritten error =
+      ((cause : HostError) × does (opened dir Make (Err cause)) × (error ≡ errors.Host cause))
+      ⊎ ((first : D) × (last : D) × does (opened dir Make (Ok first))
+      × ((why : BackupError) × IsNotBegun limit world (state first) (state last) why × IsToldAs does last why error))
+
+  -- They were opened again: of an honest disk they hold the text of the world, and no record.
+  pub record IsCompared : Type 0 where
+    pub again : D
+    pub opens : does (opened dir Refuse (Ok again))
+    pub holds : IsHonest (state again) → (k : Option Contents) × FilesMean k (state again).reads × IsBare (snapshot world) k
+
+  -- of an honest disk they hold something else
+  pub record HoldsOther (again : D) : Type 0 where
+    pub other : IsHonest (state again) → (k : Option Contents) × FilesMean k (state again).reads × (IsBare (snapshot world) k → ⊥)
+
+  -- the files were not opened again, or not read; or they hold something else; or there was no memory for the text
+  abbrev pub IsUncompared : BackupError → Type 0
+  IsUncompared error =
+      (error ≡ errors.OutOfMemory)
+      ⊎ (((cause : HostError) × does (opened dir Refuse (Err cause)) × (error ≡ errors.Host cause))
+      ⊎ ((again : D) × does (opened dir Refuse (Ok again))
+      × (((error ≡ errors.Differs) × HoldsOther again)
+      ⊎ ((number : ℕ) × (last : D) × (error ≡ errors.Refused number)
+      × (IsUnopened number (state again) (state last) ⊎ IsUnread number (state again) (state last))))))
+
+  -- the new store was written, opened again and compared, and then got its name
+  pub record IsPlaced : Type 0 where
+    pub written : IsWritten
+    pub compared : IsCompared
+    pub named : does (placed dir)
+
+  -- one of these was not had
+  abbrev pub IsUnplaced : BackupError → Type 0
+  IsUnplaced error = IsUnwritten error ⊎ (IsUncompared error ⊎ does (not_placed dir error))
+
+  -- The new store is at the place.
+  pub record IsMade : Type 0 where
+    pub begins : does (begun dir)
+    pub ends : IsPlaced
+
+  -- There is none, and this is why. What was begun was taken away.
+  abbrev pub IsUnmade : BackupError → Type 0
+  IsUnmade error = does (not_begun dir error) ⊎ (does (begun dir) × does (taken_away dir) × IsUnplaced error)

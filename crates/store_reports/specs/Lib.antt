@@ -2,4 +2,6 @@ pub mod Backup
 pub mod Escaped
 pub mod Figures
 pub mod Log
+pub mod Numbers
+pub mod Places
 pub mod Shown

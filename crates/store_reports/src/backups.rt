@@ -1,20 +1,26 @@
 //! A new store with the world of another one.
-ghost use Rattle.std.specs.Prelude.{◌≡◌, ◌-◌, ◌^◌, ◌<◌, IfErr, IfOk, None, Some};
-ghost use Rattle.disk_trait.specs.Disk.{IsHonest};
+ghost use Rattle.std.specs.Prelude.{◌≡◌, ◌≢◌, ◌-◌, ◌^◌, ◌<◌, ◌⊎◌, ℕ, Decides, IfErr, IfOk, IsSome, IsTrue, MatchResult, None, Option, Some};
+ghost use Rattle.disk_trait.specs.Disk.{Image, IsHonest, Tells};
+ghost use Rattle.gate_log.specs.Failures.{is_read_fault};
+ghost use Rattle.gate_log.specs.HalfInUse.{IsAt, Shows};
+ghost use Rattle.gate_log.specs.Layout.{Contents};
 ghost use Rattle.gate_log.specs.Log.{FilesMean};
-ghost use Rattle.store_reports.specs.Backup.{HoldsWorld, LeavesDisk};
+ghost use Rattle.store_reports.specs.Backup.{HoldsWorld, IsAlone, IsBare, IsCompared, IsMade, IsNotBegun, IsPlaced, IsToldAs, IsUncompared, IsUnmade, IsUnopened, IsUnplaced, IsUnread, IsUnwritten, IsWritten};
+ghost use Rattle.store_reports.specs.Numbers.{open_number, read_number, start_number};
+ghost use Rattle.store_reports.specs.declared.backups.BackupError.TheVariants as errors;
 
-use disk_trait::{Disk, HostDisk, HostError, IfMissing};
+use crate::places::Places;
+use disk_trait::{Disk, HostError, IfMissing};
 use gate_log::{Halves, OpenRefusal, ReadError, StartError, shown_is_meant};
 use lisp_object::refusal::{DAMAGED, DEVICE, NO_MEMORY, SNAPSHOT_TOO_LARGE, VERSION};
 use plist_state::World;
 use std::alloc::{AllocError, Global};
-use std::fs::File;
-use std::path::Path;
-use std::rt::Files;
-use std::{fs, io};
+use std::io;
 use thiserror::Error;
 use world_text::write;
+
+/// The version of a half that is written.
+const WRITTEN: u16 = 2;
 
 /// Why there is no backup.
 #[derive(Debug, Drop, Error)]
@@ -57,19 +63,9 @@ impl<D> NotBegun<D> {
     }
 }
 
-impl NotBegun<HostDisk> {
-    // The error, with the cause of a fault of the device.
-    fn with_cause(self) -> BackupError {
-        match (self.error, self.disk.cause()) {
-            (BackupError::Refused(DEVICE), Some(cause)) => {
-                BackupError::Host(HostError::System(cause))
-            }
-            (error, _) => error,
-        }
-    }
-}
-
 impl From<AllocError> for BackupError {
+    ghost from_gives = { λ _ e. e ≡ errors.OutOfMemory };
+
     fn from(_error: AllocError) -> BackupError {
         BackupError::OutOfMemory
     }
@@ -82,13 +78,17 @@ impl From<io::Error> for BackupError {
 }
 
 impl From<HostError> for BackupError {
+    ghost from_gives = { λ error e. e ≡ errors.Host error };
+
     fn from(error: HostError) -> BackupError {
         BackupError::Host(error)
     }
 }
 
 // The number of a log that was not opened.
-fn number_of(refusal: OpenRefusal) -> u16 {
+fn number_of(refusal: OpenRefusal) -> u16
+    ensures { result ≡ open_number refusal }
+{
     match refusal {
         OpenRefusal::DeviceFault => DEVICE,
         OpenRefusal::Damaged => DAMAGED,
@@ -98,7 +98,9 @@ fn number_of(refusal: OpenRefusal) -> u16 {
 }
 
 // The number of a half that was not read.
-fn number_of_read(error: ReadError) -> u16 {
+fn number_of_read(error: ReadError) -> u16
+    ensures { result ≡ read_number error }
+{
     match error {
         ReadError::DeviceFault => DEVICE,
         ReadError::Damaged => DAMAGED,
@@ -107,7 +109,9 @@ fn number_of_read(error: ReadError) -> u16 {
 }
 
 // The number of a half that was not started.
-fn number_of_start(error: StartError) -> u16 {
+fn number_of_start(error: StartError) -> u16
+    ensures { result ≡ start_number error }
+{
     match error {
         StartError::DeviceFault => DEVICE,
         StartError::TooLarge => SNAPSHOT_TOO_LARGE,
@@ -131,8 +135,8 @@ pub fn backup_onto<D: Disk>(
     requires { (D.state disk).failures < 2 ^ 64 - 1 }
     ensures holds { IfOk result (λ back. IsHonest (D.state disk)
         → HoldsWorld world.now.0 (D.state back)) }
-    ensures left { IfErr result (λ refused. IsHonest (D.state disk)
-        → LeavesDisk refused.error (D.state disk) (D.state refused.disk)) }
+    ensures refused { IfErr result (λ refused.
+        IsNotBegun limit world.now.0 (D.state disk) (D.state refused.disk) refused.error) }
 {
     shown_is_meant();
     let text = match write(alloc, world) {
@@ -158,136 +162,170 @@ pub fn backup_onto<D: Disk>(
     }
 }
 
-/// Makes a new store in `dir`, where there may be nothing yet, with a world as its snapshot, in halves of `limit` bytes at most. It is
-/// made in a folder of its own beside it, `dir` with `.partial` behind; synced, opened again and compared; and then gets its name. So
-/// nothing half made is ever at `dir`. After an error neither folder is left. Slashes at the end of `dir` are left out.
+/// Makes a new store at `dir`, where there may be nothing yet, with a world as its snapshot, in halves of `limit` bytes at most. It is
+/// written, opened again and compared before it gets its name, so nothing half made is ever at `dir`. It touches no other place.
 ///
 /// # Errors
 ///
-/// `Exists` where something is at `dir`, and `Unfinished` where something is beside it: none of that is touched. `Host` with the cause
-/// where a call of the system failed. `Refused` with its number. `Differs` where what was opened again has another text.
-pub fn backup<R: Files<File = File> + AllocGlobal>(
-    rt: &R,
+/// Each with its cause (`IsUnmade`); what was begun is taken away. `Exists` where something is at `dir`, and `Unfinished` where something is
+/// beside it: none of that is touched. `Host` with the cause where a call of the system failed. `Refused` with its number. `Differs`
+/// where what was opened again has another text.
+pub fn backup<P: Places>(
+    alloc: Global,
+    places: &P,
     world: &World,
     dir: &str,
     limit: u64,
-) -> Result<(), BackupError> {
-    let dir = free_place(rt, dir)?;
-    let partial = begin(rt, dir)?;
-    let made = make_and_place(rt, world, partial.as_str(), dir, limit);
-    if made.is_err() {
-        take_away(rt, partial.as_str());
-    }
-    made
-}
-
-// The name of a place where there is nothing, without slashes at its end.
-fn free_place<'a, R: Files<File = File> + AllocGlobal>(
-    rt: &R,
-    dir: &'a str,
-) -> Result<&'a str, BackupError> {
-    if dir.is_empty() {
-        return Err(BackupError::Host(HostError::NoName));
-    }
-    let name = dir.trim_end_matches('/');
-    if name.is_empty() || fs::symlink_metadata(rt, name).is_ok() {
-        return Err(BackupError::Exists);
-    }
-    Ok(name)
-}
-
-// Makes the folder in which a backup is made, and gives its name. What has that name already is not touched: it may be in use.
-fn begin<R: Files<File = File> + AllocGlobal>(rt: &R, dir: &str) -> Result<String, BackupError> {
-    let partial = format!(in rt.alloc(); "{dir}.partial")?;
-    match fs::create_dir(rt, partial.as_str()) {
-        Ok(()) => Ok(partial),
-        Err(error) if error.kind() == io::ErrorKind::AlreadyExists => {
-            Err(BackupError::Unfinished(partial))
+) -> Result<(), BackupError>
+    requires may { P.may places.now dir.now }
+    ensures made { IfOk result (λ _. IsMade P.Disk.state (P.does places.now) limit world.now.0 dir.now) }
+    ensures refused { IfErr result (IsUnmade P.Disk.state (P.does places.now) limit world.now.0 dir.now) }
+{
+    places.begin(dir)?;
+    match make_and_place(alloc, places, world, dir, limit) {
+        Ok(()) => Ok(()),
+        Err(error) => {
+            places.take_away(dir);
+            Err(error)
         }
-        Err(error) => Err(BackupError::from(error)),
     }
 }
 
-// Makes a backup in one folder, and gives it the name of the other.
-fn make_and_place<R: Files<File = File> + AllocGlobal>(
-    rt: &R,
+// Makes a backup in its folder, and gives it its name.
+fn make_and_place<P: Places>(
+    alloc: Global,
+    places: &P,
     world: &World,
-    partial: &str,
     dir: &str,
     limit: u64,
-) -> Result<(), BackupError> {
-    make_at(rt, world, partial, limit)?;
-    put_in_place(rt, partial, dir)
-}
-
-// Makes a backup, and opens it again.
-fn make_at<R: Files<File = File> + AllocGlobal>(
-    rt: &R,
-    world: &World,
-    partial: &str,
-    limit: u64,
-) -> Result<(), BackupError> {
-    write_at(rt, world, partial, limit)?;
-    let text = write(rt.alloc(), world)?;
-    if holds_text(rt, partial, text.as_slice(), limit)? {
-        Ok(())
-    } else {
-        Err(BackupError::Differs)
-    }
+) -> Result<(), BackupError>
+    requires may { P.may places.now dir.now }
+    ensures { MatchResult result (λ _. IsPlaced P.Disk.state (P.does places.now) limit world.now.0 dir.now)
+        (IsUnplaced P.Disk.state (P.does places.now) limit world.now.0 dir.now) }
+{
+    write_at(alloc, places, world, dir, limit)?;
+    compare_at(alloc, places, world, dir, limit)?;
+    places.place(dir)
 }
 
 // Writes a world to new files, which are closed then.
-fn write_at<R: Files<File = File> + AllocGlobal>(
-    rt: &R,
+fn write_at<P: Places>(
+    alloc: Global,
+    places: &P,
     world: &World,
-    partial: &str,
+    dir: &str,
     limit: u64,
-) -> Result<(), BackupError> {
-    let disk = HostDisk::open_files(rt, partial, IfMissing::Make)?;
-    match backup_onto(rt.alloc(), world, disk, limit) {
+) -> Result<(), BackupError>
+    requires may { P.may places.now dir.now }
+    ensures written { IfOk result (λ _. IsWritten P.Disk.state (P.does places.now) limit world.now.0 dir.now) }
+    ensures refused { IfErr result (IsUnwritten P.Disk.state (P.does places.now) limit world.now.0 dir.now) }
+{
+    let disk = places.open(dir, IfMissing::Make)?;
+    match backup_onto(alloc, world, disk, limit) {
         Ok(_disk) => Ok(()),
-        Err(not_begun) => Err(not_begun.with_cause()),
+        Err(not_begun) => Err(with_cause(places, not_begun.error, &not_begun.disk)),
     }
 }
 
-// Whether the files of a folder hold this text and no record.
-fn holds_text<R: Files<File = File> + AllocGlobal>(
-    rt: &R,
+// The error, with the cause of a fault of the device.
+fn with_cause<P: Places>(places: &P, error: BackupError, disk: &P::Disk) -> BackupError
+    ensures { IsToldAs (P.does places.now) disk.now error result }
+{
+    match (error, places.cause(disk)) {
+        (BackupError::Refused(DEVICE), Some(cause)) => BackupError::Host(cause),
+        (error, _) => error,
+    }
+}
+
+// Opens the files of a backup again, and looks whether they hold the text of a world and no record.
+fn compare_at<P: Places>(
+    alloc: Global,
+    places: &P,
+    world: &World,
     dir: &str,
+    limit: u64,
+) -> Result<(), BackupError>
+    requires may { P.may places.now dir.now }
+    ensures compared { IfOk result (λ _. IsCompared P.Disk.state (P.does places.now) limit world.now.0 dir.now) }
+    ensures refused { IfErr result (IsUncompared P.Disk.state (P.does places.now) limit world.now.0 dir.now) }
+{
+    let text = write(alloc, world)?;
+    let disk = places.open(dir, IfMissing::Refuse)?;
+    match holds_text(alloc, disk, text.as_slice(), limit) {
+        Ok(true) => Ok(()),
+        Ok(false) => Err(BackupError::Differs),
+        Err(refused) => Err(BackupError::Refused(refused.number)),
+    }
+}
+
+/// Why a log was not read, and its disk.
+#[derive(Drop)]
+struct Unread<D> {
+    number: u16,
+    disk: D,
+}
+
+// Whether a disk holds this text and no record.
+fn holds_text<D: Disk + Drop>(
+    alloc: Global,
+    disk: D,
     text: &[u8],
     limit: u64,
-) -> Result<bool, BackupError> {
-    let disk = HostDisk::open_files(rt, dir, IfMissing::Refuse)?;
-    let mut log = match Halves::open(rt.alloc(), disk, limit) {
+) -> Result<bool, Unread<D>>
+    requires { (D.state disk).failures < 2 ^ 64 - 1 }
+    ensures answer { IfOk result (λ same. IsHonest (D.state disk)
+        → (k : Option Contents) × FilesMean k (D.state disk).reads × Decides same (IsBare text.now k)) }
+    ensures refused { IfErr result (λ refused. IsUnopened refused.number (D.state disk) (D.state refused.disk)
+        ⊎ IsUnread refused.number (D.state disk) (D.state refused.disk)) }
+{
+    shown_is_meant();
+    let mut log = match Halves::open(alloc, disk, limit) {
         Ok(log) => log,
-        Err(error) => return Err(BackupError::Refused(number_of(error.refusal))),
+        Err(refused) => {
+            let number = number_of(refused.refusal);
+            return Err(Unread {
+                number,
+                disk: refused.disk,
+            });
+        }
     };
-    if !log.is_started() || log.record_count() > 0 {
+    match is_bare(alloc, &mut log, text) {
+        Ok(same) => Ok(same),
+        Err(error) => Err(Unread {
+            number: number_of_read(error),
+            disk: log.into_disk(),
+        }),
+    }
+}
+
+// Whether a log has a half in use, of the version that is written, with this snapshot and no record.
+fn is_bare<D: Disk>(alloc: Global, log: &mut Halves<D>, text: &[u8]) -> Result<bool, ReadError>
+    requires { (D.state log.old.disk).failures < 2 ^ 64 - 1 }
+    ensures tells { Tells is_read_fault (D.state log.old.disk) (D.state log.new.disk) result }
+    ensures answer { (k : Option Contents) → IsHonest (D.state log.old.disk)
+        → IsAt log.old.used (D.state log.old.disk) k
+        → MatchResult result (λ same. Decides same (IsBare text.now k)) (λ e. e ≢ ReadError.Damaged) }
+{
+    if !is_alone(log) {
         return Ok(false);
     }
-    match log.snapshot_bytes(rt.alloc()) {
+    match log.snapshot_bytes(alloc) {
         Ok(found) => Ok(found.as_slice() == text),
-        Err(error) => Err(BackupError::Refused(number_of_read(error))),
+        Err(error) => Err(error),
     }
 }
 
-// Gives the folder its name. That it has it then lasts; where that is not sure, it is taken away.
-fn put_in_place<R: Files<File = File> + AllocGlobal>(
-    rt: &R,
-    partial: &str,
-    dir: &str,
-) -> Result<(), BackupError> {
-    let parent = Path::new(partial).join(rt.alloc(), "..")?;
-    let parent = File::open(rt, parent.as_path())?;
-    rt.rename(partial, dir)?;
-    if let Err(error) = parent.sync_all() {
-        take_away(rt, dir);
-        return Err(BackupError::from(error));
+// Whether a log has a half in use, of the version that is written, with no record.
+fn is_alone<D: Disk>(log: &Halves<D>) -> bool
+    ensures alone { (k : Option Contents) (image : Image) → Shows log.now.used k image
+        → Decides result (IsAlone k) }
+    ensures in_use { IsTrue result → IsSome log.now.used }
+{
+    if !log.is_started() {
+        return false;
     }
-    Ok(())
-}
-
-// Takes a folder away that was made here.
-fn take_away<R: Files<File = File> + AllocGlobal>(rt: &R, made: &str) {
-    let _ = fs::remove_dir_all(rt, made);
+    if log.version() != WRITTEN {
+        return false;
+    }
+    log.record_count() == 0
 }

@@ -3,6 +3,7 @@
 //!
 //! - `export_makes_a_world`: all forms of a world
 //! - `export_is_taken`: a session over them
+//! - `kept_worlds_are_covered`: what is asked of a world holds of each that a store has
 //! - `readtable_lines_are_read`: the lines of the readtables alone, in a store that has the packages
 //!
 //! What a text makes is `Makes` of export_laws, where the laws of the packages and of the properties stand.
@@ -17,9 +18,11 @@
 #![tactic(auto)]
 
 ghost use Rattle.std.specs.Prelude.{◌≡◌, ◌∷◌, ◌++◌, [], ℕ, List, Option, Some, true};
+ghost use Rattle.disk_trait.specs.Disk.{IsHonest};
 ghost use Rattle.plist_state.specs.Sound.{IsSound};
 ghost use Rattle.plist_state.specs.State.{WorldState, first_readtables, initial};
 ghost use Rattle.lisp_reading.specs.Reading.{empty};
+ghost use Rattle.prevalence_store.specs.Theorem.{Keeps};
 ghost use Rattle.prevalence_store.specs.calls.Serve.{ServesWanted};
 ghost use Rattle.prevalence_store.specs.calls.Store.{StoreView};
 ghost use Rattle.session_words.specs.declared.mode.Mode.TheVariants.{Current};
@@ -38,6 +41,14 @@ ghost use Rattle.whole_export.specs.Sessions.{EndsWith};
 ghost use Rattle.whole_export.specs.Standard.{ReadsStandard};
 
 use disk_trait::Disk;
+
+/// The readtables of a world that each crash would leave of an honest disk name no functions but those of the standard and of the program.
+/// So the world of a store over such a disk (`Store::keeps_its_world`) is one that the other laws speak of.
+pub fn kept_worlds_are_covered<D: Disk>()
+    ensures { (functions : Functions) (disk : D) (world : WorldState)
+        → IsHonest (D.state disk) → Keeps functions (D.state disk) world
+        → are_covered functions.names world ≡ true }
+{}
 
 /// The lines of the readtables of a sound state, after a newline. In a state that has its packages, has the first readtables and reads
 /// under the standard one, all are accepted, if there are the macro functions that they name. They leave that state with the readtables

@@ -1,12 +1,14 @@
 use Rattle.std.proofs.Common.{◌≡◌, ◌∙◌, Bool, ℕ, Option, None, Some, ap, inl, map, refl, subst, sym}
 use Rattle.clap.specs.Words.{Kinds, Text, kind_of}
 use Rattle.command_words.specs.MessageLine.{Messages, message_faults, messages_in}
+use Rattle.message_command.specs.Session.{ServesAfter}
 use Rattle.store_commands.specs.Commands.{OpensFolder}
 use Rattle.store_commands.specs.Folders.{OpensStore}
 use Rattle.store_commands.specs.Status.{EndsAfter, IsAfterWords}
 use Rattle.store_commands.specs.declared.told.Told.{Told}
 use Rattle.store_commands.specs.declared.told.Told.TheVariants.{Nothing}
 use Rattle.store_commands.proofs.Statuses.{ends_after, memory_at, only_memory}
+use Rattle.user_macros.specs.Functions.{are_registered}
 use Rattle.message_command.proofs.command.run_messages.Goals as goal
 
 abbrev existing_in : Messages → Bool
@@ -32,10 +34,12 @@ returns-in-Ok-clause-opened g c = λ folder existing every none is.
     let messages = c.in-Ok.messages in
     let same = one_folder asked messages.folder.now folder messages.existing existing messages.snapshot_every every c.in-Ok.ensures.asked is in
     let likewise = one_existing asked messages.folder.now folder messages.existing existing messages.snapshot_every every c.in-Ok.ensures.asked is in
+    let follows = ServesAfter g.M.Meaning.Meaning.functions g.R.Disk.Disk.state c.args.macros (are_registered g.M.Meaning.Meaning.functions (g.M.MacroFunctions.functions c.args.macros))
+    g.I.Read.remaining g.O.Write.contents c.args.input.now c.serve_asked.new.input c.args.output.now c.serve_asked.new.output c.serve_asked.result in
     subst (λ (f : Text). (told : Told) × OpensFolder c.args.input.now c.serve_asked.new.input c.args.output.now c.serve_asked.new.output
-    (OpensStore g.R.Disk.Disk.state g.R.Disk.TellsCause.tells (g.R.Folders.opens c.args.rt.now)) (λ disk. Unit {0}) f existing c.serve_asked.result told) same
+    (OpensStore g.R.Disk.Disk.state g.R.Disk.TellsCause.tells (g.R.Folders.opens c.args.rt.now)) follows f existing c.serve_asked.result told) same
     (subst (λ (m : Bool). (told : Told) × OpensFolder c.args.input.now c.serve_asked.new.input c.args.output.now c.serve_asked.new.output
-    (OpensStore g.R.Disk.Disk.state g.R.Disk.TellsCause.tells (g.R.Folders.opens c.args.rt.now)) (λ disk. Unit {0}) messages.folder.now m c.serve_asked.result told) likewise
+    (OpensStore g.R.Disk.Disk.state g.R.Disk.TellsCause.tells (g.R.Folders.opens c.args.rt.now)) follows messages.folder.now m c.serve_asked.result told) likewise
     c.serve_asked.ensures.opened)
 
 pub returns-in-Err-clause-ends : goal.returns-in-Err-clause-ends

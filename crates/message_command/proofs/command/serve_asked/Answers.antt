@@ -1,4 +1,7 @@
 use Rattle.std.proofs.Common.{◌∙◌, inl, inr, refl, subst, sym}
+use Rattle.message_command.specs.Session.{status_of}
+use Rattle.message_session.specs.declared.ended.Ended.{Ended}
+use Rattle.message_session.specs.declared.ended.Ended.TheVariants.{End, NoFrame, Fault}
 use Rattle.store_commands.specs.Folders.{OpensStore}
 use Rattle.store_commands.specs.Status.{TakesWords}
 use Rattle.store_commands.specs.declared.told.Told.TheVariants.{Cause, Nothing}
@@ -18,13 +21,23 @@ returns-in-Err-clause-taken g c = subst TakesWords (sym c.end_with_told.ensures.
 pub returns-in-Err-clause-opened : goal.returns-in-Err-clause-opened
 returns-in-Err-clause-opened g c = (
   Cause c.in-Err.error,
-  opening_failed _ _ _ _ (OpensStore _ g.R.Disk.TellsCause.tells (g.R.Folders.opens c.args.rt.now)) (λ disk. Unit {0}) c.args.messages.folder.now c.args.messages.existing c.open_folder.result c.in-Err.error _ _ c.in-Err.is
+  opening_failed _ _ _ _ (OpensStore _ g.R.Disk.TellsCause.tells (g.R.Folders.opens c.args.rt.now)) _ c.args.messages.folder.now c.args.messages.existing c.open_folder.result c.in-Err.error _ _ c.in-Err.is
       c.open_folder.ensures.opens (c.end_with_told.ensures.status ∙ c.of_host-status.ensures) refl (refl, refl),
 )
+
+-- each end of a session is one of words that were taken
+taken_after : (ended : Ended) → TakesWords (status_of ended)
+taken_after End = tt
+taken_after (NoFrame place) = tt
+taken_after (Fault number) = tt
+
+pub returns-clause-taken : goal.returns-clause-taken
+returns-clause-taken g c = subst TakesWords (sym c.end_after.ensures) (taken_after c.serve_on.result.0)
 
 pub returns-clause-opened : goal.returns-clause-opened
 returns-clause-opened g c = (
   Nothing,
-  opening_gave _ _ _ _ (OpensStore _ g.R.Disk.TellsCause.tells (g.R.Folders.opens c.args.rt.now)) (λ disk. Unit {0}) c.args.messages.folder.now c.args.messages.existing c.open_folder.result c.in-Ok-open_folder.disk _ _ c.in-Ok-open_folder.is
-      c.open_folder.ensures.opens tt,
+  opening_gave _ _ _ _ (OpensStore _ g.R.Disk.TellsCause.tells (g.R.Folders.opens c.args.rt.now)) _ c.args.messages.folder.now c.args.messages.existing c.open_folder.result c.in-Ok-open_folder.disk _ _ c.in-Ok-open_folder.is
+      c.open_folder.ensures.opens
+      (c.serve_on.result.1, c.serve_on.result.0, c.end_after.ensures, c.serve_on.ensures),
 )

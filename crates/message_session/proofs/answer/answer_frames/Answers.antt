@@ -1,72 +1,89 @@
-use Rattle.std.proofs.Common.{◌≡◌, ℕ, List, [], ◌∷◌, Option, Some, Err, length, map, sym, ap, subst, ◌∙◌, arith, eqb-true}
-use Rattle.message_frames.specs.Frames.{sent}
+use Rattle.std.proofs.Common.{◌≡◌, ℕ, ◌+◌, ◌≤◌, List, ◌++◌, map, take, drop, length, refl, sym, ap, subst, ◌∙◌, arith, length-drop}
+use Rattle.message_frames.specs.Frames.{Sent, sent}
 use Rattle.message_frames.specs.declared.frame.Frame.{Frame}
-use Rattle.message_laws.specs.Near.{IsTidy}
 use Rattle.message_laws.proofs.Tidy.{sound_tidy}
 use Rattle.message_session.specs.Answers.{answered_bytes}
 use Rattle.message_session.specs.Sessions.{AreFramesAnswered}
+use Rattle.message_session.specs.Standing.{AnswersMore, ComeNext}
 use Rattle.message_session.specs.Steps.{Breaks}
-use Rattle.message_session.proofs.Frames.{breaks_first, none_answered}
-use Rattle.message_session.proofs.Standing.{none_further, rests_further, room_survives, snapshot_keeps, stops_end, untaken_rests}
-use Rattle.message_session.proofs.Stops.{stopped, untaken_left}
-use Rattle.plist_state.specs.State.{WorldState}
-use Rattle.prevalence_store.specs.calls.Store.{StoreView}
-use Rattle.prevalence_store.specs.declared.outcome.Outcome.TheVariants.{Refused}
-use Rattle.user_macros.specs.Functions.{Functions}
+use Rattle.message_session.proofs.Causes.{breaks_both}
+use Rattle.message_session.proofs.Frames.{answered_both, none_answered}
+use Rattle.message_session.proofs.Next.{come_after, more_both, more_none}
+use Rattle.message_session.proofs.Slices.{all_taken, behind, front_more, rest_more, whole}
 use Rattle.message_session.proofs.answer.answer_frames.Goals as goal
 
-nothing : (functions : Functions) (last : ℕ) (w : WorldState) (tidy : IsTidy w.properties) {D R : Type 0} (store : StoreView D R) (known : store.world ≡ Some w) (held : Option (List ℕ)) (frames : List Frame)
-    → length frames ≡ 0 → AreFramesAnswered functions last w store held held (answered_bytes functions last w) (map sent frames) last
-nothing functions last w tidy store known held [] none = none_answered functions last w tidy store known held
-nothing functions last w tidy store known held (frame ∷ frames) none = absurd (omega (arith, none))
+pub fronts-init : goal.fronts-init
+fronts-init g c = record {
+  within = omega arith;
+  macros = refl;
+  answered = λ w known.
+      none_answered g.R.Meaning.Meaning.functions c.args.course.now.last w (sound_tidy w (c.its_world_is_sound.ensures w known)) g.D.Disk.state c.args.store.now known (g.O.AnswerRecipient.contents c.args.output.now);
+  rests = c.requires.rests;
+  next = c.requires.next;
+  more = more_none (g.O.AnswerRecipient.account c.args.output.now);
+  input = refl;
+}
 
-pub returns-then-is_empty-clause-answers : goal.returns-then-is_empty-clause-answers
-returns-then-is_empty-clause-answers g c = λ w known.
-    nothing g.R.Meaning.Meaning.functions c.args.course.now.last w (sound_tidy w (c.its_world_is_sound.ensures w known)) c.args.store.now known (g.O.AnswerRecipient.contents c.args.output.now) c.args.frames.now
-    (eqb-true (length c.args.frames.now) 0 (sym c.if-is_empty.ensures))
+pub fronts-preserved : goal.fronts-preserved
+fronts-preserved g c =
+    let frames = c.args.frames.now in
+    let done = c.fronts.done in
+    let count = c.in-Ok.count in
+    let now = g.O.AnswerRecipient.account c.answer_front.new.output in
+    let taken = take count (map sent (drop done frames)) in
+    let is = ap (λ (fs : List Frame). take count (map sent fs)) (behind frames done) in
+    let more = subst (AnswersMore (g.O.AnswerRecipient.account c.fronts.output) now) is c.in-Ok.ensures.more in
+    record {
+      within = omega (arith, c.in-Ok.ensures.most, ap length (behind frames done), length-drop done frames, c.fronts.invariant.within);
+      macros = c.answer_front.ensures.macros ∙ c.fronts.invariant.macros;
+      answered = λ w known.
+          let far = c.fronts.invariant.answered w known in
+          let functions = g.R.Meaning.Meaning.functions in
+          let last = c.args.course.now.last in
+          let held = g.O.AnswerRecipient.contents c.args.output.now in
+          let between = g.O.AnswerRecipient.contents c.fronts.output in
+          let written = g.O.AnswerRecipient.contents c.answer_front.new.output in
+          subst (λ fs. AreFramesAnswered functions last w g.D.Disk.state c.answer_front.new.store held written (answered_bytes functions last w) fs c.answer_front.new.course.last) (sym (front_more frames done count))
+          (answered_both functions last w (sound_tidy w (c.its_world_is_sound.ensures w known)) g.D.Disk.state c.fronts.store held between
+          (map sent (take done frames)) c.fronts.course.last far taken written c.answer_front.new.store c.answer_front.new.course.last
+          (subst (λ fs. AreFramesAnswered functions c.fronts.course.last far.after.left g.D.Disk.state c.answer_front.new.store between written (answered_bytes functions c.fronts.course.last far.after.left) fs c.answer_front.new.course.last) is
+          (c.in-Ok.ensures.answers far.after.left far.after.known)));
+      rests = c.in-Ok.ensures.rests;
+      next = come_after (g.O.AnswerRecipient.account c.fronts.output) now taken (map sent (drop (done + count) frames))
+          (subst (ComeNext (g.O.AnswerRecipient.account c.fronts.output)) (sym (rest_more frames done count)) c.fronts.invariant.next) more;
+      more = subst (AnswersMore (g.O.AnswerRecipient.account c.args.output.now) now) (sym (front_more frames done count))
+          (more_both (g.O.AnswerRecipient.account c.args.output.now) (g.O.AnswerRecipient.account c.fronts.output) now (map sent (take done frames)) taken c.fronts.invariant.more more);
+      input = c.answer_front.ensures.input ∙ c.fronts.invariant.input;
+    }
 
-pub returns-in_default-clause-answers : goal.returns-in_default-clause-answers
-returns-in_default-clause-answers g c = λ w known.
+pub returns-in-Err-clause-answers : goal.returns-in-Err-clause-answers
+returns-in-Err-clause-answers g c = λ w known.
+    let far = c.fronts.invariant.answered w known in
     let functions = g.R.Meaning.Meaning.functions in
     let last = c.args.course.now.last in
     let held = g.O.AnswerRecipient.contents c.args.output.now in
-    let written = g.O.AnswerRecipient.contents c.take_frames.new.output in
-    let breaks = stopped functions last w (sound_tidy w (c.its_world_is_sound.ensures w known)) c.args.store.now c.take_frames.new.store known held written c.take_frames.new.course.last (map sent c.args.frames.now) c.in-Err.stop
-    (c.in-Err.ensures.takes w known) in
-    subst (Breaks functions last w held written c.take_frames.new.store (map sent c.args.frames.now)) (sym c.ended.ensures) breaks
+    let between = g.O.AnswerRecipient.contents c.fronts.output in
+    let written = g.O.AnswerRecipient.contents c.answer_front.new.output in
+    let frames = c.args.frames.now in
+    let done = c.fronts.done in
+    subst (λ fs. Breaks functions last w g.D.Disk.state c.answer_front.new.store held written fs c.in-Err.ended) (whole frames done)
+    (breaks_both functions last w (sound_tidy w (c.its_world_is_sound.ensures w known)) g.D.Disk.state c.fronts.store held between (map sent (take done frames)) c.fronts.course.last far written c.answer_front.new.store
+    (map sent (drop done frames)) c.in-Err.ended
+    (subst (λ fs. Breaks functions c.fronts.course.last far.after.left g.D.Disk.state c.answer_front.new.store between written fs c.in-Err.ended) (ap (map sent) (behind frames done))
+    (c.in-Err.ensures.answers far.after.left far.after.known)))
 
-pub returns-in-Err-renew_for_room-clause-answers : goal.returns-in-Err-renew_for_room-clause-answers
-returns-in-Err-renew_for_room-clause-answers g c = λ w known.
+pub returns-clause-answers : goal.returns-clause-answers
+returns-clause-answers g c = λ w known.
     let functions = g.R.Meaning.Meaning.functions in
     let last = c.args.course.now.last in
-    let held = g.O.AnswerRecipient.contents c.args.output.now in
-    let written = g.O.AnswerRecipient.contents c.take_frames.new.output in
-    let frames = map sent c.args.frames.now in
-    let left = untaken_left functions last w c.args.store.now c.take_frames.new.store held written c.take_frames.new.course.last frames c.in-Err.stop c.in-Untaken-eq64.field-0
-    c.in-Untaken-eq64.is (c.in-Err.ensures.takes w known) in
-    let there : c.take_frames.new.store.world ≡ Some w = ap (λ (s : StoreView g.row.D.Denot g.row.R.Denot). s.world) left.2 ∙ known in
-    let refused = c.in-Err-renew_for_room.ensures.renews w there in
-    breaks_first functions last w (sound_tidy w (c.its_world_is_sound.ensures w known)) c.renew_for_room.new.store held written frames c.in-Err-renew_for_room.ended
-    c.in-Err-renew_for_room.ensures.fault left.0
-    (snapshot_keeps functions g.D.Disk.state c.take_frames.new.store c.renew_for_room.new.store w there (Refused refused.0) refused.2)
+    subst (λ fs. AreFramesAnswered functions last w g.D.Disk.state c.fronts.store (g.O.AnswerRecipient.contents c.args.output.now) (g.O.AnswerRecipient.contents c.fronts.output) (answered_bytes functions last w) fs c.fronts.course.last)
+    (all_taken c.args.frames.now c.fronts.done (omega (arith, c.fronts-test.false)))
+    (c.fronts.invariant.answered w known)
 
--- ---- the recipient
+pub returns-clause-more : goal.returns-clause-more
+returns-clause-more g c =
+    subst (AnswersMore (g.O.AnswerRecipient.account c.args.output.now) (g.O.AnswerRecipient.account c.fronts.output)) (all_taken c.args.frames.now c.fronts.done (omega (arith, c.fronts-test.false))) c.fronts.invariant.more
 
-pub returns-in_default-clause-rests : goal.returns-in_default-clause-rests
-returns-in_default-clause-rests g c =
-    stops_end g.R.Meaning.Meaning.functions g.D.Disk.state g.met.D.Disk.sound (g.O.AnswerRecipient.account c.take_frames.new.output) c.take_frames.new.store c.take_frames.new.course.last c.in-Err.stop
-    c.in-Err.ensures.rests
-
-pub returns-in-Err-renew_for_room-clause-rests : goal.returns-in-Err-renew_for_room-clause-rests
-returns-in-Err-renew_for_room-clause-rests g c =
-    none_further g.R.Meaning.Meaning.functions g.D.Disk.state g.met.D.Disk.sound (g.O.AnswerRecipient.account c.take_frames.new.output) c.take_frames.new.store c.renew_for_room.new.store c.take_frames.new.course.last
-    (untaken_rests g.R.Meaning.Meaning.functions g.D.Disk.state g.met.D.Disk.sound (g.O.AnswerRecipient.account c.take_frames.new.output) c.take_frames.new.store c.take_frames.new.course.last
-    c.in-Err.stop c.in-Untaken-eq64.field-0 c.in-Untaken-eq64.is c.in-Err.ensures.rests)
-    (λ w known. room_survives g.R.Meaning.Meaning.functions g.D.Disk.state c.take_frames.new.store c.renew_for_room.new.store w (Err c.in-Err-renew_for_room.ended) (c.in-Err-renew_for_room.ensures.renews w known))
-
-pub answer_each-requires-clause-rests : goal.answer_each-requires-clause-rests
-answer_each-requires-clause-rests g c =
-    rests_further g.R.Meaning.Meaning.functions g.D.Disk.state g.met.D.Disk.sound (g.O.AnswerRecipient.account c.take_frames.new.output) c.take_frames.new.store c.renew_for_room.new.store c.take_frames.new.course.last
-    (untaken_rests g.R.Meaning.Meaning.functions g.D.Disk.state g.met.D.Disk.sound (g.O.AnswerRecipient.account c.take_frames.new.output) c.take_frames.new.store c.take_frames.new.course.last
-    c.in-Err.stop c.in-Untaken-eq64.field-0 c.in-Untaken-eq64.is c.in-Err.ensures.rests)
-    (λ w known. (c.in-Ok-renew_for_room.ensures.renews w known).renews.left) (λ w known. (c.in-Ok-renew_for_room.ensures.renews w known).survives)
+pub answer_front-requires-clause-next : goal.answer_front-requires-clause-next
+answer_front-requires-clause-next g c =
+    subst (λ (fs : List Frame). ComeNext (g.O.AnswerRecipient.account c.fronts.output) (map sent fs)) (sym (behind c.args.frames.now c.fronts.done)) c.fronts.invariant.next

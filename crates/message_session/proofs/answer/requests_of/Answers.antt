@@ -1,9 +1,9 @@
 use Rattle.std.proofs.Common.{◌≡◌, ℕ, ◌+◌, ◌<◌, List, [], ◌∷◌, ◌++◌, Option, length, get_or, map, take, sym, ap, ◌∙◌, arith}
-use Rattle.std.proofs.lemmas.List.{map-append, take_all, take_more}
+use Rattle.std.proofs.lemmas.List.{length-map, map-append, take_all, take_more}
 use Rattle.message_frames.specs.Frames.{sent}
 use Rattle.message_frames.specs.declared.frame.Frame.{Frame}
-use Rattle.message_session.specs.Answers.{message_number}
-use Rattle.message_session.specs.Steps.{parts_of_frame, parts_of_request}
+use Rattle.message_session.specs.Answers.{message_number, parts_of_frame, parts_of_request}
+use Rattle.message_session.proofs.Requests.{as_many}
 use Rattle.prevalence_store.specs.declared.messages.request.Request.{Request}
 use Rattle.message_session.proofs.answer.requests_of.Goals as goal
 
@@ -31,4 +31,8 @@ loop-frame-preserved c = record {
 pub returns : goal.returns
 returns c =
     let index_end = c.loop-frame-test.false in
-    c.loop-frame.invariant.pairs ∙ ap (λ fs. map parts_of_frame (map sent fs)) (take_all c.loop-frame.frame-index c.args.frames.now (omega arith))
+    let alike = c.loop-frame.invariant.pairs ∙ ap (λ fs. map parts_of_frame (map sent fs)) (take_all c.loop-frame.frame-index c.args.frames.now (omega arith)) in
+    record {
+      pairs = alike;
+      many = as_many c.loop-frame.requests.items (map sent c.args.frames.now) alike ∙ length-map c.args.frames.now sent;
+    }

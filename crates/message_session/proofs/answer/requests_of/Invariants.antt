@@ -1,6 +1,6 @@
 use Rattle.std.proofs.Common.{◌≡◌, map, take}
 use Rattle.message_frames.specs.Frames.{sent}
-use Rattle.message_session.specs.Steps.{parts_of_frame, parts_of_request}
+use Rattle.message_session.specs.Answers.{parts_of_frame, parts_of_request}
 use Rattle.message_session.proofs.answer.requests_of.Given as goal
 
 -- what the frames so far ask

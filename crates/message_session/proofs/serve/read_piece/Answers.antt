@@ -1,4 +1,4 @@
-use Rattle.std.proofs.Common.{[], take, arith}
+use Rattle.std.proofs.Common.{inl, inr, [], refl, take, arith}
 use Rattle.message_session.proofs.Streams.{none_read, read_kept}
 use Rattle.message_session.proofs.serve.read_piece.Goals as goal
 
@@ -12,9 +12,9 @@ returns-in-Ok-feed-clause-takes g c = (
 )
 
 pub returns-in-Err-clause-takes : goal.returns-in-Err-clause-takes
-returns-in-Err-clause-takes g c = (take c.in-Ok.count c.read.new.buf, c.in-Ok.ensures.bytes.0)
+returns-in-Err-clause-takes g c = inr (refl, take c.in-Ok.count c.read.new.buf, c.in-Ok.ensures.bytes.0)
 
 pub returns-in_default-clause-takes : goal.returns-in_default-clause-takes
 returns-in_default-clause-takes g c =
     let old = g.I.Read.remaining c.args.input.now in
-    ([], read_kept old old (g.I.Read.remaining c.read.new.self) [] (none_read old) c.in_default.ensures.bytes)
+    inl (refl, read_kept old old (g.I.Read.remaining c.read.new.self) [] (none_read old) c.in_default.ensures.bytes)

@@ -1,14 +1,11 @@
-use Rattle.std.proofs.Common.{inl, inr, [], ◌++◌, refl, ap, subst, ◌∙◌}
+use Rattle.std.proofs.Common.{◌≡◌, inl, inr, ◌++◌, refl, sym, ap, subst, ◌∙◌}
 use Rattle.message_frames.specs.Frames.{position_bytes}
-use Rattle.message_laws.proofs.Tidy.{sound_tidy}
+use Rattle.message_session.specs.Account.{Account}
 use Rattle.message_session.specs.Answers.{answered_bytes}
-use Rattle.message_session.specs.Sessions.{WritesFirstOf}
-use Rattle.message_session.proofs.Frames.{no_frames}
-use Rattle.message_session.proofs.Pieces.{ends_told}
-use Rattle.message_session.proofs.Rounds.{first_after}
+use Rattle.message_session.proofs.Next.{read_begun}
 use Rattle.message_session.proofs.Standing.{none_at_rest, rests_begun}
-use Rattle.message_session.proofs.Streams.{front_of_more, front_of_part, none_read}
-use Rattle.prevalence_store.specs.calls.Streams.{Writes}
+use Rattle.message_session.proofs.Told.{ends_told}
+use Rattle.prevalence_store.specs.calls.Streams.{Writes, WritesPart}
 use Rattle.message_session.proofs.serve.serve_messages.Goals as goal
 
 -- nothing is kept account of before the position
@@ -22,6 +19,7 @@ pub write_position-requires : goal.write_position-requires
 write_position-requires g c = record {
   begins = c.requires.begins;
   told = c.as_slice.ensures.value ∙ c.in-Ok-push_position.ensures.whole ∙ ap (λ l. l ++ position_bytes c.in-Ok.last) c.new-told.ensures.items;
+  in_world = c.in-Ok.ensures.told;
 }
 
 pub returns-in-Err-write_position-clause-under_way : goal.returns-in-Err-write_position-clause-under_way
@@ -29,11 +27,11 @@ returns-in-Err-write_position-clause-under_way g c =
     let functions = g.R.Meaning.Meaning.functions in
     let now = g.O.AnswerRecipient.account c.write_position.new.self in
     none_at_rest functions g.D.Disk.state g.met.D.Disk.sound now c.begin.new.store c.in-Ok.last
-    (rests_begun functions g.D.Disk.state g.met.D.Disk.sound now c.begin.new.store c.in-Ok.last c.write_position.ensures.kept c.keeps_its_world.ensures)
+    (rests_begun functions g.D.Disk.state g.met.D.Disk.sound (g.O.AnswerRecipient.input c.args.output.now) now c.begin.new.store c.in-Ok.last c.write_position.ensures.kept c.keeps_its_world.ensures)
 
 pub serve_frames-requires-clause-rests : goal.serve_frames-requires-clause-rests
 serve_frames-requires-clause-rests g c =
-    rests_begun g.R.Meaning.Meaning.functions g.D.Disk.state g.met.D.Disk.sound (g.O.AnswerRecipient.account c.write_position.new.self) c.begin.new.store c.in-Ok.last
+    rests_begun g.R.Meaning.Meaning.functions g.D.Disk.state g.met.D.Disk.sound (g.O.AnswerRecipient.input c.args.output.now) (g.O.AnswerRecipient.account c.write_position.new.self) c.begin.new.store c.in-Ok.last
     c.write_position.ensures.kept c.keeps_its_world.ensures
 
 pub returns-in-Err-clause-serves : goal.returns-in-Err-clause-serves
@@ -49,24 +47,15 @@ returns-in_default-clause-serves g c = λ w known.
 pub returns-in-Err-write_position-clause-serves : goal.returns-in-Err-write_position-clause-serves
 returns-in-Err-write_position-clause-serves g c = λ w known.
     let begun = c.in-Ok.ensures.begun w known in
-    let held = g.O.AnswerRecipient.contents c.args.output.now in
-    let written = g.O.AnswerRecipient.contents c.write_position.new.self in
-    inr (record {
+    inr (inl (record {
       position = c.in-Ok.last;
       first = begun.0;
-      mid = c.begin.new.store;
       begins = begun.1;
-      read = [];
-      reads = none_read (g.I.Read.remaining c.args.input.now);
-      ends = (
-        [],
-        [],
-        no_frames [],
-        front_of_more held written (position_bytes c.in-Ok.last) [] (subst (WritesFirstOf held written) (c.as_slice.ensures.value ∙ c.in-Ok-push_position.ensures.whole ∙ ap (λ l. l ++ position_bytes c.in-Ok.last) c.new-told.ensures.items)
-            (front_of_part held written c.as_slice.result.now c.in-Err-write_position.ensures.part)),
-        inr (c.in-Ok.last, first_after g.R.Meaning.Meaning.functions c.in-Ok.last begun.0 (sound_tidy begun.0 (c.its_world_is_sound.ensures begun.0 begun.1.known)) c.begin.new.store begun.1.known),
-      );
-    })
+      fault = refl;
+      unread = refl;
+      part = subst (WritesPart (g.O.AnswerRecipient.contents c.args.output.now) (g.O.AnswerRecipient.contents c.write_position.new.self))
+          (c.as_slice.ensures.value ∙ c.in-Ok-push_position.ensures.whole ∙ ap (λ l. l ++ position_bytes c.in-Ok.last) c.new-told.ensures.items) c.in-Err-write_position.ensures.part;
+    }))
 
 pub returns-clause-serves : goal.returns-clause-serves
 returns-clause-serves g c = λ w known.
@@ -75,14 +64,21 @@ returns-clause-serves g c = λ w known.
     let between = g.O.AnswerRecipient.contents c.write_position.new.self in
     let written = g.O.AnswerRecipient.contents c.serve_frames.new.output in
     let serves = c.serve_frames.ensures.serves begun.0 begun.1.known in
-    inr (record {
+    inr (inr (record {
       position = c.in-Ok.last;
       first = begun.0;
       mid = c.begin.new.store;
       begins = begun.1;
       read = serves.0;
       reads = serves.1;
-      ends = ends_told g.R.Meaning.Meaning.functions c.in-Ok.last begun.0 c.serve_frames.new.store held between written (position_bytes c.in-Ok.last)
-          (answered_bytes g.R.Meaning.Meaning.functions c.in-Ok.last begun.0) serves.0 (g.I.Read.remaining c.serve_frames.new.input) c.serve_frames.result
-          (subst (Writes held between) (c.as_slice.ensures.value ∙ c.in-Ok-push_position.ensures.whole ∙ ap (λ l. l ++ position_bytes c.in-Ok.last) c.new-told.ensures.items) c.in-Ok-write_position.ensures.whole) serves.2;
-    })
+      ends = ends_told g.R.Meaning.Meaning.functions c.in-Ok.last begun.0 g.D.Disk.state c.serve_frames.new.store held between written (position_bytes c.in-Ok.last)
+          (answered_bytes g.R.Meaning.Meaning.functions c.in-Ok.last begun.0)
+          (subst (Writes held between) (c.as_slice.ensures.value ∙ c.in-Ok-push_position.ensures.whole ∙ ap (λ l. l ++ position_bytes c.in-Ok.last) c.new-told.ensures.items) c.in-Ok-write_position.ensures.whole)
+          serves.0 (g.I.Read.remaining c.serve_frames.new.input) c.serve_frames.result serves.2;
+    }))
+
+pub serve_frames-requires-clause-read : goal.serve_frames-requires-clause-read
+serve_frames-requires-clause-read g c = λ account is.
+    let first = c.write_position.ensures.kept account is in
+    read_begun account (g.I.Read.remaining c.args.input.now) (ap (λ (a : Account g.row.D.Denot). a.answered) first.2)
+    (λ all told. c.requires.of_input all (sym (ap (λ (a : Account g.row.D.Denot). a.input) first.2) ∙ told))

@@ -1,12 +1,13 @@
-use Rattle.std.proofs.Common.{inl, ℕ, ◌<◌, List, length, map, drop, refl, sym, subst}
+use Rattle.std.proofs.Common.{◌≡◌, ℕ, ◌<◌, List, length, map, drop, refl, sym, subst}
+use Rattle.std.specs.Borrow.{Bor}
 use Rattle.message_frames.specs.Frames.{AreFrames, sent}
 use Rattle.message_frames.specs.declared.frame.Frame.{Frame}
 use Rattle.message_laws.proofs.Tidy.{sound_tidy}
 use Rattle.message_session.specs.Sessions.{text_limit}
 use Rattle.message_session.specs.Steps.{ComesAfter}
-use Rattle.message_session.specs.declared.ended.Ended.TheVariants.{Fault}
-use Rattle.message_session.proofs.Frames.{breaks_in_none, breaks_of}
+use Rattle.message_session.proofs.Causes.{breaks_in_none, breaks_of}
 use Rattle.message_session.proofs.Held.{comes_after, shorter}
+use Rattle.message_session.proofs.Next.{next_of_bytes}
 use Rattle.message_session.proofs.Standing.{none_at_rest}
 use Rattle.message_session.proofs.serve.Session.answer_some.Goals as goal
 
@@ -41,14 +42,34 @@ returns-in_default-clause-rests g c = none_at_rest g.R.Meaning.Meaning.functions
 
 pub returns-in_default-clause-answers : goal.returns-in_default-clause-answers
 returns-in_default-clause-answers g c = λ w known.
-    let held = g.O.AnswerRecipient.contents c.args.output.now in
-    breaks_in_none g.R.Meaning.Meaning.functions c.args.self.now.course.last w (sound_tidy w (c.its_world_is_sound.ensures w known)) c.args.store.now held held c.args.self.now.held (Fault 90) tt refl (inl known)
+    breaks_in_none g.R.Meaning.Meaning.functions c.args.self.now.course.last w (sound_tidy w (c.its_world_is_sound.ensures w known)) g.D.Disk.state c.args.store.now (g.O.AnswerRecipient.contents c.args.output.now) c.args.self.now.held known
+
+-- the frames that stand whole
+parts_of : (bytes : List ℕ) (items : List Frame) (frames : Bor (List Frame)) (rest : List ℕ) → frames.now ≡ items → AreFrames text_limit (map sent items) rest bytes → AreFrames text_limit (map sent frames.now) rest bytes
+parts_of bytes items frames rest same parts = subst (λ (fs : List Frame). AreFrames text_limit (map sent fs) rest bytes) (sym same) parts
 
 pub returns-in-Err-clause-answers : goal.returns-in-Err-clause-answers
 returns-in-Err-clause-answers g c = λ w known.
     let held = c.args.self.now.held in
     let rest = drop c.in-Ok.whole.bytes held in
-    breaks_of g.R.Meaning.Meaning.functions c.args.self.now.course.last w (sound_tidy w (c.its_world_is_sound.ensures w known)) c.answer_frames.new.store
+    breaks_of g.R.Meaning.Meaning.functions c.args.self.now.course.last w (sound_tidy w (c.its_world_is_sound.ensures w known)) g.D.Disk.state c.answer_frames.new.store
     (g.O.AnswerRecipient.contents c.args.output.now) (g.O.AnswerRecipient.contents c.answer_frames.new.output) (map sent c.as_slice-frames.result.now) rest held c.in-Err.ended
-    (subst (λ (fs : List Frame). AreFrames text_limit (map sent fs) rest held) (sym c.as_slice-frames.ensures.value) c.in-Ok.ensures.whole.frames)
+    (parts_of held c.in-Ok.whole.frames.items c.as_slice-frames.result rest c.as_slice-frames.ensures.value c.in-Ok.ensures.whole.frames)
     (c.in-Err.ensures.answers w known)
+
+pub answer_frames-requires-clause-next : goal.answer_frames-requires-clause-next
+answer_frames-requires-clause-next g c = λ account is.
+    let held = c.args.self.now.held in
+    let rest = drop c.in-Ok.whole.bytes held in
+    next_of_bytes account held (map sent c.as_slice-frames.result.now) rest (c.requires.next account is)
+    (parts_of held c.in-Ok.whole.frames.items c.as_slice-frames.result rest c.as_slice-frames.ensures.value c.in-Ok.ensures.whole.frames)
+
+pub returns-clause-more : goal.returns-clause-more
+returns-clause-more g c =
+    let held = c.args.self.now.held in
+    let rest = drop c.in-Ok.whole.bytes held in (
+      map sent c.as_slice-frames.result.now,
+      subst (λ left. AreFrames text_limit (map sent c.as_slice-frames.result.now) left held) (sym c.pass.ensures)
+          (parts_of held c.in-Ok.whole.frames.items c.as_slice-frames.result rest c.as_slice-frames.ensures.value c.in-Ok.ensures.whole.frames),
+      c.in-Ok-answer_frames.ensures.more,
+    )

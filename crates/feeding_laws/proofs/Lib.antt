@@ -1,0 +1,4 @@
+pub mod Handed
+pub mod Over
+pub mod Served
+pub mod Stands

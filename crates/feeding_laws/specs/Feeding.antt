@@ -1,0 +1,92 @@
+-- Frames whose answers were handed to the recipient of a session, and what they are answered if they are fed again.
+use Rattle.std.specs.Prelude.{◌≡◌, ℕ, ◌<◌, ◌≤◌, ◌^◌, nat_lt, Bool, false, if◌then◌else◌, List, [], ◌∷◌, ◌++◌, map, Option, Some, unwrap_or}
+use Rattle.std.specs.List.{flat_map}
+use Rattle.disk_trait.specs.Disk.{State}
+use Rattle.message_frames.specs.Frames.{Sent, answer_bytes, position_bytes}
+use Rattle.message_frames.specs.declared.frame.Kind.{Kind}
+use Rattle.message_frames.specs.declared.frame.Kind.TheVariants.{Do, Ask}
+use Rattle.message_laws.specs.Near.{Near}
+use Rattle.message_session.specs.Account.{Account, AreStored, IsToldIn, with_frames}
+use Rattle.message_session.specs.Answers.{answers_of, each_frame, message_number}
+use Rattle.plist_state.specs.Sound.{IsSound}
+use Rattle.plist_state.specs.State.{WorldState}
+use Rattle.prevalence_store.specs.calls.Store.{StoreView}
+use Rattle.prevalence_store.specs.calls.Streams.{Writes}
+use Rattle.prevalence_store.specs.declared.messages.request.Request.{Request}
+use Rattle.prevalence_store.specs.messages.Answers.{begun}
+use Rattle.prevalence_store.specs.messages.Position.{position}
+use Rattle.store_laws.specs.Rounds.{Place}
+use Rattle.user_macros.specs.Functions.{Functions}
+
+-- ---- what was handed on
+
+-- the answers to these frames, and the store as they were handed on
+pub record Handing (D R : Type 0) : Type 0 where
+  pub store : StoreView D R
+  pub bytes : List ℕ
+  pub frames : List Sent
+
+-- the account after them
+abbrev pub account_after : Functions → {D R : Type 0} → Account D → List (Handing D R) → Account D
+account_after functions account [] = account
+account_after functions account (one ∷ more) = account_after functions (with_frames functions one.frames one.store account) more
+
+-- each as the recipient asks
+abbrev pub AreHanded : Functions → {D R : Type 0} → (D → State) → Account D → List (Handing D R) → Type 0
+AreHanded functions state account [] = Unit {0}
+AreHanded functions state account (one ∷ more) =
+    AreStored functions state account one.store one.frames one.bytes × AreHanded functions state (with_frames functions one.frames one.store account) more
+
+-- an account as it begins with the position
+pub record IsFirst {D : Type 0} (account : Account D) : Type 0 where
+  pub none : account.answered ≡ []
+  pub told : IsToldIn account.last account.now
+  pub sound : IsSound account.now
+
+-- ---- as rounds of requests
+
+-- what a frame asks; its text is nowhere in memory
+abbrev pub request_of : Sent → Request
+request_of frame = record { number = message_number frame.0; text = record { ref_ptr = (0, 0); now = frame.1 } }
+
+abbrev pub rounds_of : {D R : Type 0} → List (Handing D R) → List (List Request)
+rounds_of handings = map (λ one. map request_of one.frames) handings
+
+-- the account tells of this place
+pub record ArePlaced {D : Type 0} (place : Place) (account : Account D) : Type 0 where
+  pub world : place.world ≡ account.now
+  pub last : place.last ≡ account.last
+
+-- ---- fed again
+
+-- whether a frame, or an answer, is that of a message over this number
+abbrev pub is_over : ℕ → Kind → Bool
+is_over n (Do number) = nat_lt n number
+is_over n Ask = false
+
+-- those that are, in order
+abbrev pub over : ℕ → List Sent → List Sent
+over n [] = []
+over n (one ∷ more) = if is_over n one.0 then one ∷ over n more else over n more
+
+-- the position that an opening tells of this world, 0 if it has none
+abbrev pub told_position : WorldState → ℕ
+told_position world = unwrap_or (position world) 0
+
+-- Of all these frames, after the message of this number in the first world, those over the position of a world are fed to a store that has it:
+-- they have the answers that they have among all; and then the last number is the one after all, and the world but for its position.
+pub record FeedsAgain (functions : Functions) (last : ℕ) (first : WorldState) (frames : List Sent) (now : WorldState) : Type 0 where
+  pub answers : answers_of functions (told_position now) now (over (told_position now) frames) ≡ over (told_position now) (answers_of functions last first frames)
+  pub near : Near (each_frame functions (begun (told_position now) now) (over (told_position now) frames)) (each_frame functions (begun last first) frames)
+
+-- ---- by a session
+
+module _ (functions : Functions) {D R : Type 0} (store : StoreView D R) (last : ℕ) (first : WorldState) (frames : List Sent) (p : ℕ) (held written : Option (List ℕ)) where
+  -- A session told this position, and then wrote the answers that the messages over it have among all these frames. The store has the world
+  -- after all, but for its position.
+  pub record AreAnsweredAgain : Type 0 where
+    pub output : Writes held written (position_bytes p ++ flat_map answer_bytes (over p (answers_of functions last first frames)))
+    pub now_last : ℕ
+    pub left : WorldState
+    pub known : store.world ≡ Some left
+    pub near : Near (begun now_last left) (each_frame functions (begun last first) frames)

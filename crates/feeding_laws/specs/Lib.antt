@@ -1,0 +1,2 @@
+-- frames that are fed again
+pub mod Feeding

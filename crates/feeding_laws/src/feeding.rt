@@ -1,0 +1,66 @@
+//! Frames that are fed to a store again.
+ghost use Rattle.std.specs.Prelude.{◌≡◌, ℕ, List, [], ◌∷◌, ◌++◌, Option, Some};
+ghost use Rattle.std.specs.List.{AllByRecursion, flat_map};
+ghost use Rattle.disk_trait.specs.Disk.{Image, IsHonest};
+ghost use Rattle.feeding_laws.specs.Feeding.{AreAnsweredAgain, AreHanded, ArePlaced, FeedsAgain, Handing, IsFirst, account_after, over, rounds_of};
+ghost use Rattle.message_frames.specs.Frames.{IsFrame, Sent, frame_bytes};
+ghost use Rattle.message_session.specs.Account.{Account, AreStored, AreUnderWay, with_frames};
+ghost use Rattle.message_session.specs.Sessions.{ServesMessages, text_limit};
+ghost use Rattle.plist_state.specs.State.{WorldState};
+ghost use Rattle.prevalence_store.specs.Theorem.{Keeps};
+ghost use Rattle.prevalence_store.specs.calls.Store.{StoreView};
+ghost use Rattle.prevalence_store.specs.meaning.Files.{MeansWorld};
+ghost use Rattle.prevalence_store.specs.messages.Position.{position as told_in};
+ghost use Rattle.store_laws.specs.Rounds.{after_rounds, place_at};
+ghost use Rattle.user_macros.specs.Functions.{Functions};
+
+use disk_trait::Disk;
+use message_frames::bytes_are_one_list;
+use message_session::Ended;
+
+/// Answers were handed to the recipient of a session, one time after the other (`AreHanded`), from its position on. Of an honest disk of
+/// which each crash would have left its first world:
+///
+/// - `further`: answers that are handed on last come after the others, and the account is that after all of them.
+/// - `in_rounds`: the frames are rounds in a row, one for each time; the world and the last number are those after them.
+/// - `while_stored`: whatever a crash leaves at any moment up to the next answers, its world has a position, as an opening tells it. All
+///   frames, those that were answered, those under way and any later ones, may be fed again: the messages over the position have the
+///   answers that they have among all frames, and then the last number and the world are those after all, but for the position.
+/// - `while_ended`: so it is at any moment up to the end of the session.
+pub fn feeding_again<D: Disk, R>()
+    ensures further { (functions : Functions) (account : Account D) (handings : List (Handing D R)) (last : Handing D R)
+        → AreHanded functions D.state account handings
+        → AreStored functions D.state (account_after functions account handings) last.store last.frames last.bytes
+        → AreHanded functions D.state account (handings ++ last ∷ [])
+        × (account_after functions account (handings ++ last ∷ []) ≡ with_frames functions last.frames last.store (account_after functions account handings)) }
+    ensures in_rounds { (functions : Functions) (account : Account D) (handings : List (Handing D R))
+        → AreHanded functions D.state account handings
+        → ArePlaced (after_rounds functions (place_at account.last account.now) (rounds_of handings)) (account_after functions account handings) }
+    ensures while_stored { (functions : Functions) (account : Account D) (handings : List (Handing D R)) (one : Handing D R)
+        → (more : List Sent) (image : Image) (now : WorldState)
+        → IsFirst account → IsHonest (D.state account.disk) → Keeps functions (D.state account.disk) account.now
+        → AreHanded functions D.state account handings
+        → AreStored functions D.state (account_after functions account handings) one.store one.frames one.bytes
+        → (D.state one.store.disk).left_since (D.state (account_after functions account handings).disk).moment image → MeansWorld functions image now
+        → FeedsAgain functions account.last account.now ((account_after functions account handings).answered ++ (one.frames ++ more)) now }
+    ensures while_ended { (functions : Functions) (account : Account D) (handings : List (Handing D R)) (store : StoreView D R)
+        → (more : List Sent) (image : Image) (now : WorldState)
+        → IsFirst account → IsHonest (D.state account.disk) → Keeps functions (D.state account.disk) account.now
+        → AreHanded functions D.state account handings
+        → (since : AreUnderWay functions D.state (account_after functions account handings) store)
+        → (D.state store.disk).left_since (D.state (account_after functions account handings).disk).moment image → MeansWorld functions image now
+        → FeedsAgain functions account.last account.now ((account_after functions account handings).answered ++ (since.frames ++ more)) now }
+{}
+
+/// A session over a store that has a position, whose input are the messages over it, of all these frames, and no more: where they may be fed
+/// again (`FeedsAgain`) and it comes to the end of its input, it writes the answers that were given, and leaves the world after all.
+pub fn fed_sessions<D: Disk, R>()
+    ensures { (functions : Functions) (old new : StoreView D R) (last position : ℕ) (first now : WorldState) (frames : List Sent)
+        → (left held written : Option (List ℕ))
+        → FeedsAgain functions last first frames now → told_in now ≡ Some position
+        → AllByRecursion (IsFrame text_limit) frames
+        → ServesMessages functions D.state old new now (Some (flat_map frame_bytes (over position frames))) left held written Ended.End
+        → AreAnsweredAgain functions new last first frames position held written }
+{
+    bytes_are_one_list();
+}

@@ -1,0 +1,40 @@
+-- What `run DIR --messages` does over the store in a folder.
+use Rattle.std.specs.Prelude.{◌≡◌, ◌⊎◌, ℕ, Bool, List, Option}
+use Rattle.disk_trait.specs.Disk.{State}
+use Rattle.message_session.specs.Sessions.{ServesMessages}
+use Rattle.message_session.specs.declared.ended.Ended.{Ended}
+use Rattle.message_session.specs.declared.ended.Ended.TheVariants as way
+use Rattle.prevalence_store.specs.calls.Open.{IsOpened, IsUnopened}
+use Rattle.prevalence_store.specs.calls.Store.{StoreView}
+use Rattle.store_commands.specs.Commands.{IsUntouched}
+use Rattle.store_commands.specs.Session.{half_limit}
+use Rattle.store_commands.specs.declared.status.Status.{Status}
+use Rattle.store_commands.specs.declared.status.Status.TheVariants.{Done, FormRefused, Fault}
+use Rattle.user_macros.specs.Functions.{Functions}
+
+-- the status after a session that ended so
+abbrev pub status_of : Ended → Status
+status_of way.End = Done
+status_of (way.NoFrame place) = FormRefused
+status_of (way.Fault number) = Fault number
+
+-- The store that a disk holds was opened with these macro functions, it served the frames of the input, and it was closed: this is its disk.
+pub record IsSession (functions : Functions) {D R : Type 0} (state : D → State) (disk : D) (macros : R) (had has held written : Option (List ℕ)) (ended : Ended) (back : D) : Type 0 where
+  pub opened : StoreView D R
+  pub is_opened : IsOpened functions state disk macros half_limit opened
+  pub closed : StoreView D R
+  pub serves : ServesMessages functions state opened closed is_opened.world had has held written ended
+  pub disk_is : back ≡ closed.disk
+
+module _ (functions : Functions) {D R : Type 0} (state : D → State) (macros : R) (whole : Bool)
+    {I O : Type 0} (remaining : I → Option (List ℕ)) (contents : O → Option (List ℕ)) (input left : I) (held written : O) where
+  -- Such a session over the store that a disk holds; or the store is not opened, and nothing is read or written. The first disk becomes the
+  -- second.
+  abbrev pub ServesOn : D → D → Ended → Type 0
+  ServesOn disk back ended =
+      IsSession functions state disk macros (remaining input) (remaining left) (contents held) (contents written) ended back
+      ⊎ ((number : ℕ) × (ended ≡ way.Fault number) × IsUnopened functions state disk whole half_limit number back × IsUntouched input left held written)
+
+  -- over the disk that the opening of a folder gave, with the status of its end
+  abbrev pub ServesAfter : Status → D → Type 0
+  ServesAfter status disk = (back : D) × (ended : Ended) × (status ≡ status_of ended) × ServesOn disk back ended
