@@ -1,3 +1,4 @@
+pub mod Refusals
 pub mod Tidy
 pub mod TidyOperators
 pub mod TidyForms

@@ -2,3 +2,5 @@
 pub mod Batches
 -- rounds that are the same to the next requests
 pub mod Near
+-- why requests were not answered
+pub mod Refusals
