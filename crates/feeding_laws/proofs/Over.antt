@@ -21,10 +21,10 @@ use Rattle.user_macros.specs.Functions.{Functions}
 
 -- ---- lists
 
-over_true : (n : ℕ) (one : Sent) (more : List Sent) → is_over n one.0 ≡ true → over n (one ∷ more) ≡ one ∷ over n more
+pub over_true : (n : ℕ) (one : Sent) (more : List Sent) → is_over n one.0 ≡ true → over n (one ∷ more) ≡ one ∷ over n more
 over_true n one more is = ap (λ b. if b then one ∷ over n more else over n more) is
 
-over_false : (n : ℕ) (one : Sent) (more : List Sent) → is_over n one.0 ≡ false → over n (one ∷ more) ≡ over n more
+pub over_false : (n : ℕ) (one : Sent) (more : List Sent) → is_over n one.0 ≡ false → over n (one ∷ more) ≡ over n more
 over_false n one more is = ap (λ b. if b then one ∷ over n more else over n more) is
 
 pub over_append : (n : ℕ) (xs ys : List Sent) → over n (xs ++ ys) ≡ over n xs ++ over n ys

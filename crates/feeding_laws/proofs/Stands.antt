@@ -123,6 +123,7 @@ module _ (functions : Functions) (first_last : ℕ) (first : WorldState) where
             later.count,
           );
       feeds = record {
+        no_less = stands.fed.feeds.no_less;
         answers = (λ i. answers_to (over_both i) (again_both i).told)
             ∙ ap (answers_to (over (told_position now) frames ++ over (told_position now) more)) later.here
             ∙ answers_append (over (told_position now) frames) (over (told_position now) more) (again now (over (told_position now) frames)).told later.some stands.fed.count_again
@@ -196,6 +197,7 @@ module _ (functions : Functions) (first_last : ℕ) (first : WorldState) where
             count = fed_later.count;
             count_again = subst (λ fs. length (again left fs).told ≡ length fs) (sym none) refl;
             feeds = record {
+              no_less = omega (arith, stands.fed.feeds.no_less, told, closed_last round, each_least functions more (begun last now));
               answers = ap (answers_of functions (told_position left) left) none ∙ sym (none_told functions (told_position left) (frames ++ more) (all_of (frames ++ more)).told up);
               near = subst (λ fs. Near (again left fs) (all_of (frames ++ more))) (sym none)
                   (subst (λ m. Near (begun m left) (all_of (frames ++ more))) (sym told) (near_back (all_of (frames ++ more)) _ closes.near));
@@ -233,6 +235,7 @@ first_stands functions account first =
         count = refl;
         count_again = refl;
         feeds = record {
+          no_less = omega arith;
           answers = refl;
           near = record { last = omega (arith, first.told); tidy = tidy; other_tidy = tidy; same = refl };
         };

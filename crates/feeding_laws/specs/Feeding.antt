@@ -74,8 +74,10 @@ abbrev pub told_position : WorldState → ℕ
 told_position world = unwrap_or (position world) 0
 
 -- Of all these frames, after the message of this number in the first world, those over the position of a world are fed to a store that has it:
--- they have the answers that they have among all; and then the last number is the one after all, and the world but for its position.
+-- they have the answers that they have among all; and then the last number is the one after all, and the world but for its position. That is no
+-- less than it was.
 pub record FeedsAgain (functions : Functions) (last : ℕ) (first : WorldState) (frames : List Sent) (now : WorldState) : Type 0 where
+  pub no_less : told_position first ≤ told_position now
   pub answers : answers_of functions (told_position now) now (over (told_position now) frames) ≡ over (told_position now) (answers_of functions last first frames)
   pub near : Near (each_frame functions (begun (told_position now) now) (over (told_position now) frames)) (each_frame functions (begun last first) frames)
 

@@ -2,7 +2,7 @@
 ghost use Rattle.std.specs.Prelude.{◌≡◌, ℕ, List, [], ◌∷◌, ◌++◌, Option, Some};
 ghost use Rattle.std.specs.List.{AllByRecursion, flat_map};
 ghost use Rattle.disk_trait.specs.Disk.{Image, IsHonest};
-ghost use Rattle.feeding_laws.specs.Feeding.{AreAnsweredAgain, AreHanded, ArePlaced, FeedsAgain, Handing, IsFirst, account_after, over, rounds_of};
+ghost use Rattle.feeding_laws.specs.Feeding.{AreAnsweredAgain, AreHanded, ArePlaced, FeedsAgain, Handing, IsFirst, account_after, over, rounds_of, told_position};
 ghost use Rattle.message_frames.specs.Frames.{IsFrame, Sent, frame_bytes};
 ghost use Rattle.message_session.specs.Account.{Account, AreStored, AreUnderWay, with_frames};
 ghost use Rattle.message_session.specs.Sessions.{ServesMessages, text_limit};
@@ -64,3 +64,12 @@ pub fn fed_sessions<D: Disk, R>()
 {
     bytes_are_one_list();
 }
+
+/// However often a store is stopped: frames may be fed again over its world as long as those over its position before that could be, over the world
+/// that it had then.
+pub fn feeding_on()
+    ensures { (functions : Functions) (last : ℕ) (first middle now : WorldState) (frames : List Sent)
+        → FeedsAgain functions last first frames middle
+        → FeedsAgain functions (told_position middle) middle (over (told_position middle) frames) now
+        → FeedsAgain functions last first frames now }
+{}

@@ -5,10 +5,11 @@
 //!   an opening tells a position so that the messages over it, fed again, have the answers that they had, and leave the world after all
 //!   (`specs/Feeding.antt`)
 //! - `fed_sessions`: so does a session over them
+//! - `feeding_on`: and however often it is stopped
 #![tactic(auto)]
 
 #[cfg(test)]
 mod again;
 mod feeding;
 
-pub use feeding::{fed_sessions, feeding_again};
+pub use feeding::{fed_sessions, feeding_again, feeding_on};

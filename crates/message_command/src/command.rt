@@ -1,5 +1,5 @@
 // A session of messages, as the words ask.
-ghost use Rattle.std.specs.Prelude.{◌≡◌, ◌<◌, ◌-◌, ◌^◌, ℕ, Bool, [], map, Some, true};
+ghost use Rattle.std.specs.Prelude.{◌≡◌, ◌<◌, ◌-◌, ◌^◌, ℕ, Bool, List, [], map, None, Some, true};
 ghost use Rattle.clap.specs.Words.{Text};
 ghost use Rattle.command_words.specs.MessageLine.{message_faults, messages_in};
 ghost use Rattle.store_commands.specs.Commands.{OpensFolder};
@@ -12,7 +12,7 @@ ghost use Rattle.user_macros.specs.Functions.{are_registered};
 use command_words::{Messages, messages_in};
 use disk_trait::{Disk, HostError};
 use lisp_object::refusal::INPUT;
-use message_session::{Ended, serve_messages};
+use message_session::{AnswerRecipient, Ended, serve_messages};
 use plist_state::Seed;
 use prevalence_store::NO_POSITION;
 use std::convert::AsStr;
@@ -50,7 +50,7 @@ where
         → (told : Told) × OpensFolder input.old input.new output.old output.new
         (OpensStore R.Disk.state R.Disk.tells (R.opens rt.now))
         (ServesAfter M.Meaning.functions R.Disk.state macros (are_registered M.Meaning.functions (M.functions macros))
-        I.remaining O.contents input.old input.new output.old output.new result)
+        I.remaining O.contents input.old input.new output.old output.new None result)
         folder existing result told }
 {
     match messages_in(rt.alloc(), words) {
@@ -82,7 +82,7 @@ where
     ensures opened { (told : Told) × OpensFolder input.old input.new output.old output.new
         (OpensStore R.Disk.state R.Disk.tells (R.opens rt.now))
         (ServesAfter M.Meaning.functions R.Disk.state macros (are_registered M.Meaning.functions (M.functions macros))
-        I.remaining O.contents input.old input.new output.old output.new result)
+        I.remaining O.contents input.old input.new output.old output.new None result)
         messages.entry.folder.now messages.entry.existing result told }
 {
     let Ok(seed) = Seed::draw(rt) else {
@@ -106,8 +106,12 @@ where
     end_after(faults, ended, &disk)
 }
 
-// Serves over the store that a disk holds. Gives how it ended, and the disk.
-fn serve_on<D, M, I, O>(
+/// Serves the frames of an input over the store that a disk holds. Gives how it ended, and the disk as the store left it. Where no store is
+/// opened, nothing is read or written.
+///
+/// It knows no way to the output but that of a session (`AnswerRecipient`): so nothing goes there that is not stored by then. What is done
+/// after the last answers is of the next frames alone, by the account of a recipient that keeps one.
+pub fn serve_on<D, M, I, O>(
     opening: Opening<D, M>,
     snapshot_every: u64,
     input: &mut I,
@@ -117,12 +121,14 @@ where
     D: Disk,
     M: MacroFunctions + Drop,
     I: Read,
-    O: Write,
+    O: AnswerRecipient<D, M>,
     requires room { (D.state opening.disk).failures < 2 ^ 64 - 1 }
     requires answers { M.answers opening.macros }
+    requires none { O.account output.old ≡ None }
+    requires of_input { (all : List ℕ) → O.input output.old ≡ Some all → I.remaining input.old ≡ Some all }
     ensures { ServesOn M.Meaning.functions D.state opening.macros
         (are_registered M.Meaning.functions (M.functions opening.macros)) I.remaining O.contents
-        input.old input.new output.old output.new opening.disk result.1 result.0 }
+        input.old input.new output.old output.new (O.account output.new) opening.disk result.1 result.0 }
 {
     let alloc = opening.alloc;
     match opening.open() {

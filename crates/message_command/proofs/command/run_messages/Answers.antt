@@ -35,7 +35,7 @@ returns-in-Ok-clause-opened g c = λ folder existing every none is.
     let same = one_folder asked messages.folder.now folder messages.existing existing messages.snapshot_every every c.in-Ok.ensures.asked is in
     let likewise = one_existing asked messages.folder.now folder messages.existing existing messages.snapshot_every every c.in-Ok.ensures.asked is in
     let follows = ServesAfter g.M.Meaning.Meaning.functions g.R.Disk.Disk.state c.args.macros (are_registered g.M.Meaning.Meaning.functions (g.M.MacroFunctions.functions c.args.macros))
-    g.I.Read.remaining g.O.Write.contents c.args.input.now c.serve_asked.new.input c.args.output.now c.serve_asked.new.output c.serve_asked.result in
+    g.I.Read.remaining g.O.Write.contents c.args.input.now c.serve_asked.new.input c.args.output.now c.serve_asked.new.output None c.serve_asked.result in
     subst (λ (f : Text). (told : Told) × OpensFolder c.args.input.now c.serve_asked.new.input c.args.output.now c.serve_asked.new.output
     (OpensStore g.R.Disk.Disk.state g.R.Disk.TellsCause.tells (g.R.Folders.opens c.args.rt.now)) follows f existing c.serve_asked.result told) same
     (subst (λ (m : Bool). (told : Told) × OpensFolder c.args.input.now c.serve_asked.new.input c.args.output.now c.serve_asked.new.output

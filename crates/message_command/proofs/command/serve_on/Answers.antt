@@ -9,6 +9,7 @@ returns-in-Ok g c =
       is_opened = opened;
       closed = c.serve_messages.new.store;
       serves = c.serve_messages.ensures.serves opened.world opened.known;
+      under_way = c.serve_messages.ensures.under_way;
       disk_is = c.close.ensures.disk;
     })
 
