@@ -7,6 +7,7 @@ ghost use Rattle.prevalence_store.specs.messages.Answers.{answered, begun};
 ghost use Rattle.prevalence_store.specs.messages.Calls.{records};
 ghost use Rattle.user_macros.specs.Functions.{are_registered};
 
+use crate::batches::long_form;
 use disk_trait::{Disk, MemoryDisk};
 use lisp_object::refusal::LOG_FULL;
 use message_laws::refusals_have_causes;
@@ -41,15 +42,11 @@ fn is_short_of_room<D: Disk + Drop, M: MacroFunctions + Drop>(
     requires room { (D.state disk).failures < 2 ^ 64 - 1 }
     requires answers { M.answers macros }
 {
+    let text = long_form(alloc, 4_096)?;
     let Ok(mut store) = Store::open(alloc, disk, macros, 4_096) else {
         return Err(AllocError);
     };
     let begun = store.begin_messages();
-    let mut text = Vec::from_slice(alloc, b"(SETF (GET 'A 'B) \"")?;
-    for _ in 0..4_096 {
-        text.push(b'x')?;
-    }
-    text.extend_from_slice(b"\")")?;
     let long = Request {
         number: Some(1),
         text: text.as_slice(),
