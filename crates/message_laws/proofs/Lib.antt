@@ -1,4 +1,4 @@
-pub mod Refusals
+pub mod ByNumber
 pub mod Tidy
 pub mod TidyOperators
 pub mod TidyForms

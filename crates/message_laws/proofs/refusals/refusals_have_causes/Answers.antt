@@ -1,4 +1,4 @@
-use Rattle.message_laws.proofs.Refusals.{by_number}
+use Rattle.message_laws.proofs.ByNumber.{by_number}
 use Rattle.message_laws.proofs.refusals.refusals_have_causes.Goals as goal
 
 pub returns : goal.returns
