@@ -1,4 +1,3 @@
-pub mod ByNumber
 pub mod Tidy
 pub mod TidyOperators
 pub mod TidyForms

@@ -2,5 +2,3 @@
 pub mod Batches
 -- rounds that are the same to the next requests
 pub mod Near
--- why requests were not answered
-pub mod Refusals

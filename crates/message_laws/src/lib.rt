@@ -3,14 +3,11 @@
 //!
 //! - `cuts_change_nothing`: in which batches requests are answered changes no answer, and of the world its position alone
 //!   (`specs/Batches.antt`)
-//! - `refusals_have_causes`: the number of a refusal tells its cause, and what stands after it (`specs/Refusals.antt`)
 //!
 //! Lemmas that crates above use: `Together`, of batches beside one round of all their requests. `Tidy`, `TidyOperators` and `TidyForms` say
 //! that no form leaves a property list which is empty, so that a property which is not there is taken out without a trace.
 #![tactic(auto)]
 
 mod cuts;
-mod refusals;
 
 pub use cuts::cuts_change_nothing;
-pub use refusals::refusals_have_causes;

@@ -8,7 +8,6 @@
 //! - `once`: messages that are answered in one call, and what a crash leaves of them
 //! - `cuts`: the same messages in one call and in two
 //! - `batches`: requests that are answered in batches, each of which ends with the bytes of its answers
-//! - `room`: requests that have no room
 //!
 //! Lemmas in `proofs`: `Keeping`.
 #![tactic(auto)]
@@ -23,7 +22,5 @@ mod cuts;
 mod keepers;
 #[cfg(test)]
 mod once;
-#[cfg(test)]
-mod room;
 #[cfg(test)]
 mod rounds;
