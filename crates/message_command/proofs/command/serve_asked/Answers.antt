@@ -32,12 +32,12 @@ taken_after (NoFrame place) = tt
 taken_after (Fault number) = tt
 
 pub returns-clause-taken : goal.returns-clause-taken
-returns-clause-taken g c = subst TakesWords (sym c.end_after.ensures) (taken_after c.serve_on.result.0)
+returns-clause-taken g c = subst TakesWords (sym c.end_after.ensures) (taken_after c.serve_on-ended.result.0)
 
 pub returns-clause-opened : goal.returns-clause-opened
 returns-clause-opened g c = (
   Nothing,
   opening_gave _ _ _ _ (OpensStore _ g.R.Disk.TellsCause.tells (g.R.Folders.opens c.args.rt.now)) _ c.args.messages.folder.now c.args.messages.existing c.open_folder.result c.in-Ok-open_folder.disk _ _ c.in-Ok-open_folder.is
       c.open_folder.ensures.opens
-      (c.serve_on.result.1, c.serve_on.result.0, c.end_after.ensures, c.serve_on.ensures),
+      (c.serve_on-ended.result.1, c.serve_on-ended.result.0, c.end_after.ensures, c.serve_on-ended.ensures),
 )

@@ -7,10 +7,10 @@ returns-in-Ok g c =
     inl (record {
       opened = c.in-Ok.store;
       is_opened = opened;
-      closed = c.serve_messages.new.store;
-      serves = c.serve_messages.ensures.serves opened.world opened.known;
-      under_way = c.serve_messages.ensures.under_way;
-      disk_is = c.close.ensures.disk;
+      closed = c.serve_messages-ended.new.store;
+      serves = c.serve_messages-ended.ensures.serves opened.world opened.known;
+      under_way = c.serve_messages-ended.ensures.under_way;
+      disk_is = c.close-disk.ensures.disk;
     })
 
 pub returns-in-Err : goal.returns-in-Err
