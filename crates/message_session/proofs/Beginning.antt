@@ -3,6 +3,7 @@ use Rattle.std.proofs.Common.{◌≡◌, inl, inr, ℕ, Bool, true, false, List,
 use Rattle.disk_trait.specs.Disk.{State}
 use Rattle.lisp_object.specs.declared.refusal.TheConstants.{LOG_FULL}
 use Rattle.message_session.specs.Account.{IsToldIn}
+use Rattle.message_session.specs.Sessions.{HasNoRoomToBegin}
 use Rattle.plist_state.specs.State.{WorldState}
 use Rattle.prevalence_store.specs.calls.Execute.{Executes, Stores}
 use Rattle.prevalence_store.specs.calls.Store.{StoreView}
@@ -42,3 +43,9 @@ module _ (functions : Functions) {D R : Type 0} (state : D → State) (old new :
   full_unbegun w number full (inr (inl hidden)) = hidden.3
   full_unbegun w number full (inr (inr (inl memory))) = memory.1
   full_unbegun w number full (inr (inr (inr refused))) = of_full w _ _ number full refused.2
+
+  -- so there is none in the store as it is then
+  pub no_room_begun : (w : WorldState) (number : ℕ) → number ≡ LOG_FULL → BeginsMessages functions state old new w (Err number) → HasNoRoomToBegin functions state new w
+  no_room_begun w number full refused =
+      subst (λ (s : StoreView D R). BeginsMessages functions state s new w (Err LOG_FULL)) (sym (full_unbegun w number full refused))
+      (subst (λ n. BeginsMessages functions state old new w (Err n)) full refused)

@@ -2,7 +2,7 @@
 --     fault_both, breaks_both, breaks_in_both      after frames that were answered
 --     breaks_more, breaks_of      among more frames, and in what was read
 --     no_memory, untaken, unrenewed, ..      the causes of one step
-use Rattle.std.proofs.Common.{◌≡◌, ◌⊎◌, inl, inr, ℕ, List, [], ◌++◌, Option, Some, refl, sym, ap, subst, ◌∙◌, append_assoc, arith}
+use Rattle.std.proofs.Common.{◌≡◌, inl, inr, ℕ, ◌<◌, List, [], ◌++◌, length, Option, Some, refl, sym, ap, subst, ◌∙◌, append_assoc, length-append, arith}
 use Rattle.std.specs.List.{flat_map}
 use Rattle.std.proofs.lemmas.List.{append-nil}
 use Rattle.disk_trait.specs.Disk.{State}
@@ -11,7 +11,7 @@ use Rattle.message_frames.specs.Frames.{AreFrames, Sent, frame_bytes}
 use Rattle.message_laws.specs.Near.{IsTidy, Near}
 use Rattle.message_laws.proofs.Together.{near_itself}
 use Rattle.message_session.specs.Answers.{answered_bytes, each_frame}
-use Rattle.message_session.specs.Sessions.{AreCarriedOut, AreFramesAnswered, HasCarriedOut, HasCause, HasNoRoom, IsOutOfMemory, IsUnrenewed, IsUntaken, IsUnwritten, text_limit}
+use Rattle.message_session.specs.Sessions.{AreCarriedOut, AreFramesAnswered, HasCarriedOut, HasCause, IsFull, IsOutOfMemory, IsUnrenewed, IsUntaken, IsUnwritten, text_limit}
 use Rattle.message_session.specs.Steps.{AreUntaken, Breaks, BreaksIn, IsFaultAfter, RefusesFirst, ServesFrames}
 use Rattle.message_session.specs.declared.ended.Ended.{Ended}
 use Rattle.message_session.specs.declared.ended.Ended.TheVariants.{End, NoFrame, Fault}
@@ -25,6 +25,10 @@ use Rattle.prevalence_store.specs.calls.Streams.{Writes, WritesPart}
 use Rattle.prevalence_store.specs.declared.outcome.Outcome.TheVariants.{Refused}
 use Rattle.prevalence_store.specs.messages.Answers.{begun}
 use Rattle.user_macros.specs.Functions.{Functions}
+
+-- of one frame the first ones, if there are some, are one
+one_first : (frames front undone : List Sent) → frames ≡ front ++ undone → 0 < length front → length frames ≡ 1 → length front ≡ 1
+one_first frames front undone parts some one = omega (arith, ap length parts, length-append front undone, some, one)
 
 module _ (functions : Functions) (last : ℕ) (w : WorldState) (tidy : IsTidy w.properties) {D R : Type 0} (state : D → State) where
   -- ---- after frames that were answered
@@ -79,6 +83,7 @@ module _ (functions : Functions) (last : ℕ) (w : WorldState) (tidy : IsTidy w.
         requests = c.requests;
         asked = c.asked;
         refused = c.refused;
+        full = c.full;
         output = write_both answered written c.output;
       }
 
@@ -89,7 +94,7 @@ module _ (functions : Functions) (last : ℕ) (w : WorldState) (tidy : IsTidy w.
         before_last = c.before_last;
         after = record { left = c.after.left; known = c.after.known; near = near_both answered c.before_last c.after.left c.after.near };
         refused = c.refused;
-        large = λ is. let none = c.large is in record { requests = none.requests; asked = none.asked; refused = none.refused };
+        large = λ is. let none = c.large is in record { one = none.one; requests = none.requests; asked = none.asked; refused = none.refused };
         output = write_both answered written c.output;
       }
 
@@ -171,11 +176,11 @@ module _ (functions : Functions) (last : ℕ) (w : WorldState) (tidy : IsTidy w.
 
   -- the store did not take the first of them
   module _ (old new : StoreView D R) (known : old.world ≡ Some w) (held written : Option (List ℕ)) (quiet : written ≡ held) (frames : List Sent) (number : ℕ) where
-    pub breaks_untaken : new ≡ old → AreUntaken functions last w state old frames number → Breaks functions last w state new held written frames (Fault number)
-    breaks_untaken same (inl memory) =
+    pub breaks_untaken : (number ≡ LOG_FULL → IsFull old w frames) → new ≡ old → AreUntaken functions last w state old frames number → Breaks functions last w state new held written frames (Fault number)
+    breaks_untaken full same (inl memory) =
         subst (λ n. Breaks functions last w state new held written frames (Fault n)) (sym memory)
         (breaks_first new held written frames (ap (λ (s : StoreView D R). s.world) same ∙ known) quiet)
-    breaks_untaken same (inr refuses) =
+    breaks_untaken full same (inr refuses) =
         subst (λ (s : StoreView D R). Breaks functions last w state s held written frames (Fault number)) (sym same)
         (record {
           answered = [];
@@ -189,6 +194,9 @@ module _ (functions : Functions) (last : ℕ) (w : WorldState) (tidy : IsTidy w.
             requests = refuses.requests;
             asked = refuses.asked;
             refused = refuses.refused;
+            full = λ is.
+                let whole = full is in
+                record { one = one_first frames refuses.front refuses.undone refuses.parts refuses.some whole.one; none_since = whole.none_since; only_text = whole.only_text };
             output = subst (λ o. Writes held o []) (sym quiet) (none_written held);
           })));
         })
@@ -244,26 +252,29 @@ module _ (functions : Functions) (last : ℕ) (w : WorldState) (tidy : IsTidy w.
         })));
       })
 
-  -- nor for the next ones, which had no room
-  pub breaks_roomless : (old new : StoreView D R) → old.world ≡ Some w → (held written : Option (List ℕ)) → written ≡ held → (frames : List Sent) (ended : Ended)
-      → RefusesFirst functions last w state old frames LOG_FULL → (number : ℕ) × (ended ≡ Fault number) × Snapshots functions state old new w (Refused number)
-      → Breaks functions last w state new held written frames ended
-  breaks_roomless old new known held written quiet frames ended refuses refused =
-      subst (Breaks functions last w state new held written frames) (sym refused.1)
-      (record {
-        answered = [];
-        next = refuses.front;
-        undone = refuses.undone;
-        parts = refuses.parts;
-        fault = inr (inr (inr (record {
-          before = old;
-          before_last = last;
-          after = record { left = w; known = known; near = near_itself functions (begun last w) tidy };
-          refused = refused.2;
-          large = λ _. record { requests = refuses.requests; asked = refuses.asked; refused = refuses.refused };
-          output = subst (λ o. Writes held o []) (sym quiet) (none_written held);
-        })));
-      })
+  -- nor for the next ones, which had no room: for one alone, if it was too large
+  pub breaks_roomless : (old new : StoreView D R) → old.world ≡ Some w → (held written : Option (List ℕ)) → written ≡ held → (frames : List Sent) (number : ℕ)
+      → RefusesFirst functions last w state old frames LOG_FULL → (number ≡ SNAPSHOT_TOO_LARGE → length frames ≡ 1) → Snapshots functions state old new w (Refused number)
+      → Breaks functions last w state new held written frames (Fault number)
+  breaks_roomless old new known held written quiet frames number refuses one refused = record {
+    answered = [];
+    next = refuses.front;
+    undone = refuses.undone;
+    parts = refuses.parts;
+    fault = inr (inr (inr (record {
+      before = old;
+      before_last = last;
+      after = record { left = w; known = known; near = near_itself functions (begun last w) tidy };
+      refused = refused;
+      large = λ is. record {
+        one = one_first frames refuses.front refuses.undone refuses.parts refuses.some (one is);
+        requests = refuses.requests;
+        asked = refuses.asked;
+        refused = refuses.refused;
+      };
+      output = subst (λ o. Writes held o []) (sym quiet) (none_written held);
+    })));
+  }
 
 -- frames that had no room were refused by the store
 pub no_room : (functions : Functions) (last : ℕ) (w : WorldState) {D R : Type 0} (state : D → State) (old : StoreView D R) (frames : List Sent) (number : ℕ) → number ≡ LOG_FULL

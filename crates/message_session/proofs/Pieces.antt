@@ -1,5 +1,5 @@
 -- How far a session has come in its input.
-use Rattle.std.proofs.Common.{◌≡◌, inl, inr, ℕ, ◌+◌, ◌-◌, Bool, true, false, List, [], ◌∷◌, ◌++◌, length, Option, Some, Ok, Err, refl, sym, ap, subst, ◌∙◌, append_assoc, arith, length-append}
+use Rattle.std.proofs.Common.{◌≡◌, inl, inr, ℕ, ◌+◌, ◌-◌, Bool, true, false, List, [], ◌∷◌, ◌++◌, length, Option, Some, Ok, Err, refl, sym, ap, subst, arith, length-append}
 use Rattle.std.proofs.lemmas.List.{append-nil}
 use Rattle.std.specs.Io.KnownBytes.{Consumes}
 use Rattle.std.specs.List.{flat_map}
@@ -9,7 +9,7 @@ use Rattle.message_frames.specs.Frames.{AreFrames, IsBegun, IsMalformed, Sent, f
 use Rattle.message_frames.specs.declared.frame.Kind.TheVariants.{Ask}
 use Rattle.message_laws.specs.Near.{IsTidy}
 use Rattle.message_session.specs.Answers.{answered_bytes}
-use Rattle.message_session.specs.Sessions.{AreCarriedOut, EndsBy, HasCarriedOut, IsBroken, text_limit}
+use Rattle.message_session.specs.Sessions.{AreCarriedOut, EndsBy, text_limit}
 use Rattle.message_session.specs.Steps.{AnswersAllHeld, AnswersFramesOfInput, BreaksIn, PassesFrames, ServesFrames, TakesPiece}
 use Rattle.message_session.specs.declared.ended.Ended.{Ended}
 use Rattle.message_session.specs.declared.ended.Ended.TheVariants.{End, NoFrame, Fault}
@@ -20,7 +20,6 @@ use Rattle.message_session.proofs.Frames.{frames_fed, none_served, served_fed, s
 use Rattle.message_session.proofs.Streams.{none_read, read_both}
 use Rattle.plist_state.specs.State.{WorldState}
 use Rattle.prevalence_store.specs.calls.Store.{StoreView}
-use Rattle.prevalence_store.specs.calls.Streams.{Writes}
 use Rattle.user_macros.specs.Functions.{Functions}
 
 no_more : (rest piece : List ℕ) → length piece ≡ 0 → rest ≡ rest ++ piece

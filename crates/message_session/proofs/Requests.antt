@@ -1,10 +1,9 @@
 -- What requests are answered that frames are.
 --     front_alike      the first of them
 --     bytes_are, carried_out      the answers to all, and the world after them
---     left_alone, refused_first      where the store did not take them
-use Rattle.std.proofs.Common.{◌≡◌, inr, ℕ, Bool, true, false, List, [], ◌++◌, length, map, take, drop, None, Ok, Err, refl, sym, ap, subst, ◌∙◌}
+--     refused_first      where the store did not take them
+use Rattle.std.proofs.Common.{◌≡◌, ◌≢◌, inr, ℕ, ◌<◌, ◌≤◌, false, List, [], ◌∷◌, ◌++◌, length, map, take, drop, Ok, Err, refl, sym, ap, subst, ◌∙◌, arith}
 use Rattle.std.specs.List.{flat_map}
-use Rattle.std.specs.Prelude.{IsSome}
 use Rattle.std.proofs.Math.Seq.{take-append_seam}
 use Rattle.std.proofs.lemmas.List.{length-map, take-append-drop, take-map}
 use Rattle.disk_trait.specs.Disk.{State}
@@ -24,9 +23,9 @@ use Rattle.prevalence_store.specs.declared.messages.request.Replies.{Replies}
 use Rattle.prevalence_store.specs.declared.messages.request.Request.{Request}
 use Rattle.prevalence_store.specs.messages.Answers.{Round, answered, begun, each_request}
 use Rattle.prevalence_store.specs.messages.Calls.{AnswersRequests, AreAnswered, left_after}
-use Rattle.prevalence_store.specs.messages.Fronts.{AnswersFirst}
+use Rattle.prevalence_store.specs.declared.messages.request.TheConstants.{ANSWER_BYTES}
+use Rattle.prevalence_store.specs.messages.Fronts.{AnswersFirst, answer_length}
 use Rattle.prevalence_store.specs.messages.Rounds.{told_in}
-use Rattle.prevalence_store.specs.steps.Failure.{is_device}
 use Rattle.user_macros.specs.Functions.{Functions}
 
 -- as many requests as frames
@@ -77,21 +76,27 @@ module _ (functions : Functions) {D R : Type 0} (state : D → State) (old new :
           (sym given.last) stands.near);
     }
 
-  by_device : (failed : Bool) → (failed ≡ false → new ≡ old) → (failed ≡ true → new.world ≡ None) → IsSome new.world → new ≡ old
-  by_device false same unknown known = same refl
-  by_device true same unknown known = absurd (cc (subst IsSome (unknown refl) known))
+-- if some are asked, the first of them are some
+some_first : (functions : Functions) (first : Round) → answer_length first ≡ 0 → (front rest : List Request) → 0 < length (front ++ rest) → (rest ≢ [] → ANSWER_BYTES ≤ answer_length (each_request functions first front)) → 0 < length front
+some_first functions first none [] [] any enough = absurd (omega (arith, any))
+some_first functions first none [] (request ∷ rest) any enough =
+    let same : answer_length (each_request functions first []) ≡ answer_length first = refl in
+    absurd (omega (arith, same, none, enough (λ is. absurd (cc is))))
+some_first functions first none (request ∷ front) rest any enough = omega arith
 
-  -- requests that were not answered left the store as it was, if it has a world
-  pub left_alone : (requests : List Request) (number : ℕ) → AnswersRequests functions state old new w last requests (Err number) → IsSome new.world → new ≡ old
-  left_alone requests number left known = by_device (is_device left.0) left.2.unchanged (λ device. (left.2.stopped device).failed.unknown) known
+-- as many frames are the first of them
+as_many_first : (front rest requests : List Request) (frames : List Sent) → requests ≡ front ++ rest → AskAlike requests frames → length (take (length front) frames) ≡ length front
+as_many_first front rest requests frames parts alike = sym (as_many front (take (length front) frames) (front_alike requests front rest frames parts alike))
 
 -- the first of the frames were refused
 pub refused_first : (functions : Functions) {D R : Type 0} (state : D → State) (old new : StoreView D R) (w : WorldState) (last : ℕ) (frames : List Sent) (requests : List Request) (number : ℕ)
-    → AskAlike requests frames → (first : AnswersFirst functions state old new w last requests (Err number)) → new ≡ old → AreUntaken functions last w state old frames number
-refused_first functions state old new w last frames requests number alike first same = inr (record {
+    → AskAlike requests frames → 0 < length requests → (first : AnswersFirst functions state old new w last requests (Err number)) → new ≡ old → AreUntaken functions last w state old frames number
+refused_first functions state old new w last frames requests number alike any first same = inr (record {
   front = take (length first.front) frames;
   undone = drop (length first.front) frames;
   parts = sym (take-append-drop (length first.front) frames);
+  some = subst (λ n. 0 < n) (sym (as_many_first first.front first.rest requests frames first.parts alike))
+      (some_first functions (begun last w) refl first.front first.rest (subst (λ rs. 0 < length rs) first.parts any) first.enough);
   requests = first.front;
   asked = front_alike requests first.front first.rest frames first.parts alike;
   refused = subst (λ (s : StoreView _ _). AnswersRequests functions state old s w last first.front (Err number)) same first.answers;

@@ -35,6 +35,9 @@ as_first frames i =
     let one : i + 1 - i ≡ 1 = omega arith in
     ap (λ n. map sent (take n (drop i frames))) one ∙ sym (take-map sent 1 (drop i frames))
 
+pub one_there : (frames : List Frame) (i : ℕ) → i < length frames → length (at_place i frames) ≡ 1
+one_there frames i within = omega (arith, within, length-map (take (i + 1 - i) (drop i frames)) sent, length-take (i + 1 - i) (drop i frames), length-drop i frames)
+
 -- some of it are all
 pub one_taken : (frames : List Frame) (i count : ℕ) → 0 < count → take count (at_place i frames) ≡ at_place i frames
 one_taken frames i count some = take_all count (at_place i frames) (omega (arith, some, length-map (take (i + 1 - i) (drop i frames)) sent, length-take (i + 1 - i) (drop i frames)))

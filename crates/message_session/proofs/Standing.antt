@@ -1,20 +1,21 @@
 -- Where a session stands to the recipient of its answers, and that they may be handed to it.
-use Rattle.std.proofs.Common.{◌≡◌, ℕ, ◌+◌, ◌<◌, Bool, true, false, List, [], length, map, Option, None, Some, IsTrue, take, Result, Ok, Err, inl, inr, refl, sym, ap, subst, ◌∙◌, arith}
+use Rattle.std.proofs.Common.{◌≡◌, ◌≢◌, ℕ, ◌+◌, ◌<◌, Bool, true, false, List, [], length, Option, Some, IsTrue, take, Result, Ok, Err, inl, inr, refl, sym, ap, subst, ◌∙◌, arith}
 use Rattle.std.specs.Option.{option_map}
 use Rattle.std.specs.Prelude.{unwrap_or}
 use Rattle.disk_trait.specs.Disk.{Image, State, IsHonest, IsSound, Throughout}
 use Rattle.disk_trait.specs.Moments.{joined, weaker}
 use Rattle.gate_log.specs.Layout.{LogRecord}
+use Rattle.lisp_object.specs.declared.refusal.TheConstants.{DEVICE, SNAPSHOT_TOO_LARGE}
 use Rattle.message_frames.specs.Frames.{Sent}
 use Rattle.message_session.specs.Account.{Account, AreLogged, AreNext, AreStored, AreUnderWay, first_account, round_after, with_frames}
 use Rattle.message_session.specs.Answers.{AskAlike, answered_bytes, each_frame}
 use Rattle.message_session.specs.Standing.{AcknowledgesNone, ComeNext, IsAtRest, Rests, RestsOrStops}
-use Rattle.message_session.specs.Steps.{RenewsForRoom, RenewsIfDue, StopsAfter}
+use Rattle.message_session.specs.Steps.{RenewsIfDue, StopsAfter}
 use Rattle.message_session.specs.declared.answer.Stop.{Stop}
 use Rattle.message_session.specs.declared.answer.Stop.TheVariants as stop
 use Rattle.message_session.specs.declared.ended.Ended.{Ended}
 use Rattle.message_session.proofs.Next.{kept_before, next_begun, next_none, next_taken}
-use Rattle.message_session.proofs.Requests.{front_alike, left_alone}
+use Rattle.message_session.proofs.Requests.{front_alike}
 use Rattle.message_session.proofs.Rounds.{same_rounds}
 use Rattle.plist_state.specs.State.{WorldState}
 use Rattle.prevalence_store.specs.Theorem.{Keeps, MeansSome, Survives}
@@ -70,11 +71,12 @@ pub due_survives : (functions : Functions) {D R : Type 0} (state : D → State) 
 due_survives functions state old new w (Ok done) renews = renews.1
 due_survives functions state old new w (Err ended) refused = snapshot_survives functions state old new w (Refused refused.0) refused.3
 
--- and one that was taken for room
-pub room_survives : (functions : Functions) {D R : Type 0} (state : D → State) (old new : StoreView D R) (w : WorldState) (result : Result Unit Ended) → RenewsForRoom functions state old new w result
-    → SurvivesAs functions state old new w [] 0
-room_survives functions state old new w (Ok done) renews = renews.survives
-room_survives functions state old new w (Err ended) refused = snapshot_survives functions state old new w (Refused refused.0) refused.2
+-- one that was too large leaves the world
+pub large_keeps : (functions : Functions) {D R : Type 0} (state : D → State) (old new : StoreView D R) (w : WorldState) (number : ℕ) → number ≡ SNAPSHOT_TOO_LARGE → Snapshots functions state old new w (Refused number)
+    → old.world ≡ Some w → new.world ≡ Some w
+large_keeps functions {D} {R} state old new w number large (inl none) known = ap (λ (s : StoreView D R). s.world) none.unchanged ∙ known
+large_keeps functions {D} {R} state old new w number large (inr (inl fault)) known = absurd (omega (arith, large, fault.device))
+large_keeps functions {D} {R} state old new w number large (inr (inr memory)) known = ap (λ (s : StoreView D R). s.world) memory.unchanged ∙ known
 
 module _ (functions : Functions) {D R : Type 0} (state : D → State) (sound : (d : D) → IsHonest (state d) → IsSound (state d)) where
   -- ---- a call after it rested
@@ -203,13 +205,11 @@ module _ (functions : Functions) {D R : Type 0} (state : D → State) (sound : (
             (left.2.stopped device).survives (left.2.stopped device).all_or_none
             (λ _. made_of_some functions far.0 (answered functions (begun last far.0) first.front) (left.2.stopped device).some (left.2.stopped device).again)
 
-      pub unanswered : (why : Stop) → StopsAfter new number why → RestsOrStops functions state told new last (Err why)
-      unanswered (stop.Untaken n) stops = λ account is.
-          let far = rests account is in
-          let first = answers far.0 far.1 in
+      pub unanswered : (number ≢ DEVICE → new ≡ old) → (why : Stop) → StopsAfter number why → RestsOrStops functions state told new last (Err why)
+      unanswered unchanged (stop.Untaken n) stops = λ account is.
           subst (λ (s : StoreView D R). (world : WorldState) × (s.world ≡ Some world) × IsAtRest functions state account s last world)
-          (sym (left_alone functions state old new far.0 last first.front number first.answers stops.1)) far
-      unanswered (stop.Ended ended) stops = none_of_requests
+          (sym (unchanged stops.1)) (rests account is)
+      unanswered unchanged (stop.Ended ended) stops = none_of_requests
 
     -- ---- what is handed on: the answers to frames that were answered
 

@@ -1,5 +1,5 @@
 -- What was told before the answers.
-use Rattle.std.proofs.Common.{◌≡◌, ◌⊎◌, inl, inr, ℕ, List, ◌++◌, Option, ap, ◌∙◌, sym, append_assoc}
+use Rattle.std.proofs.Common.{◌⊎◌, inl, inr, ℕ, List, ◌++◌, Option, ap, ◌∙◌, sym, append_assoc}
 use Rattle.disk_trait.specs.Disk.{State}
 use Rattle.message_frames.specs.Frames.{Sent}
 use Rattle.message_session.specs.Sessions.{AreServed, EndsBy, HasCause, IsUnread}
@@ -49,6 +49,7 @@ module _ (functions : Functions) (last : ℕ) (w : WorldState) {D R : Type 0} (s
     requests = c.requests;
     asked = c.asked;
     refused = c.refused;
+    full = c.full;
     output = after_told answered written c.output;
   })))
   cause_told answered next number (inr (inr (inr c))) = inr (inr (inr (record {
@@ -56,7 +57,7 @@ module _ (functions : Functions) (last : ℕ) (w : WorldState) {D R : Type 0} (s
     before_last = c.before_last;
     after = c.after;
     refused = c.refused;
-    large = λ is. let none = c.large is in record { requests = none.requests; asked = none.asked; refused = none.refused };
+    large = λ is. let none = c.large is in record { one = none.one; requests = none.requests; asked = none.asked; refused = none.refused };
     output = after_told answered written c.output;
   })))
 

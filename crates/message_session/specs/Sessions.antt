@@ -1,5 +1,5 @@
 -- How a session of messages goes, and how it ends.
-use Rattle.std.specs.Prelude.{ℕ, ◌≡◌, ◌⊎◌, List, [], ◌++◌, length, Option, Some, Ok, Err}
+use Rattle.std.specs.Prelude.{ℕ, ◌+◌, ◌≡◌, ◌≢◌, ◌⊎◌, List, [], ◌++◌, length, Option, Some, Ok, Err}
 use Rattle.std.specs.Io.KnownBytes.{Consumes, IsAtEnd}
 use Rattle.std.specs.List.{flat_map}
 use Rattle.disk_trait.specs.Disk.{State}
@@ -19,10 +19,17 @@ use Rattle.prevalence_store.specs.declared.outcome.Outcome.TheVariants.{Refused}
 use Rattle.prevalence_store.specs.messages.Answers.{begun}
 use Rattle.prevalence_store.specs.messages.Calls.{AnswersRequests, BeginsMessages}
 use Rattle.user_macros.specs.Functions.{Functions}
+use Rattle.world_text.specs.Snapshot.{snapshot}
 
 -- the most bytes of a text
 abbrev pub text_limit : ℕ
 text_limit = 1048576
+
+-- One frame comes next, and the half holds nothing but the text of this world.
+pub record IsFull {D R : Type 0} (store : StoreView D R) (world : WorldState) (next : List Sent) : Type 0 where
+  pub one : length next ≡ 1
+  pub none_since : store.record_count ≡ 0
+  pub only_text : store.size ≡ 16 + length (snapshot world)
 
 -- ---- frames that come after the message of this number, in this world
 
@@ -70,7 +77,8 @@ module _ (functions : Functions) (last : ℕ) (world : WorldState) where
         pub carried_out : AreCarriedOut (answered ++ next) store
         pub output : Writes held written (bytes answered)
 
-      -- The store, as those that were answered left it, refused the next ones. Its own clause says why, and what it has now.
+      -- The store, as those that were answered left it, refused the next ones: with 64 one alone, in a half that holds nothing but the
+      -- text of the world. Its own clause says why, and what it has now.
       pub record IsUntaken : Type 0 where
         pub before : StoreView D R
         pub before_last : ℕ
@@ -78,15 +86,18 @@ module _ (functions : Functions) (last : ℕ) (world : WorldState) where
         pub requests : List Request
         pub asked : AskAlike requests next
         pub refused : AnswersRequests functions state before store after.left before_last requests (Err number)
+        pub full : number ≡ LOG_FULL → IsFull before after.left next
         pub output : Writes held written (bytes answered)
 
-      -- It refused the next ones for want of room, as they found it.
+      -- It refused the next one for want of room, as that found it.
       pub record HasNoRoom (before : StoreView D R) (left : WorldState) (before_last : ℕ) : Type 0 where
+        pub one : length next ≡ 1
         pub requests : List Request
         pub asked : AskAlike requests next
         pub refused : AnswersRequests functions state before before left before_last requests (Err LOG_FULL)
 
-      -- It refused a snapshot, that was due, or for the next ones, which had no room. One that is due and too large is passed over.
+      -- It refused a snapshot, that was due, or for the next ones, which had no room. One that is too large ends it for one frame alone:
+      -- it is passed over if it is due.
       pub record IsUnrenewed : Type 0 where
         pub before : StoreView D R
         pub before_last : ℕ
@@ -124,11 +135,15 @@ module _ (functions : Functions) (last : ℕ) (world : WorldState) where
 -- ---- a session
 
 module _ (functions : Functions) {D R : Type 0} (state : D → State) where
-  -- the store as it was, or a snapshot was taken
-  abbrev pub MayRenew : (old renewed : StoreView D R) → WorldState → Type 0
-  MayRenew old renewed world = (renewed ≡ old) ⊎ IsSnapshotted functions state old renewed world
+  -- there is no room for the first position
+  abbrev pub HasNoRoomToBegin : StoreView D R → WorldState → Type 0
+  HasNoRoomToBegin store world = BeginsMessages functions state store store world (Err LOG_FULL)
 
-  -- Messages are begun, perhaps after a snapshot: the store tells this position, and has this world.
+  -- the store as it was; or it had no room, and a snapshot was taken
+  abbrev pub MayRenew : (old renewed : StoreView D R) → WorldState → Type 0
+  MayRenew old renewed world = (renewed ≡ old) ⊎ (HasNoRoomToBegin old world × IsSnapshotted functions state old renewed world)
+
+  -- Messages are begun, after a snapshot if there was no room: the store tells this position, and has this world.
   pub record MessagesBegin (old mid : StoreView D R) (world : WorldState) (position : ℕ) (first : WorldState) : Type 0 where
     pub renewed : StoreView D R
     pub renews : MayRenew old renewed world
@@ -137,12 +152,14 @@ module _ (functions : Functions) {D R : Type 0} (state : D → State) where
     pub begins : BeginsMessages functions state renewed mid world (Ok position)
     pub known : mid.world ≡ Some first
 
-  -- Messages could not be begun, with this number: it is that of a snapshot, for which nothing else was done; or of the store as it was,
-  -- or after a snapshot.
+  -- Messages could not be begun, with this number: the store as it was refused them, and not for want of room; or it had no room, and
+  -- no snapshot was taken, or one was, and they were refused after it.
   abbrev pub CannotBegin : (old new : StoreView D R) → WorldState → ℕ → Type 0
   CannotBegin old new world number =
-      Snapshots functions state old new world (Refused number)
-      ⊎ ((renewed : StoreView D R) × MayRenew old renewed world × BeginsMessages functions state renewed new world (Err number))
+      ((number ≢ LOG_FULL) × BeginsMessages functions state old new world (Err number))
+      ⊎ ((HasNoRoomToBegin old world × Snapshots functions state old new world (Refused number))
+      ⊎ (HasNoRoomToBegin old world × (renewed : StoreView D R) × IsSnapshotted functions state old renewed world
+      × BeginsMessages functions state renewed new world (Err number)))
 
   -- or there was no memory to tell the position
   abbrev pub IsNotTold : (old new : StoreView D R) → WorldState → ℕ → Type 0

@@ -1,8 +1,8 @@
 -- The steps of a session.
-use Rattle.std.specs.Prelude.{ℕ, ◌≡◌, ◌≢◌, ◌⊎◌, Bool, true, false, List, [], ◌++◌, length, take, Option, None, Some, IsSome, Result, Ok, Err}
+use Rattle.std.specs.Prelude.{ℕ, ◌≡◌, ◌≢◌, ◌⊎◌, ◌<◌, Bool, true, false, List, [], ◌++◌, length, take, Option, Some, Result, Ok, Err}
 use Rattle.std.specs.Io.KnownBytes.{Consumes, IsAtEnd}
 use Rattle.disk_trait.specs.Disk.{State}
-use Rattle.lisp_object.specs.declared.refusal.TheConstants.{INPUT, NO_MEMORY, SNAPSHOT_TOO_LARGE}
+use Rattle.lisp_object.specs.declared.refusal.TheConstants.{DEVICE, INPUT, LOG_FULL, NO_MEMORY, SNAPSHOT_TOO_LARGE}
 use Rattle.message_frames.specs.Frames.{AreFrames, IsBegun, IsMalformed, Sent}
 use Rattle.message_frames.specs.declared.held.Next.{Next}
 use Rattle.message_frames.specs.declared.held.Next.TheVariants as next
@@ -27,10 +27,11 @@ abbrev pub ended_by : Stop → Ended
 ended_by (stop.Untaken number) = Fault number
 ended_by (stop.Ended ended) = ended
 
--- the store did not take requests, for this number: if it has a world still, others may be tried, else it ends the session
-abbrev pub StopsAfter : {D R : Type 0} → StoreView D R → ℕ → Stop → Type 0
-StopsAfter store number (stop.Untaken why) = (why ≡ number) × IsSome store.world
-StopsAfter store number (stop.Ended ended) = (ended ≡ Fault number) × (store.world ≡ None)
+-- the store did not take requests, for this number: as it was no fault of the device, fewer may be tried; or it was no want of room, and
+-- ends the session
+abbrev pub StopsAfter : ℕ → Stop → Type 0
+StopsAfter number (stop.Untaken why) = (why ≡ number) × (number ≢ DEVICE)
+StopsAfter number (stop.Ended ended) = (ended ≡ Fault number) × (number ≢ LOG_FULL)
 
 -- what comes after frames that were answered, of which there are some if nobody looked
 abbrev pub ComesAfter : List Sent → List ℕ → Next → Type 0
@@ -39,10 +40,10 @@ ComesAfter frames rest next.Malformed = IsMalformed text_limit rest
 ComesAfter frames rest next.Unread = frames ≢ []
 
 module _ (functions : Functions) {D R : Type 0} (state : D → State) (old new : StoreView D R) (world : WorldState) where
-  -- a snapshot was taken for what had no room; or the session ends, with the number of its refusal
-  abbrev pub RenewsForRoom : Result Unit Ended → Type 0
+  -- a snapshot was taken for what had no room, or refused with this number
+  abbrev pub RenewsForRoom : Result Unit ℕ → Type 0
   RenewsForRoom (Ok done) = IsSnapshotted functions state old new world
-  RenewsForRoom (Err ended) = (number : ℕ) × (ended ≡ Fault number) × Snapshots functions state old new world (Refused number)
+  RenewsForRoom (Err number) = Snapshots functions state old new world (Refused number)
 
   -- One that is due was taken, or was too large. None may be due.
   abbrev pub RenewsIfDue : Result Unit Ended → Type 0
@@ -55,6 +56,7 @@ module _ (functions : Functions) (last : ℕ) (world : WorldState) {D R : Type 0
     pub front : List Sent
     pub undone : List Sent
     pub parts : frames ≡ front ++ undone
+    pub some : 0 < length front
     pub requests : List Request
     pub asked : AskAlike requests front
     pub refused : AnswersRequests functions state old old world last requests (Err number)
@@ -101,6 +103,12 @@ module _ (functions : Functions) (last : ℕ) (world : WorldState) {D R : Type 0
       TakesFrames old frames (Ok count) = AreFramesAnswered functions last world state store held written (answered_bytes functions last world) (take count frames) now_last
       TakesFrames old frames (Err (stop.Untaken number)) = (written ≡ held) × (now_last ≡ last) × (store ≡ old) × AreUntaken old frames number
       TakesFrames old frames (Err (stop.Ended ended)) = Breaks frames ended
+
+      -- or nothing came of them, and if they are one frame the session ends by that
+      abbrev pub TakesWithRoom : List Sent → Result ℕ Stop → Type 0
+      TakesWithRoom frames (Ok count) = AreFramesAnswered functions last world state store held written (answered_bytes functions last world) (take count frames) now_last
+      TakesWithRoom frames (Err (stop.Untaken number)) = (written ≡ held) × (now_last ≡ last) × (store.world ≡ Some world) × (length frames ≡ 1 → Breaks frames (Fault number))
+      TakesWithRoom frames (Err (stop.Ended ended)) = Breaks frames ended
 
       -- these frames were answered, and these bytes come after them
       abbrev pub ServesFrames : List ℕ → List Sent → List ℕ → Type 0

@@ -4,7 +4,7 @@ ghost use Rattle.std.specs.List.{flat_map};
 ghost use Rattle.message_frames.specs.Frames.{answer_bytes, sent};
 ghost use Rattle.message_session.specs.Answers.{AskAlike, answers_to, message_number};
 ghost use Rattle.message_session.specs.Standing.{AnswersMore, ComeNext, Rests, RestsOrEnds, RestsOrStops};
-ghost use Rattle.message_session.specs.Steps.{AnswersFront, AnswersFrames, RenewsForRoom, RenewsIfDue, StopsAfter, TakesFrames, ended_by};
+ghost use Rattle.message_session.specs.Steps.{AnswersFront, AnswersFrames, RenewsForRoom, RenewsIfDue, StopsAfter, TakesFrames, TakesWithRoom, ended_by};
 ghost use Rattle.plist_state.specs.Sound.{IsSound};
 ghost use Rattle.plist_state.specs.State.{WorldState};
 ghost use Rattle.prevalence_store.specs.messages.Rounds.{told_in};
@@ -79,15 +79,13 @@ fn renew<D: Disk, R: MacroFunctions>(store: &mut Store<D, R>) -> Result<(), Ende
     }
 }
 
-/// Takes a snapshot for what has no room. One that is too large for the half ends the session.
-pub(crate) fn renew_for_room<D: Disk, R: MacroFunctions>(
-    store: &mut Store<D, R>,
-) -> Result<(), Ended>
+/// Takes a snapshot for what has no room, or gives the number of its refusal.
+pub(crate) fn renew_for_room<D: Disk, R: MacroFunctions>(store: &mut Store<D, R>) -> Result<(), u16>
     ensures renews { (w : WorldState) → store.old.world ≡ Some w → RenewsForRoom R.Meaning.functions D.state store.old store.new w result }
     ensures macros { store.new.macros ≡ store.old.macros }
 {
     match store.snapshot() {
-        Outcome::Refused(number) => Err(Ended::Fault(number)),
+        Outcome::Refused(number) => Err(number),
         _ => Ok(()),
     }
 }
@@ -95,7 +93,7 @@ pub(crate) fn renew_for_room<D: Disk, R: MacroFunctions>(
 // Why frames were not answered together.
 #[derive(Clone, Copy)]
 enum Stop {
-    // The store did not take them, for this number, and is as it was.
+    // There was no room or no memory for them, or no snapshot for room, with this number. Fewer of them may be tried.
     Untaken(u16),
     // The session has ended.
     Ended(Ended),
@@ -167,58 +165,13 @@ fn answer_front<D: Disk, R: MacroFunctions, O: AnswerRecipient<D, R>>(
     ensures input { O.input output.new ≡ O.input output.old }
     ensures macros { store.new.macros ≡ store.old.macros }
 {
-    its_world_is_sound(store);
-    let stop = match take_frames(alloc, store, course, frames, output) {
+    let stop = match take_with_room(alloc, store, course, frames, output) {
         Ok(count) => return Ok(count),
         Err(stop) => stop,
     };
     match stop {
-        Stop::Untaken(LOG_FULL) => {
-            // the half that is begun holds the text of the world alone
-            match renew_for_room(store) {
-                Ok(()) => {}
-                Err(ended) => return Err(ended),
-            }
-            course.wrote = 0;
-            answer_each(alloc, store, course, frames, output)
-        }
-        Stop::Untaken(NO_MEMORY) => answer_in_turn(alloc, store, course, frames, output),
-        _ => Err(stop.ended()),
-    }
-}
-
-// Answers the first of these frames together; where they have no room or no memory, all one by one.
-fn answer_each<D: Disk, R: MacroFunctions, O: AnswerRecipient<D, R>>(
-    alloc: Global,
-    store: &mut Store<D, R>,
-    course: &mut Course,
-    frames: &[Frame<'_>],
-    output: &mut O,
-) -> Result<usize, Ended>
-    requires answers { R.answers store.old.macros }
-    requires whole { are_registered R.Meaning.functions (R.functions store.old.macros) ≡ true }
-    requires rests { Rests R.Meaning.functions D.state (O.account output.old) store.old course.old.last }
-    requires next { ComeNext (O.account output.old) (map sent frames.now) }
-    requires any { 0 < length frames.now }
-    ensures answers { (w : WorldState) → store.old.world ≡ Some w
-        → AnswersFront R.Meaning.functions course.old.last w D.state store.new (O.contents output.old) (O.contents output.new)
-        course.new.last (map sent frames.now) result }
-    ensures rests { RestsOrEnds R.Meaning.functions D.state (O.account output.new) store.new course.new.last result }
-    ensures more { IfOk result (λ count. AnswersMore (O.account output.old) (O.account output.new) (take count (map sent frames.now))) }
-    ensures most { IfOk result (λ count. count ≤ length frames.now) }
-    ensures some { IfOk result (λ count. 0 < count) }
-    ensures input { O.input output.new ≡ O.input output.old }
-    ensures macros { store.new.macros ≡ store.old.macros }
-{
-    its_world_is_sound(store);
-    let stop = match take_frames(alloc, store, course, frames, output) {
-        Ok(count) => return Ok(count),
-        Err(stop) => stop,
-    };
-    match stop {
-        Stop::Untaken(LOG_FULL) => answer_in_turn(alloc, store, course, frames, output),
-        Stop::Untaken(NO_MEMORY) => answer_in_turn(alloc, store, course, frames, output),
-        _ => Err(stop.ended()),
+        Stop::Untaken(_) => answer_in_turn(alloc, store, course, frames, output),
+        Stop::Ended(ended) => Err(ended),
     }
 }
 
@@ -247,13 +200,58 @@ fn answer_in_turn<D: Disk, R: MacroFunctions, O: AnswerRecipient<D, R>>(
 {
     its_world_is_sound(store);
     'frames: for i in 0..frames.len() {
-        its_world_is_sound(store);
-        match take_frames(alloc, store, course, &frames[i..i + 1], output) {
+        match take_with_room(alloc, store, course, &frames[i..i + 1], output) {
             Ok(_) => {}
             Err(stop) => return Err(stop.ended()),
         }
     }
     Ok(frames.len())
+}
+
+// Answers the first of these frames together; where they have no room, once more after a snapshot. Gives how many.
+fn take_with_room<D: Disk, R: MacroFunctions, O: AnswerRecipient<D, R>>(
+    alloc: Global,
+    store: &mut Store<D, R>,
+    course: &mut Course,
+    frames: &[Frame<'_>],
+    output: &mut O,
+) -> Result<usize, Stop>
+    requires answers { R.answers store.old.macros }
+    requires whole { are_registered R.Meaning.functions (R.functions store.old.macros) ≡ true }
+    requires rests { Rests R.Meaning.functions D.state (O.account output.old) store.old course.old.last }
+    requires next { ComeNext (O.account output.old) (map sent frames.now) }
+    requires any { 0 < length frames.now }
+    ensures takes { (w : WorldState) → store.old.world ≡ Some w
+        → TakesWithRoom R.Meaning.functions course.old.last w D.state store.new (O.contents output.old) (O.contents output.new)
+        course.new.last (map sent frames.now) result }
+    ensures rests { RestsOrStops R.Meaning.functions D.state (O.account output.new) store.new course.new.last result }
+    ensures more { IfOk result (λ count. AnswersMore (O.account output.old) (O.account output.new) (take count (map sent frames.now))) }
+    ensures most { IfOk result (λ count. count ≤ length frames.now) }
+    ensures untouched { IfErr result (λ stop. (number : ℕ) → stop ≡ Stop.Untaken number → output.new ≡ output.old) }
+    ensures some { IfOk result (λ count. 0 < count) }
+    ensures input { O.input output.new ≡ O.input output.old }
+    ensures macros { store.new.macros ≡ store.old.macros }
+{
+    its_world_is_sound(store);
+    let stop = match take_frames(alloc, store, course, frames, output) {
+        Ok(count) => return Ok(count),
+        Err(stop) => stop,
+    };
+    let why = match stop {
+        Stop::Untaken(why) => why,
+        Stop::Ended(ended) => return Err(Stop::Ended(ended)),
+    };
+    if why != LOG_FULL {
+        return Err(Stop::Untaken(why));
+    }
+    match renew_for_room(store) {
+        Ok(()) => {}
+        Err(SNAPSHOT_TOO_LARGE) => return Err(Stop::Untaken(SNAPSHOT_TOO_LARGE)),
+        Err(number) => return Err(Stop::Ended(Ended::Fault(number))),
+    }
+    // the half that is begun holds the text of the world alone
+    course.wrote = 0;
+    take_frames(alloc, store, course, frames, output)
 }
 
 // Answers the first of these frames together, writes the answers, and takes a snapshot if one is due. Gives how many.
@@ -286,7 +284,7 @@ fn take_frames<D: Disk, R: MacroFunctions, O: AnswerRecipient<D, R>>(
     };
     let replies = match store.answer_first_requests(course.last, requests.as_slice()) {
         Ok(replies) => replies,
-        Err(number) => return Err(stop_after(store, number)),
+        Err(number) => return Err(stop_after(number)),
     };
     course.last = replies.last;
     course.wrote = course.wrote.saturating_add(count_written(&replies));
@@ -308,13 +306,14 @@ fn take_frames<D: Disk, R: MacroFunctions, O: AnswerRecipient<D, R>>(
     }
 }
 
-// Why a store with this world, or with none, did not take requests. One that has none does not go on.
-fn stop_after<D: Disk, R: MacroFunctions>(store: &Store<D, R>, number: u16) -> Stop
-    ensures { StopsAfter store.now number result }
+// What comes of requests that were refused with this number.
+fn stop_after(number: u16) -> Stop
+    ensures { StopsAfter number result }
 {
-    match store.world() {
-        Some(_) => Stop::Untaken(number),
-        None => Stop::Ended(Ended::Fault(number)),
+    match number {
+        LOG_FULL => Stop::Untaken(number),
+        NO_MEMORY => Stop::Untaken(number),
+        _ => Stop::Ended(Ended::Fault(number)),
     }
 }
 

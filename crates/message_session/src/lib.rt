@@ -6,7 +6,7 @@
 //!
 //! - `serve`: messages are begun, and the input is read to its end. What came is held (`Held` of message_frames) until it is whole frames
 //! - `answer`: frames are handed to the store together, which answers the first of them (`answer_first_requests` of prevalence_store), and
-//!   their answers are written, until all are. A half that is full gets a snapshot; what has no memory together is tried one by one
+//!   their answers are written, until all are. A half that is full gets a snapshot; what has no room then, or no memory, is tried one by one
 //!
 //! - `recipient`: who gets the answers (`AnswerRecipient`). It asks for them that what their messages wrote is stored by then, with the
 //!   position, and that they are the next ones of the input (`AreStored` of specs/Account.antt): so this is said of each moment of a session

@@ -3,7 +3,7 @@ ghost use Rattle.std.specs.Prelude.{◌≡◌, ◌<◌, ◌≤◌, ℕ, List, []
 ghost use Rattle.lisp_object.specs.declared.refusal.TheConstants.{REOPEN};
 ghost use Rattle.message_frames.specs.declared.held.Next.TheVariants as next;
 ghost use Rattle.message_session.specs.Account.{Account, IsToldIn};
-ghost use Rattle.message_session.specs.Sessions.{AsksToReopen, ServesMessages};
+ghost use Rattle.message_session.specs.Sessions.{AsksToReopen, HasNoRoomToBegin, ServesMessages};
 ghost use Rattle.message_session.specs.Standing.{AcknowledgesNone, AnswersFirstOf, ComesNext, IsReadIn, Rests, RestsOrEnds};
 ghost use Rattle.message_session.specs.Steps.{AnswersAllHeld, AnswersFramesOfInput, AnswersSomeHeld, MayBegin, TakesPiece};
 ghost use Rattle.plist_state.specs.State.{WorldState};
@@ -38,8 +38,10 @@ const MOST_READS: u64 = 1 << 40;
 /// - 67: a read failed, or there were 2^40 of them. All that came whole is answered.
 /// - 68: a write failed or took nothing. The frames whose answers were to go out are stored, and a part of their answers is written.
 /// - 90: there was no memory. All is answered, or the next frames are stored and none of their answers is written.
-/// - 60, 64, 90, and that of a form of the store's own: the store did not take the next frames. All before them is answered.
-/// - 60, 65, 90: it took no snapshot that was due, or for the next frames, which had no room (65 for these alone). All is answered.
+/// - 60, 64, 90, and that of a form of the store's own: the store did not take the next frames. All before them is answered. 64 is of one
+///   frame alone, which has no room in a half that holds nothing but the text of the world.
+/// - 60, 65, 90: it took no snapshot that was due, or for the next frames, which had no room. All is answered. 65 is of one frame alone,
+///   which had no room.
 /// - 61: it met a device fault before. Nothing is done.
 ///
 /// After 60 the store has no world until it is opened again, and the next frames may be stored, all of them or none; after any other it has
@@ -105,18 +107,19 @@ fn begin<D: Disk, R: MacroFunctions>(store: &mut Store<D, R>) -> Result<u64, End
     }
 }
 
-// Begins with messages in a half that is made anew.
+// Begins with messages in a half that is made anew, as there was no room.
 fn begin_anew<D: Disk, R: MacroFunctions>(store: &mut Store<D, R>) -> Result<u64, Ended>
     requires answers { R.answers store.old.macros }
     requires whole { are_registered R.Meaning.functions (R.functions store.old.macros) ≡ true }
-    ensures begun { (w : WorldState) → store.old.world ≡ Some w → MayBegin R.Meaning.functions D.state store.old store.new w result }
+    ensures begun { (w : WorldState) → store.old.world ≡ Some w → HasNoRoomToBegin R.Meaning.functions D.state store.old w
+        → MayBegin R.Meaning.functions D.state store.old store.new w result }
     ensures told { (before : WorldState) → store.old.world ≡ Some before
         → IfOk result (λ position. (w : WorldState) → store.new.world ≡ Some w → IsToldIn position w) }
     ensures macros { store.new.macros ≡ store.old.macros }
 {
     match renew_for_room(store) {
         Ok(()) => {}
-        Err(ended) => return Err(ended),
+        Err(number) => return Err(Ended::Fault(number)),
     }
     match store.begin_messages() {
         Ok(position) => Ok(position),

@@ -1,5 +1,5 @@
-use Rattle.std.proofs.Common.{◌≡◌, ℕ, ◌+◌, ◌≤◌, List, ◌++◌, map, take, drop, length, refl, sym, ap, subst, ◌∙◌, arith, length-drop}
-use Rattle.message_frames.specs.Frames.{Sent, sent}
+use Rattle.std.proofs.Common.{◌+◌, List, map, take, drop, length, refl, sym, ap, subst, ◌∙◌, arith, length-drop}
+use Rattle.message_frames.specs.Frames.{sent}
 use Rattle.message_frames.specs.declared.frame.Frame.{Frame}
 use Rattle.message_laws.proofs.Tidy.{sound_tidy}
 use Rattle.message_session.specs.Answers.{answered_bytes}

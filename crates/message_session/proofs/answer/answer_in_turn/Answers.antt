@@ -1,5 +1,5 @@
 use Rattle.std.proofs.Common.{◌≡◌, ℕ, ◌+◌, List, ◌++◌, map, take, drop, refl, sym, ap, subst, ◌∙◌, arith}
-use Rattle.message_frames.specs.Frames.{Sent, sent}
+use Rattle.message_frames.specs.Frames.{sent}
 use Rattle.message_frames.specs.declared.frame.Frame.{Frame}
 use Rattle.message_laws.proofs.Tidy.{sound_tidy}
 use Rattle.message_session.specs.Answers.{answered_bytes}
@@ -9,9 +9,9 @@ use Rattle.message_session.specs.Steps.{Breaks, ended_by}
 use Rattle.message_session.proofs.Causes.{breaks_both, breaks_more}
 use Rattle.message_session.proofs.Frames.{answered_both, none_answered}
 use Rattle.message_session.proofs.Next.{come_after, come_first, more_both, more_none}
-use Rattle.message_session.proofs.Slices.{as_first, as_many_taken, at_place, front_more, one_taken, rest_more, whole}
+use Rattle.message_session.proofs.Slices.{as_first, as_many_taken, at_place, front_more, one_taken, one_there, rest_more, whole}
 use Rattle.message_session.proofs.Standing.{stops_end}
-use Rattle.message_session.proofs.Stops.{stopped}
+use Rattle.message_session.proofs.Stops.{one_stopped}
 use Rattle.message_session.proofs.answer.answer_in_turn.Goals as goal
 
 -- one frame more
@@ -37,8 +37,8 @@ frames-init g c = record {
   input = refl;
 }
 
-pub take_frames-requires-clause-next : goal.take_frames-requires-clause-next
-take_frames-requires-clause-next g c =
+pub take_with_room-requires-clause-next : goal.take_with_room-requires-clause-next
+take_with_room-requires-clause-next g c =
     come_first (g.O.AnswerRecipient.account c.frames.output) (at_place c.frames.i c.args.frames.now) (map sent (drop (c.frames.i + 1) c.args.frames.now))
     (subst (ComeNext (g.O.AnswerRecipient.account c.frames.output)) (sym (others c.args.frames.now c.frames.i)) c.frames.invariant.next)
 
@@ -50,48 +50,48 @@ returns-in-Err-clause-answers g c = λ w known.
     let tidy = sound_tidy w (c.its_world_is_sound.ensures w known) in
     let held = g.O.AnswerRecipient.contents c.args.output.now in
     let between = g.O.AnswerRecipient.contents c.frames.output in
-    let written = g.O.AnswerRecipient.contents c.take_frames.new.output in
+    let written = g.O.AnswerRecipient.contents c.take_with_room.new.output in
     let front = map sent (take c.frames.i c.args.frames.now) in
     let one = at_place c.frames.i c.args.frames.now in
     let ended = ended_by c.in-Err.stop in
-    let breaks = stopped functions c.frames.course.last far.after.left (sound_tidy far.after.left (c.its_world_is_sound-in-frames.ensures far.after.left far.after.known)) g.D.Disk.state c.frames.store c.take_frames.new.store far.after.known between written
-    c.take_frames.new.course.last one c.in-Err.stop (c.in-Err.ensures.takes far.after.left far.after.known) in
-    let both = breaks_both functions last w tidy g.D.Disk.state c.frames.store held between front c.frames.course.last far written c.take_frames.new.store one ended breaks in
-    let all = breaks_more functions last w tidy g.D.Disk.state c.take_frames.new.store held written (front ++ one) (map sent (drop (c.frames.i + 1) c.args.frames.now)) ended both in
-    subst (λ e. Breaks functions last w g.D.Disk.state c.take_frames.new.store held written (map sent c.args.frames.now) e) (sym c.ended.ensures)
-    (subst (λ fs. Breaks functions last w g.D.Disk.state c.take_frames.new.store held written fs ended) (all_of c.args.frames.now c.frames.i) all)
+    let breaks = one_stopped functions c.frames.course.last far.after.left g.D.Disk.state c.take_with_room.new.store between written
+    c.take_with_room.new.course.last one c.in-Err.stop (one_there c.args.frames.now c.frames.i (omega (arith, c.frames-test.true))) (c.in-Err.ensures.takes far.after.left far.after.known) in
+    let both = breaks_both functions last w tidy g.D.Disk.state c.frames.store held between front c.frames.course.last far written c.take_with_room.new.store one ended breaks in
+    let all = breaks_more functions last w tidy g.D.Disk.state c.take_with_room.new.store held written (front ++ one) (map sent (drop (c.frames.i + 1) c.args.frames.now)) ended both in
+    subst (λ e. Breaks functions last w g.D.Disk.state c.take_with_room.new.store held written (map sent c.args.frames.now) e) (sym c.ended.ensures)
+    (subst (λ fs. Breaks functions last w g.D.Disk.state c.take_with_room.new.store held written fs ended) (all_of c.args.frames.now c.frames.i) all)
 
 pub frames-preserved : goal.frames-preserved
 frames-preserved g c =
     let frames = c.args.frames.now in
     let one = one_taken frames c.frames.i c.in-Ok.field-0 c.in-Ok.ensures.some in
-    let now = g.O.AnswerRecipient.account c.take_frames.new.output in
+    let now = g.O.AnswerRecipient.account c.take_with_room.new.output in
     let more = subst (AnswersMore (g.O.AnswerRecipient.account c.frames.output) now) one c.in-Ok.ensures.more in
     record {
-      macros = c.take_frames.ensures.macros ∙ c.frames.invariant.macros;
+      macros = c.take_with_room.ensures.macros ∙ c.frames.invariant.macros;
       answered = λ w known.
           let far = c.frames.invariant.answered w known in
           let functions = g.R.Meaning.Meaning.functions in
           let last = c.args.course.now.last in
           let held = g.O.AnswerRecipient.contents c.args.output.now in
           let between = g.O.AnswerRecipient.contents c.frames.output in
-          let written = g.O.AnswerRecipient.contents c.take_frames.new.output in
-          subst (λ fs. AreFramesAnswered functions last w g.D.Disk.state c.take_frames.new.store held written (answered_bytes functions last w) fs c.take_frames.new.course.last) (sym (one_more frames c.frames.i))
+          let written = g.O.AnswerRecipient.contents c.take_with_room.new.output in
+          subst (λ fs. AreFramesAnswered functions last w g.D.Disk.state c.take_with_room.new.store held written (answered_bytes functions last w) fs c.take_with_room.new.course.last) (sym (one_more frames c.frames.i))
           (answered_both functions last w (sound_tidy w (c.its_world_is_sound.ensures w known)) g.D.Disk.state c.frames.store held between
-          (map sent (take c.frames.i frames)) c.frames.course.last far (at_place c.frames.i frames) written c.take_frames.new.store c.take_frames.new.course.last
-          (subst (λ fs. AreFramesAnswered functions c.frames.course.last far.after.left g.D.Disk.state c.take_frames.new.store between written (answered_bytes functions c.frames.course.last far.after.left) fs c.take_frames.new.course.last) one
+          (map sent (take c.frames.i frames)) c.frames.course.last far (at_place c.frames.i frames) written c.take_with_room.new.store c.take_with_room.new.course.last
+          (subst (λ fs. AreFramesAnswered functions c.frames.course.last far.after.left g.D.Disk.state c.take_with_room.new.store between written (answered_bytes functions c.frames.course.last far.after.left) fs c.take_with_room.new.course.last) one
           (c.in-Ok.ensures.takes far.after.left far.after.known)));
       rests = c.in-Ok.ensures.rests;
       next = come_after (g.O.AnswerRecipient.account c.frames.output) now (at_place c.frames.i frames) (map sent (drop (c.frames.i + 1) frames))
           (subst (ComeNext (g.O.AnswerRecipient.account c.frames.output)) (sym (others frames c.frames.i)) c.frames.invariant.next) more;
       more = subst (AnswersMore (g.O.AnswerRecipient.account c.args.output.now) now) (sym (one_more frames c.frames.i))
           (more_both (g.O.AnswerRecipient.account c.args.output.now) (g.O.AnswerRecipient.account c.frames.output) now (map sent (take c.frames.i frames)) (at_place c.frames.i frames) c.frames.invariant.more more);
-      input = c.take_frames.ensures.input ∙ c.frames.invariant.input;
+      input = c.take_with_room.ensures.input ∙ c.frames.invariant.input;
     }
 
 pub returns-in-Err-clause-rests : goal.returns-in-Err-clause-rests
 returns-in-Err-clause-rests g c =
-    stops_end g.R.Meaning.Meaning.functions g.D.Disk.state g.met.D.Disk.sound (g.O.AnswerRecipient.account c.take_frames.new.output) c.take_frames.new.store c.take_frames.new.course.last c.in-Err.stop
+    stops_end g.R.Meaning.Meaning.functions g.D.Disk.state g.met.D.Disk.sound (g.O.AnswerRecipient.account c.take_with_room.new.output) c.take_with_room.new.store c.take_with_room.new.course.last c.in-Err.stop
     c.in-Err.ensures.rests
 
 pub returns-clause-answers : goal.returns-clause-answers

@@ -1,4 +1,4 @@
-use Rattle.std.proofs.Common.{◌≡◌, inr, ℕ, List, ◌++◌, Option, Some, Ok, Err, length, map, take, drop, refl, sym, ap, subst, ◌∙◌, arith}
+use Rattle.std.proofs.Common.{◌≡◌, ℕ, List, ◌++◌, Option, Some, Ok, Err, length, map, take, drop, sym, ap, subst, ◌∙◌, arith}
 use Rattle.std.specs.Option.{option_map}
 use Rattle.std.specs.List.{flat_map}
 use Rattle.std.proofs.lemmas.List.{take-append-drop, take-map}
@@ -135,7 +135,7 @@ returns-in-Err-clause-takes g c = λ w known.
     untaken functions c.args.course.now.last w (sound_tidy w (c.its_world_is_sound.ensures w known)) g.D.Disk.state c.args.store.now c.answer_first_requests.new.self known
     (g.O.AnswerRecipient.contents c.args.output.now) (map sent c.args.frames.now) c.as_slice.result.now
     (subst (λ rs. AskAlike rs (map sent c.args.frames.now)) (sym c.as_slice.ensures.value) c.in-Ok.ensures.pairs) c.in-Err.number
-    (c.in-Err.ensures.answer w known) c.stop_after.result c.stop_after.ensures
+    (c.in-Err.ensures.answer w known) (omega (arith, ap length c.as_slice.ensures.value, c.in-Ok.ensures.many, c.requires.any)) c.in-Err.ensures.unchanged c.stop_after.result c.stop_after.ensures
 
 -- ---- the recipient
 
@@ -175,7 +175,7 @@ pub returns-in-Err-clause-rests : goal.returns-in-Err-clause-rests
 returns-in-Err-clause-rests g c =
     unanswered g.R.Meaning.Meaning.functions g.D.Disk.state g.met.D.Disk.sound (g.O.AnswerRecipient.account c.args.output.now) c.args.store.now c.answer_first_requests.new.self c.args.course.now.last
     c.requires.rests (map sent c.args.frames.now) c.requires.next c.as_slice.result.now
-    (subst (λ rs. AskAlike rs (map sent c.args.frames.now)) (sym c.as_slice.ensures.value) c.in-Ok.ensures.pairs) c.in-Err.number c.in-Err.ensures.answer c.stop_after.result c.stop_after.ensures
+    (subst (λ rs. AskAlike rs (map sent c.args.frames.now)) (sym c.as_slice.ensures.value) c.in-Ok.ensures.pairs) c.in-Err.number c.in-Err.ensures.answer c.in-Err.ensures.unchanged c.stop_after.result c.stop_after.ensures
 
 pub returns-in_default-bytes_of-clause-rests : goal.returns-in_default-bytes_of-clause-rests
 returns-in_default-bytes_of-clause-rests g c =

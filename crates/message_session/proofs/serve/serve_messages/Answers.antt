@@ -1,4 +1,4 @@
-use Rattle.std.proofs.Common.{◌≡◌, inl, inr, ◌++◌, refl, sym, ap, subst, ◌∙◌}
+use Rattle.std.proofs.Common.{inl, inr, ◌++◌, refl, sym, ap, subst, ◌∙◌}
 use Rattle.message_frames.specs.Frames.{position_bytes}
 use Rattle.message_session.specs.Account.{Account}
 use Rattle.message_session.specs.Answers.{answered_bytes}

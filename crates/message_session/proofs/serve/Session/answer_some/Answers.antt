@@ -1,4 +1,4 @@
-use Rattle.std.proofs.Common.{◌≡◌, ℕ, ◌<◌, List, length, map, drop, refl, sym, subst}
+use Rattle.std.proofs.Common.{◌≡◌, ℕ, ◌<◌, List, length, map, drop, sym, subst}
 use Rattle.std.specs.Borrow.{Bor}
 use Rattle.message_frames.specs.Frames.{AreFrames, sent}
 use Rattle.message_frames.specs.declared.frame.Frame.{Frame}
