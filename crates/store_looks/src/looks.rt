@@ -150,7 +150,7 @@ where
     M: MacroFunctions + Drop,
     O: Write,
     requires answers { M.answers macros }
-    requires may { (to : Bor Text) → looked.entry.look ≡ looking.Backup to → R.may rt.now to.now }
+    requires may { (to : Bor Text) → looked.look ≡ looking.Backup to → R.may rt.now to.now }
     ensures refused { IfErr result (λ _. output.new ≡ output.old) }
     ensures looks { LooksAt M.Meaning.functions macros
         (are_registered M.Meaning.functions (M.functions macros))
@@ -182,7 +182,7 @@ where
     M: MacroFunctions + Drop,
     O: Write,
     requires answers { M.answers macros }
-    requires may { (to : Bor Text) → looked.entry.look ≡ looking.Backup to → R.may rt.now to.now }
+    requires may { (to : Bor Text) → looked.look ≡ looking.Backup to → R.may rt.now to.now }
     requires room { (⟦<Sight as Disk>⟧.state sight).failures < 2 ^ 64 - 1 }
     ensures refused { IfErr result (λ _. output.new ≡ output.old) }
     ensures looks { MatchResult result
