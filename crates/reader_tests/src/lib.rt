@@ -3,17 +3,24 @@
 //!
 //! They are a crate of their own, so that the libraries are not proved again for the sake of their tests.
 //!
-//! - `readtables`: readtable_core
-//! - `macros`: user_macros
-//! - `tokens`: token_meaning
-//! - `reading`: form_reader
+//! - `readtables`: readtable_core; `packages`: package_table
+//! - `trial`: functions in each way of gathering, whose answers are at a limit or past it (`large`)
+//! - `calls`: form_reader, where a text calls them
+//! - `alike`: user_macros and fixed_macros beside one another
+//! - `reading`: form_reader, a byte at a time
 #![tactic(auto)]
 
 #[cfg(test)]
-mod macros;
+mod alike;
+#[cfg(test)]
+mod calls;
+#[cfg(test)]
+mod large;
+#[cfg(test)]
+mod packages;
 #[cfg(test)]
 mod reading;
 #[cfg(test)]
 mod readtables;
 #[cfg(test)]
-mod tokens;
+mod trial;

@@ -3,10 +3,10 @@ use readtable_core::{Case, FnName, Readtable};
 use std::alloc::{AllocError, Global};
 use std::test::Fail;
 
-// A readtable of this case, in which `!` dispatches and has SQUARE at `S`, and `%` has what `!` has.
-fn changed(alloc: Global, standard: &Readtable, letters: Case) -> Result<Readtable, AllocError> {
+// A readtable with INVERT, in which `!` dispatches and has SQUARE at `S`, and `%` has what `!` has.
+fn changed(alloc: Global, standard: &Readtable) -> Result<Readtable, AllocError> {
     let mut table = standard.copy(alloc)?;
-    table.set_case(letters);
+    table.set_case(Case::Invert);
     table.make_dispatch(b'!', true)?;
     let _ = table.set_dispatch(b'!', b's', FnName::new(b"SQUARE").unwrap());
     table.set_syntax_from_char(b'$', b'"', standard)?;
@@ -25,21 +25,24 @@ fn has_changed(copy: &Readtable, table: &Readtable, standard: &Readtable) -> boo
     true
 }
 
-// Whether the changes in this case are all in a copy.
-fn are_copied(alloc: Global, standard: &Readtable, letters: Case) -> Result<bool, AllocError> {
-    let table = changed(alloc, standard, letters)?;
-    let copy = table.copy(alloc)?;
-    Ok(
-        copy.case() == letters
-            && has_changed(&copy, &table, standard)
-            && copy.dispatch_of(b'%', b'S') == FnName::new(b"SQUARE")
-            && copy.macro_of(b'$') == FnName::new(b"STD-STRING"),
-    )
+// Whether a readtable has what was changed.
+fn has_functions(table: &Readtable) -> bool {
+    table.case() == Case::Invert
+        && table.dispatch_of(b'%', b'S') == FnName::new(b"SQUARE")
+        && table.macro_of(b'$') == FnName::new(b"STD-STRING")
 }
 
 #[test]
-fn changes_in_each_case(rt: HostRuntime) -> Result<(), Fail> {
+fn changes_are_copied(rt: HostRuntime) -> Result<(), Fail> {
     let standard = Readtable::standard(rt.alloc())?;
+    let table = changed(rt.alloc(), &standard)?;
+    let copy = table.copy(rt.alloc())?;
+    assert!(rt; has_changed(&copy, &table, &standard) && has_functions(&copy));
+    Ok(())
+}
+
+#[test]
+fn names_of_cases(rt: HostRuntime) {
     let cases: [(&[u8], Case); 4] = [
         (b"UPCASE", Case::Upcase),
         (b"DOWNCASE", Case::Downcase),
@@ -48,7 +51,5 @@ fn changes_in_each_case(rt: HostRuntime) -> Result<(), Fail> {
     ];
     for (name, letters) in cases {
         assert!(rt; Case::from_name(name) == Some(letters) && letters.name() == name);
-        assert!(rt; are_copied(rt.alloc(), &standard, letters)?, "{name:?}");
     }
-    Ok(())
 }

@@ -4,7 +4,7 @@ ghost use Rattle.lisp_object.specs.Object.{list_of, vector};
 ghost use Rattle.user_macros.specs.Calls.{answer_of, value};
 ghost use Rattle.reader_tests.specs.Large.{long_symbol, nested, ones};
 
-use super::trial::symbol;
+use crate::trial::symbol;
 use lisp_object::{Datum, Items};
 use std::alloc::{AllocError, Global};
 use user_macros::Answer;

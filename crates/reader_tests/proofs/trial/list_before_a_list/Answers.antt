@@ -1,10 +1,10 @@
-use Rattle.std.proofs.Common.{◌≡◌, Bool, true, false, not, ◌&&◌, nat_lt, List, length, Some, refl, ap, ◌∙◌}
+use Rattle.std.proofs.Common.{◌≡◌, Bool, true, false, ◌&&◌, nat_lt, List, length, Some, refl, ap, ◌∙◌}
 use Rattle.std.specs.List.{list_all}
 use Rattle.lisp_object.specs.declared.datum.Datum
 use Rattle.lisp_object.specs.declared.datum.Datum.{Datum}
 use Rattle.lisp_object.specs.Datum.{is_proper, is_list}
 use Rattle.lisp_object.proofs.Properness.{is_proper-dotted, is_list-List}
-use Rattle.reader_tests.proofs.reading.trial.list_before_a_list.Goals as goal
+use Rattle.reader_tests.proofs.trial.list_before_a_list.Goals as goal
 
 never : (a b p : Bool) → (a && b && (p && false)) ≡ false
 never false b p = refl

@@ -2,7 +2,7 @@ use Rattle.std.proofs.Common.{◌≡◌, true, map}
 use Rattle.std.specs.List.{list_all}
 use Rattle.lisp_object.specs.Datum.{is_proper, object_of}
 use Rattle.reader_tests.specs.Large.{ones}
-use Rattle.reader_tests.proofs.reading.large.too_large.Given as goal
+use Rattle.reader_tests.proofs.large.too_large.Given as goal
 
 abbrev pub invariant-loop : goal.invariant-loop
 invariant-loop l = record {

@@ -2,7 +2,7 @@ use Rattle.std.proofs.Common.{arith, ◌≡◌, refl, sym}
 use Rattle.lisp_object.proofs.Objects.{object_of-Vector}
 use Rattle.lisp_object.proofs.Properness.{is_proper-Vector}
 use Rattle.reader_tests.proofs.Larger.{no_ones, one_more, proper_with_one}
-use Rattle.reader_tests.proofs.reading.large.too_large.Goals as goal
+use Rattle.reader_tests.proofs.large.too_large.Goals as goal
 
 pub loop-init : goal.loop-init
 loop-init c = rw (c.new-items.ensures) record { objects = sym no_ones; proper = refl }

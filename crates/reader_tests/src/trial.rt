@@ -1,4 +1,5 @@
-//! A meaning of functions in each way of gathering, and of some that answer what may not be answered.
+//! Functions in each way of gathering. Their numeric argument tells what they answer: how much they gathered where there is none, and
+//! else also what may not be answered.
 ghost use Rattle.std.specs.Prelude.{◌≡◌, pos, true, IfOk, IsTrue};
 ghost use Rattle.readtable_core.specs.Names.{is_function_name};
 ghost use Rattle.std.specs.List.{list_all};
@@ -7,8 +8,10 @@ ghost use Rattle.lisp_object.specs.Datum.{is_proper, object_of};
 ghost use Rattle.lisp_object.specs.Object.{integer, nil, pair, symbol};
 ghost use Rattle.user_macros.specs.Calls.{answer_of, call_of, improper, value};
 ghost use Rattle.user_macros.specs.Sound.{IsSoundCall};
-ghost use Rattle.reader_tests.specs.Trial.{trial_functions, trial_names, later_rows, last_rows, way_among, count, named, wrapped};
+ghost use Rattle.reader_tests.specs.Trial.{answer_at, answered, count, large_at, named, symbol_at, trial_functions, trial_names, wrapped};
 
+use crate::large::{too_deep, too_large, too_long};
+use fixed_macros::Answering;
 use lisp_object::{Boxed, Bytes, Datum, Items};
 use readtable_core::FnName;
 use std::alloc::{AllocError, Global};
@@ -24,7 +27,7 @@ pub fn name_of(bytes: &[u8]) -> FnName
 
 #[derive(Drop)]
 pub struct Trial {
-    names: [FnName; 21],
+    names: [FnName; 7],
     ghost are: { names ≡ trial_names },
 }
 
@@ -39,20 +42,6 @@ impl Trial {
                 name_of(b"SAME"),
                 name_of(b"LINE"),
                 name_of(b"TOKEN"),
-                name_of(b"MUTE"),
-                name_of(b"LOW"),
-                name_of(b"ALIEN"),
-                name_of(b"NICKNAME"),
-                name_of(b"FRESH"),
-                name_of(b"HIGH"),
-                name_of(b"OWN"),
-                name_of(b"OTHER"),
-                name_of(b"IMPROPER"),
-                name_of(b"WRAP"),
-                name_of(b"NAME"),
-                name_of(b"DEEP"),
-                name_of(b"LONG"),
-                name_of(b"LARGE"),
             ],
         }
     }
@@ -88,72 +77,73 @@ impl Meaning for Trial {
         if b"LINE".as_slice() == name.as_bytes() {
             return Some(Gather::Line);
         }
-        later(name)
+        if b"TOKEN".as_slice() == name.as_bytes() {
+            return Some(Gather::Token);
+        }
+        None
     }
 }
 
-// The ways of the functions after these.
-fn later(name: FnName) -> Option<Gather>
-    ensures { result ≡ way_among later_rows name }
+impl Answering for Trial {
+    fn answer(&self, alloc: Global, _name: FnName, call: Call) -> Result<Answer, AllocError> {
+        respond(alloc, &call)
+    }
+}
+
+/// What a function of any of the names answers.
+pub fn respond(alloc: Global, call: &Call) -> Result<Answer, AllocError>
+    requires { IsSoundCall call.now }
+    ensures { IfOk result (λ a. answer_of a
+        ≡ answered (call_of call.now).number (call_of call.now).gathered) }
 {
-    if b"TOKEN".as_slice() == name.as_bytes() {
-        return Some(Gather::Token);
+    match call.number {
+        Some(number) => answer_at(alloc, number, call),
+        None => Ok(counted(call)),
     }
-    if b"MUTE".as_slice() == name.as_bytes() {
-        return Some(Gather::Token);
-    }
-    if b"LOW".as_slice() == name.as_bytes() {
-        return Some(Gather::Nothing);
-    }
-    if b"ALIEN".as_slice() == name.as_bytes() {
-        return Some(Gather::Nothing);
-    }
-    if b"NICKNAME".as_slice() == name.as_bytes() {
-        return Some(Gather::Nothing);
-    }
-    if b"FRESH".as_slice() == name.as_bytes() {
-        return Some(Gather::Nothing);
-    }
-    last(name)
 }
 
-// The ways of the last functions.
-fn last(name: FnName) -> Option<Gather>
-    ensures { result ≡ way_among last_rows name }
+fn answer_at(alloc: Global, number: u32, call: &Call) -> Result<Answer, AllocError>
+    requires { IsSoundCall call.now }
+    ensures { IfOk result (λ a. answer_of a ≡ answer_at number (call_of call.now).gathered) }
 {
-    if b"HIGH".as_slice() == name.as_bytes() {
-        return Some(Gather::Nothing);
+    match number {
+        1 => Ok(Answer::Refused(0)),
+        2 => Ok(Answer::Refused(65_535)),
+        3 => Ok(Answer::Nothing),
+        4 => Ok(empty_list(alloc)),
+        5 => list_before_a_list(alloc),
+        6 => wrapped(alloc, call),
+        7 => named(alloc, call),
+        _ => large_at(alloc, number),
     }
-    if b"OWN".as_slice() == name.as_bytes() {
-        return Some(Gather::Nothing);
-    }
-    if b"OTHER".as_slice() == name.as_bytes() {
-        return Some(Gather::Nothing);
-    }
-    if b"IMPROPER".as_slice() == name.as_bytes() {
-        return Some(Gather::Nothing);
-    }
-    if b"WRAP".as_slice() == name.as_bytes() {
-        return Some(Gather::Next);
-    }
-    if b"NAME".as_slice() == name.as_bytes() {
-        return Some(Gather::Text(b'}'));
-    }
-    if b"DEEP".as_slice() == name.as_bytes() {
-        return Some(Gather::Nothing);
-    }
-    if b"LONG".as_slice() == name.as_bytes() {
-        return Some(Gather::Nothing);
-    }
-    if b"LARGE".as_slice() == name.as_bytes() {
-        return Some(Gather::Nothing);
-    }
-    None
 }
 
-/// How much was gathered.
+fn large_at(alloc: Global, number: u32) -> Result<Answer, AllocError>
+    ensures { IfOk result (λ a. answer_of a ≡ large_at number) }
+{
+    match number {
+        8 => too_deep(alloc),
+        9 => too_long(alloc),
+        10 => too_large(alloc),
+        _ => symbol_at(alloc, number),
+    }
+}
+
+fn symbol_at(alloc: Global, number: u32) -> Result<Answer, AllocError>
+    ensures { IfOk result (λ a. answer_of a ≡ value (symbol_at number)) }
+{
+    match number {
+        11 => symbol(alloc, b"NOWHERE", b"X"),
+        12 => symbol(alloc, b"CL-USER", b"X"),
+        13 => symbol(alloc, b"COMMON-LISP-USER", b"X"),
+        14 => symbol(alloc, b"COMMON-LISP", b"X"),
+        _ => symbol(alloc, b"COMMON-LISP-USER", b"GET"),
+    }
+}
+
+// How much was gathered.
 #[tactic(auto, using(lisp_object::proofs::Objects::object_laws))]
-pub fn counted(call: &Call) -> Answer
+fn counted(call: &Call) -> Answer
     ensures { answer_of result ≡ value (integer (pos (count (call_of call.now).gathered))) }
 {
     let count = match &call.gathered {
@@ -177,8 +167,8 @@ pub fn symbol(alloc: Global, home: &[u8], name: &[u8]) -> Result<Answer, AllocEr
     }))
 }
 
-/// What was gathered, in two lists.
-pub fn wrapped(alloc: Global, call: &Call) -> Result<Answer, AllocError>
+// What was gathered, in two lists.
+fn wrapped(alloc: Global, call: &Call) -> Result<Answer, AllocError>
     requires { IsSoundCall call.now }
     ensures { IfOk result (λ a. answer_of a ≡ wrapped (call_of call.now).gathered) }
 {
@@ -202,9 +192,9 @@ fn listed(alloc: Global, datum: Datum) -> Result<Datum, AllocError>
     Ok(Datum::List { items, tail: None })
 }
 
-/// The symbol whose name was gathered.
+// The symbol whose name was gathered.
 #[tactic(auto, using(lisp_object::proofs::Sound::all_ascii))]
-pub fn named(alloc: Global, call: &Call) -> Result<Answer, AllocError>
+fn named(alloc: Global, call: &Call) -> Result<Answer, AllocError>
     requires { IsSoundCall call.now }
     ensures { IfOk result (λ a. answer_of a ≡ named (call_of call.now).gathered) }
 {
@@ -214,9 +204,9 @@ pub fn named(alloc: Global, call: &Call) -> Result<Answer, AllocError>
     }
 }
 
-/// A list without an item, which is not proper.
+// A list without an item, which is not proper.
 #[tactic(auto, using(lisp_object::proofs::Properness::proper_laws))]
-pub fn empty_list(alloc: Global) -> Answer
+fn empty_list(alloc: Global) -> Answer
     ensures { answer_of result ≡ improper }
 {
     Answer::One(Datum::List {
@@ -225,8 +215,8 @@ pub fn empty_list(alloc: Global) -> Answer
     })
 }
 
-/// A list whose tail is a list, which is not proper.
-pub fn list_before_a_list(alloc: Global) -> Result<Answer, AllocError>
+// A list whose tail is a list, which is not proper.
+fn list_before_a_list(alloc: Global) -> Result<Answer, AllocError>
     ensures { IfOk result (λ a. answer_of a ≡ improper) }
 {
     let mut items = Items::new(alloc);

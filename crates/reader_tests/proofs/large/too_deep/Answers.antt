@@ -3,7 +3,7 @@ use Rattle.lisp_object.specs.Object.{nil, pairs}
 use Rattle.lisp_object.specs.Datum.{object_of}
 use Rattle.lisp_object.proofs.Properness.{is_proper-Symbol}
 use Rattle.reader_tests.proofs.Larger.{no_lists, one_deeper}
-use Rattle.reader_tests.proofs.reading.large.too_deep.Goals as goal
+use Rattle.reader_tests.proofs.large.too_deep.Goals as goal
 
 pub loop-init : goal.loop-init
 loop-init c = rw (c.in_ok-datum.ensures) record {
