@@ -43,21 +43,45 @@ fn feed_again<D: Disk, M: MacroFunctions, I: Read, O: Write>(
     ended
 }
 
-/// What two sessions in a row write over fresh files.
+/// Two sessions in a row over the store that a disk holds, over these inputs.
+fn feed_both<D: Disk + Drop, M: MacroFunctions + Drop, I: Read, J: Read, O: Write>(
+    alloc: Global,
+    disk: D,
+    macros: M,
+    first: &mut I,
+    second: &mut J,
+    output: &mut O,
+) -> Result<(), AllocError>
+    requires room { (D.state disk).failures < 2 ^ 64 - 1 }
+    requires answers { M.answers macros }
+{
+    let Ok(mut store) = Store::open(alloc, disk, macros, AMPLE) else {
+        return Err(AllocError);
+    };
+    let _first = feed_again(alloc, &mut store, first, output);
+    let _second = feed_again(alloc, &mut store, second, output);
+    let _closed = store.close();
+    Ok(())
+}
+
+/// What they write over fresh files.
 fn written_by_both(alloc: Global, first: &[u8], second: &[u8]) -> Result<Vec<u8>, AllocError> {
     let disk = MemoryDisk::new(alloc);
     if disk.failures() > 0 {
         return Err(AllocError);
     }
-    let Ok(mut store) = Store::open(alloc, disk, Macros::new(alloc, NoFunctions), AMPLE) else {
-        return Err(AllocError);
-    };
     let mut output = Vec::new(alloc);
     let mut input = first;
-    let _first = feed_again(alloc, &mut store, &mut input, &mut output);
-    let mut input = second;
-    let _second = feed_again(alloc, &mut store, &mut input, &mut output);
-    let _closed = store.close();
+    let mut later = second;
+    let macros = Macros::new(alloc, NoFunctions);
+    feed_both(
+        alloc,
+        disk,
+        macros,
+        &mut input,
+        &mut later,
+        &mut output,
+    )?;
     Ok(output)
 }
 

@@ -1,4 +1,4 @@
-use Rattle.std.proofs.Common.{Ok, Err, sym, subst}
+use Rattle.std.proofs.Common.{Ok, Err, map, sym, subst}
 use Rattle.command_words.specs.LookLine.{AsksToLook}
 use Rattle.store_commands.specs.Status.{IsOfWords}
 use Rattle.store_commands.specs.declared.status.Status.{Status}
@@ -25,4 +25,4 @@ pub returns-in-Err-clause-looks : goal.returns-in-Err-clause-looks
 returns-in-Err-clause-looks g c = look_of_words _ _ _ _ _ _ _ _ _ c.end_with-in-Err.result (subst IsOfWords (sym c.end_with-in-Err.ensures.status) c.answer_words-status.ensures.of_words)
 
 pub look_at-requires-clause-may : goal.look_at-requires-clause-may
-look_at-requires-clause-may g c = λ to is. c.requires.may c.in-Ok.looked.folder.now to (subst (AsksToLook _ c.in-Ok.looked.folder.now) is c.in-Ok.ensures)
+look_at-requires-clause-may g c = λ to is. c.requires.may c.in-Ok.looked.folder.now to (subst (AsksToLook (map g.S.AsStr.text c.args.words.now) c.in-Ok.looked.folder.now) is c.in-Ok.ensures)
