@@ -57,7 +57,8 @@
 //! # Laws for the crates above
 //!
 //! - proofs/Surviving.antt: what calls survive, and how that joins (`one_world`, `still`).
-//! - proofs/calls/StreamLemmas.antt: known bytes of readers and writers. proofs/meaning/Replaying.antt: the replay of records.
+//! - proofs/calls/StreamLemmas.antt: known bytes of readers and writers. proofs/meaning/Replaying.antt: the replay of records;
+//!   proofs/meaning/Covering.antt: the world that files mean names known macro functions alone.
 //! - proofs/requests/Positions.antt: the position as a property (`position_put`, `position_out`). proofs/steps/Grouping.antt: forms
 //!   that are taken together.
 #![tactic(auto)]
