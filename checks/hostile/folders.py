@@ -6,7 +6,7 @@ import socket
 import stat
 import subprocess
 
-from store import DEVICE, Answer, want, without_cause
+from store import DEVICE, PATIENCE, Answer, want, without_cause
 
 SET = b"(SETF (GET 'A 'B) 8)\n(GET 'A 'B)\n"
 GET = b"(GET 'A 'B)\n"
@@ -33,7 +33,7 @@ class Folder:
         want(served == Answer(0, b"7\n", b""), "a new store:", served)
 
     def run(self, path=None, options=(), text=SET, **more):
-        done = subprocess.run([self.room.program, "run", path or self.path, *options], input=text, capture_output=True, timeout=120, **more)
+        done = subprocess.run([self.room.program, "run", path or self.path, *options], input=text, capture_output=True, timeout=PATIENCE, **more)
         self.told = done.stderr
         return Answer(done.returncode, done.stdout, without_cause(done.stderr))
 

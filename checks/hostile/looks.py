@@ -7,7 +7,7 @@ import shutil
 import signal
 import subprocess
 
-from store import Answer, library, want
+from store import PATIENCE, Answer, library, want
 
 # How the sessions are started that write: a form of the second and the third is followed by a snapshot, or each second one is.
 SESSIONS = [[], ["--group"], ["--snapshot-every", "1"], ["--snapshot-every", "2"]]
@@ -55,7 +55,7 @@ NUMBER = {"show": rb"^A N (\d+)$", "dump": rb"^\(\(A N (\d+)\)\)$", "export": rb
 
 
 def call(room, *words, **how):
-    done = subprocess.run([room.program, *words], stdin=subprocess.DEVNULL, capture_output=True, timeout=120, **how)
+    done = subprocess.run([room.program, *words], stdin=subprocess.DEVNULL, capture_output=True, timeout=PATIENCE, **how)
     return Answer(done.returncode, done.stdout, done.stderr)
 
 
@@ -178,7 +178,7 @@ def mounted_read_only(room):
 
     def there(*words):
         call = ["unshare", "-rm", "sh", "-c", READ_ONLY, "sh", place, room.store, os.path.abspath(room.program), words[0], "store", *words[1:]]
-        done = subprocess.run(call, stdin=subprocess.DEVNULL, capture_output=True, timeout=120)
+        done = subprocess.run(call, stdin=subprocess.DEVNULL, capture_output=True, timeout=PATIENCE)
         return Answer(done.returncode, done.stdout, done.stderr)
 
     looks = (["show"], ["log"], ["dump", "--existing"], ["verify", "--existing"], ["export", "--existing"], ["dump", "--at", "1"])

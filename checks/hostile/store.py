@@ -17,6 +17,9 @@ Session = collections.namedtuple("Session", "name words text base")
 # was left by one run is looked at once, though many runs leave it.
 Course = collections.namedtuple("Course", "session before ample after dumps looked")
 
+# Only a program that hangs is waited for so many seconds.
+PATIENCE = 600
+
 NO_MEMORY = b"! 90 NO-MEMORY\n"
 DEVICE = b"! 60 DEVICE\n"
 
@@ -219,7 +222,7 @@ class Room:
 
     def run(self, words, text=b"", environment=None):
         command, *options = words
-        done = subprocess.run([self.program, command, self.store, *options], input=text, capture_output=True, timeout=600,
+        done = subprocess.run([self.program, command, self.store, *options], input=text, capture_output=True, timeout=PATIENCE,
                               env=environment)
         return Answer(done.returncode, done.stdout, without_cause(done.stderr))
 
