@@ -193,6 +193,21 @@ class Room:
         shutil.rmtree(self.folder)
         shutil.rmtree(self.code)
 
+    def program_for(self, become):
+        """The program, or a copy, where who `become` makes of a process may start it: folders above it may be their owner's alone, and one in
+        memory may hold no code."""
+        for folder in (self.folder, self.code):
+            os.chmod(folder, 0o755)
+        for program in (self.program, os.path.join(self.folder, "program"), os.path.join(self.code, "program")):
+            if not os.path.exists(program):
+                shutil.copy(self.program, program)
+            try:
+                subprocess.run([program, "--version"], preexec_fn=become, capture_output=True, check=True)
+            except OSError:
+                continue
+            return program
+        raise Deviation("another user may start no copy of the program")
+
     def sweep(self):
         """Removes the folders that tests left, which were stopped."""
         for entry in os.scandir(self.folder):

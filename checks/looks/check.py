@@ -168,7 +168,7 @@ def main():
     words.add_argument("--room", help="where the store is made; in memory without it")
     words.add_argument("--seed", type=int, default=1)
     asked = words.parse_args()
-    room = tempfile.mkdtemp(prefix="looks-", dir=asked.room or ("/dev/shm" if os.path.isdir("/dev/shm") else None))
+    room = tempfile.mkdtemp(prefix="looks-", dir=asked.room or ("/dev/shm" if os.access("/dev/shm", os.W_OK | os.X_OK) else None))
     try:
         sessions = trial(os.path.abspath(asked.program), room, asked.looks, random.Random(asked.seed))
     except Deviation as deviation:
