@@ -139,7 +139,8 @@
 #+sbcl
 (defun a-store-that-is-let-go-is-closed ()
   (let-go)
-  (loop repeat 20
+  ;; its finalizer may run in a thread of its own, and a stack may still have the store for a while
+  (loop repeat 600
         do (sb-ext:gc :full t) (sleep 1/20)
         until (handler-case (progn (close-store (open-store :library (folder "let go"))) t) (fault () nil))
         finally (expect "a store that nobody has any more is closed" t

@@ -29,6 +29,8 @@ WORDS.add_argument("--worlds", type=int, default=1000, metavar="N")
 WORDS.add_argument("--seed", type=int, default=1, metavar="S", help="of the first random world")
 WORDS.add_argument("files", nargs="*", metavar="FILE")
 PLAYER = scripts.player()
+# A program and its store in memory each: so many at once at most, however many processors there are.
+AT_ONCE = min(4, len(os.sched_getaffinity(0)))
 
 
 def run(words, text=b""):
@@ -88,7 +90,7 @@ def played(named):
 
 ASKED = WORDS.parse_args()
 found = collections.Counter()
-with concurrent.futures.ThreadPoolExecutor(os.cpu_count()) as pool:
+with concurrent.futures.ThreadPoolExecutor(AT_ONCE) as pool:
     for came in pool.map(played, plays()):
         if came.startswith("DEVIATION"):
             print(came)

@@ -6,7 +6,7 @@ import socket
 import stat
 import subprocess
 
-from store import DEVICE, Answer, want, without_cause
+from store import DEVICE, PATIENCE, Answer, want, without_cause
 
 SET = b"(SETF (GET 'A 'B) 8)\n(GET 'A 'B)\n"
 GET = b"(GET 'A 'B)\n"
@@ -32,8 +32,9 @@ class Folder:
         served = self.run(text=b"(SETF (GET 'A 'B) 7)\n")
         want(served == Answer(0, b"7\n", b""), "a new store:", served)
 
-    def run(self, path=None, options=(), text=SET, **more):
-        done = subprocess.run([self.room.program, "run", path or self.path, *options], input=text, capture_output=True, timeout=120, **more)
+    def run(self, path=None, options=(), text=SET, program=None, **more):
+        words = [program or self.room.program, "run", path or self.path, *options]
+        done = subprocess.run(words, input=text, capture_output=True, timeout=PATIENCE, **more)
         self.told = done.stderr
         return Answer(done.returncode, done.stdout, without_cause(done.stderr))
 
@@ -137,7 +138,7 @@ def rights(folder):
         os.setgid(NOBODY)
         os.setuid(NOBODY)
 
-    os.chmod(folder.room.folder, 0o755)
+    program = folder.room.program_for(nobody)
     for name, of_folder, of_a, of_b, wanted, after in (
         ("nothing may be written", 0o555, 0o444, 0o444, FAULT, b"7\n"),
         ("half B may not be written", 0o777, 0o666, 0o444, FAULT, b"7\n"),
@@ -152,7 +153,7 @@ def rights(folder):
         else:
             os.chmod(folder.b, of_b)
         os.chmod(folder.path, of_folder)
-        got = folder.run(preexec_fn=nobody)
+        got = folder.run(program=program, preexec_fn=nobody)
         os.chmod(folder.path, 0o755)
         yield name, got, wanted, after
 

@@ -7,7 +7,7 @@ import signal
 import subprocess
 import time
 
-from store import DEVICE, OUTPUT, Answer, message, want, without_cause
+from store import DEVICE, OUTPUT, PATIENCE, Answer, message, want, without_cause
 
 NEW_STORE = 154
 HALF_LIMIT = 1_073_741_824
@@ -40,7 +40,7 @@ def closed_streams(room):
         feeds = 0 not in closed
         child = subprocess.Popen([room.program, "run", room.store], stdin=subprocess.PIPE if feeds else None, stdout=subprocess.PIPE,
                                  stderr=subprocess.PIPE, preexec_fn=lambda: [os.close(number) for number in closed])
-        child.communicate(b"(GET 'A 'N)\n(FROB)\n" if feeds else None, timeout=60)
+        child.communicate(b"(GET 'A 'N)\n(FROB)\n" if feeds else None, timeout=PATIENCE)
         want(child.returncode >= 0, "with", closed, "closed it ended by signal", -child.returncode)
         # a form that is accepted and writes is logged; all else stays, but the gate that it opens
         for old, new in zip(before, room.files()):
@@ -56,7 +56,7 @@ def reader_gone(room):
     os.close(read)
     child = subprocess.Popen([room.program, "run", room.store], stdin=subprocess.PIPE, stdout=write, stderr=subprocess.PIPE)
     os.close(write)
-    _, faults = child.communicate(form(1) + form(2), timeout=60)
+    _, faults = child.communicate(form(1) + form(2), timeout=PATIENCE)
     want((child.returncode, faults) == (3, OUTPUT), "nobody reads:", child.returncode, faults)
     want(count_in(room) in (0, 1), "nobody reads: the world")
     return 1
@@ -66,7 +66,7 @@ def two_processes(room):
     """A second process on the folder is refused; the first one goes on, and nothing of it is lost."""
     room.put(None)
     first = subprocess.Popen([room.program, "run", room.store], stdin=subprocess.PIPE, stdout=subprocess.PIPE, stderr=subprocess.PIPE)
-    half, end = os.path.join(room.store, "half-a"), time.monotonic() + 60
+    half, end = os.path.join(room.store, "half-a"), time.monotonic() + PATIENCE
     while not (os.path.exists(half) and os.path.getsize(half) == NEW_STORE) and time.monotonic() < end:
         time.sleep(0.01)
     for number in (1, 2):
@@ -74,7 +74,7 @@ def two_processes(room):
         want(second == Answer(3, b"", DEVICE), "the second process:", second)
         first.stdin.write(form(number))
         first.stdin.flush()
-    answers, faults = first.communicate(timeout=60)
+    answers, faults = first.communicate(timeout=PATIENCE)
     want((first.returncode, answers, faults) == (0, b"1\n2\n", b""), "the first process:", first.returncode, answers, faults)
     want(count_in(room) == 2, "what the first process stored")
     return 2
@@ -90,7 +90,7 @@ def no_room(room):
         resource.setrlimit(resource.RLIMIT_FSIZE, (size + more, size + more))
 
     for more in (0, 1, 5, 20):
-        done = subprocess.run([room.program, "run", room.store], input=form(9), capture_output=True, timeout=60,
+        done = subprocess.run([room.program, "run", room.store], input=form(9), capture_output=True, timeout=PATIENCE,
                               preexec_fn=lambda: bound(more))
         got = Answer(done.returncode, done.stdout, without_cause(done.stderr))
         want(got == Answer(3, b"", DEVICE), more, "bytes of room:", got)
@@ -167,7 +167,7 @@ def killed(room, times):
             child.kill()
             with child.stdout:
                 lines = (b"".join(seen) + child.stdout.read()).split(b"\n")[:-1]
-            child.wait(60)
+            child.wait(PATIENCE)
             want(lines == [b"%d" % (stored + number + 1) for number in range(len(lines))], "kill", turn, lines[-3:])
             answered, found = stored + len(lines), count_in(room)
             want(answered <= found <= answered + 1, "kill", turn, answered, "answered,", found, "found")

@@ -7,7 +7,7 @@ import shutil
 import signal
 import subprocess
 
-from store import Answer, library, want
+from store import PATIENCE, Answer, library, want
 
 # How the sessions are started that write: a form of the second and the third is followed by a snapshot, or each second one is.
 SESSIONS = [[], ["--group"], ["--snapshot-every", "1"], ["--snapshot-every", "2"]]
@@ -55,7 +55,7 @@ NUMBER = {"show": rb"^A N (\d+)$", "dump": rb"^\(\(A N (\d+)\)\)$", "export": rb
 
 
 def call(room, *words, **how):
-    done = subprocess.run([room.program, *words], stdin=subprocess.DEVNULL, capture_output=True, timeout=120, **how)
+    done = subprocess.run([room.program, *words], stdin=subprocess.DEVNULL, capture_output=True, timeout=PATIENCE, **how)
     return Answer(done.returncode, done.stdout, done.stderr)
 
 
@@ -145,12 +145,10 @@ def without_rights(room):
             os.setgid(NOBODY)
             os.setuid(NOBODY)
 
-    os.chmod(room.folder, 0o755)
+    program, runs = room.program_for(nobody), 0
     os.chmod(room.store, 0o555)
     for half in ("half-a", "half-b"):
         os.chmod(os.path.join(room.store, half), 0o444)
-    program = shutil.copy(room.program, room.path("program"))
-    runs = 0
     for words in (["show"], ["info"], ["log"], ["dump", "--existing"], ["verify", "--existing"], ["export", "--existing"], ["dump", "--at", "0"]):
         done = subprocess.run([program, words[0], room.store, *words[1:]], capture_output=True, preexec_fn=nobody)
         want((done.returncode, done.stderr) == (0, b""), words, "without the right to write:", done)
@@ -158,27 +156,28 @@ def without_rights(room):
     done = subprocess.run([program, "verify", room.store], capture_output=True, preexec_fn=nobody)
     want(done.returncode == 3, "verify without --existing, without the right to write:", done)
     os.chmod(room.store, 0o755)
-    os.unlink(program)
     return runs + 1
 
 
-# Mounts a file system of its own, puts a store into it, and calls the program over that once nothing may be written there.
+# Mounts a file system of its own, puts a store into it, and calls the program over that once nothing may be written there; and the mounts alone.
+MOUNTS = """mount -t tmpfs none "$1" && mount -o remount,ro "$1\""""
 READ_ONLY = """mount -t tmpfs none "$1" && cp -r "$2" "$1/store" && mount -o remount,ro "$1" && cd "$1" && shift 2 && exec "$@\""""
 
 
 def mounted_read_only(room):
     """On a file system that is mounted to be read alone each look tells what it tells elsewhere, and what writes is 60. It wants a namespace of
-    its own, which some systems allow to nobody."""
-    if shutil.which("unshare") is None or subprocess.run(["unshare", "-rm", "true"], capture_output=True).returncode:
+    its own, and to mount in it, which some systems allow to nobody."""
+    place = room.path("mounted")
+    os.mkdir(place)
+    if shutil.which("unshare") is None or subprocess.run(["unshare", "-rm", "sh", "-c", MOUNTS, "sh", place], capture_output=True).returncode:
+        os.rmdir(place)
         return 0
     room.put(None)
     subprocess.run([room.program, "run", room.store], input=b"(SETF (GET 'A 'N) 1)\n", capture_output=True)
-    place = room.path("mounted")
-    os.mkdir(place)
 
     def there(*words):
         call = ["unshare", "-rm", "sh", "-c", READ_ONLY, "sh", place, room.store, os.path.abspath(room.program), words[0], "store", *words[1:]]
-        done = subprocess.run(call, stdin=subprocess.DEVNULL, capture_output=True, timeout=120)
+        done = subprocess.run(call, stdin=subprocess.DEVNULL, capture_output=True, timeout=PATIENCE)
         return Answer(done.returncode, done.stdout, done.stderr)
 
     looks = (["show"], ["log"], ["dump", "--existing"], ["verify", "--existing"], ["export", "--existing"], ["dump", "--at", "1"])

@@ -50,7 +50,9 @@ def outcomes(room, folder, name, step, loaded, most, before_it):
     shutil.copytree(folder, before)
 
     def tried(number):
-        status, out, err = step.answer(room.program, folder, {"LD_PRELOAD": loaded, "GROWTH_AT": str(number), "GROWTH_LOG": log})
+        # how often it asks for memory goes by the pieces of its input too
+        environment = {"LD_PRELOAD": loaded, "GROWTH_AT": str(number), "GROWTH_LOG": log}
+        status, out, err = step.answer(room.program, folder, environment, by_file=True)
         shutil.rmtree(folder)
         shutil.copytree(before, folder)
         return Answer(status, out, without_cause(err)), logged(log)

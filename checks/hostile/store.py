@@ -17,6 +17,9 @@ Session = collections.namedtuple("Session", "name words text base")
 # was left by one run is looked at once, though many runs leave it.
 Course = collections.namedtuple("Course", "session before ample after dumps looked")
 
+# Only a program that hangs is waited for so many seconds.
+PATIENCE = 600
+
 NO_MEMORY = b"! 90 NO-MEMORY\n"
 DEVICE = b"! 60 DEVICE\n"
 
@@ -190,6 +193,21 @@ class Room:
         shutil.rmtree(self.folder)
         shutil.rmtree(self.code)
 
+    def program_for(self, become):
+        """The program, or a copy, where who `become` makes of a process may start it: folders above it may be their owner's alone, and one in
+        memory may hold no code."""
+        for folder in (self.folder, self.code):
+            os.chmod(folder, 0o755)
+        for program in (self.program, os.path.join(self.folder, "program"), os.path.join(self.code, "program")):
+            if not os.path.exists(program):
+                shutil.copy(self.program, program)
+            try:
+                subprocess.run([program, "--version"], preexec_fn=become, capture_output=True, check=True)
+            except OSError:
+                continue
+            return program
+        raise Deviation("another user may start no copy of the program")
+
     def sweep(self):
         """Removes the folders that tests left, which were stopped."""
         for entry in os.scandir(self.folder):
@@ -219,7 +237,7 @@ class Room:
 
     def run(self, words, text=b"", environment=None):
         command, *options = words
-        done = subprocess.run([self.program, command, self.store, *options], input=text, capture_output=True, timeout=600,
+        done = subprocess.run([self.program, command, self.store, *options], input=text, capture_output=True, timeout=PATIENCE,
                               env=environment)
         return Answer(done.returncode, done.stdout, without_cause(done.stderr))
 

@@ -3,7 +3,7 @@ import collections
 import os
 import subprocess
 
-from store import library, logged, want
+from store import PATIENCE, library, logged, want
 
 CRATES = ("log_tests", "program_tests", "reader_tests", "world_tests")
 
@@ -51,7 +51,7 @@ def places(total, most):
 def tried(room, path, test, environment):
     """A run of one test, whose files go into the room."""
     environment = {"TMPDIR": room.folder, **environment}
-    return subprocess.run([path, test], capture_output=True, timeout=600, cwd=room.folder, env=environment)
+    return subprocess.run([path, test], capture_output=True, timeout=PATIENCE, cwd=room.folder, env=environment)
 
 
 def growths(room, path, test, loaded):

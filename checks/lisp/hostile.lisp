@@ -138,7 +138,7 @@ lines" |a b| #\( (3 . 4) #(5 6) unwound)))
 
 (defun hang (store)
   "Stops the program, as a device that hangs does."
-  (uiop:run-program (list "kill" "-STOP" (princ-to-string (uiop:process-info-pid (store-process store))))))
+  (uiop:run-program (list "sh" "-c" (format nil "kill -STOP ~D" (uiop:process-info-pid (store-process store))))))
 
 (define-check a-kill-loses-nothing-that-was-answered ()
   (with-new-store (store "killed")

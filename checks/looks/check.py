@@ -15,6 +15,8 @@ import tempfile
 import threading
 
 KEYS = 40
+# only a program that hangs is waited for so many seconds
+PATIENCE = 600
 # how a session is started: its words, how long the texts are that make the files long, and how many forms it is sent at most
 SESSIONS = [
     (["--snapshot-every", "1"], 0, 1_000_000),
@@ -82,7 +84,7 @@ class Writer(threading.Thread):
 
 
 def call(program, *words):
-    done = subprocess.run([program, *words], stdin=subprocess.DEVNULL, stdout=subprocess.PIPE, stderr=subprocess.PIPE, timeout=120)
+    done = subprocess.run([program, *words], stdin=subprocess.DEVNULL, stdout=subprocess.PIPE, stderr=subprocess.PIPE, timeout=PATIENCE)
     return done.returncode, done.stdout.decode(), done.stderr.decode()
 
 
@@ -166,11 +168,11 @@ def main():
     words.add_argument("--room", help="where the store is made; in memory without it")
     words.add_argument("--seed", type=int, default=1)
     asked = words.parse_args()
-    room = tempfile.mkdtemp(prefix="looks-", dir=asked.room or ("/dev/shm" if os.path.isdir("/dev/shm") else None))
+    room = tempfile.mkdtemp(prefix="looks-", dir=asked.room or ("/dev/shm" if os.access("/dev/shm", os.W_OK | os.X_OK) else None))
     try:
         sessions = trial(os.path.abspath(asked.program), room, asked.looks, random.Random(asked.seed))
     except Deviation as deviation:
-        print(f"looks: {deviation}\n0 passed, 1 failed")
+        print(f"looks: seed {asked.seed}: {deviation}\n0 passed, 1 failed")
         return 1
     finally:
         shutil.rmtree(room, ignore_errors=True)

@@ -6,8 +6,8 @@ import signal
 import subprocess
 import threading
 
-LIMIT = 60.0
-"""As many seconds as no answer takes."""
+LIMIT = 600.0
+"""As many seconds as no answer takes, on a slow machine either."""
 
 
 def message(number, text):

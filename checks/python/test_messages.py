@@ -2,6 +2,7 @@
 
 from __future__ import annotations
 
+import contextlib
 import os
 import random
 import signal
@@ -64,7 +65,9 @@ class Messages(StoreTest):
             while not done.wait(chance.random() * 0.3):
                 pid = store.pid
                 if pid:
-                    os.kill(pid, signal.SIGKILL)
+                    # (it may have been killed before, and have ended since)
+                    with contextlib.suppress(ProcessLookupError):
+                        os.kill(pid, signal.SIGKILL)
 
         killer = threading.Thread(target=kill)
         killer.start()

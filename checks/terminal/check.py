@@ -81,13 +81,31 @@ def check(name, got, want):
         print(f"{name}:\n  got  {got!r}\n  want {want!r}")
 
 
-def waits(process):
-    """Waits until the process waits for a stream."""
+def waits(process, state="S"):
+    """Waits until the process waits for a stream, or is in another state."""
     for _ in range(PATIENCE * 10):
         with open(f"/proc/{process.pid}/stat", encoding="ascii") as file:
-            if file.read().rsplit(")", 1)[1].split()[0] == "S":
+            if file.read().rsplit(")", 1)[1].split()[0] == state:
                 return
         time.sleep(0.1)
+
+
+def stops_and_goes_on(process):
+    """Stops the process where it waits for a stream, and lets it go on."""
+    waits(process)
+    process.send_signal(signal.SIGSTOP)
+    waits(process, "T")
+    process.send_signal(signal.SIGCONT)
+
+
+def rest_of(master):
+    """What the programs that had a terminal have written to it, once they have ended."""
+    text = b""
+    while True:
+        try:
+            text += os.read(master, 65536)
+        except OSError:
+            return text.decode()
 
 
 def interrupted(folder):
@@ -101,15 +119,12 @@ def interrupted(folder):
     near.sendall(b"(GET 'A 'B)\n")
     answers = near.recv(2)
     for text in (b"(GET 'A 'B)\n", b"#(%s)\n" % (b'"%s"' % (b"x" * 999_000))):
-        waits(process)
-        process.send_signal(signal.SIGSTOP)
-        process.send_signal(signal.SIGCONT)
+        stops_and_goes_on(process)
         near.sendall(text)
-    # the second answer is longer than the socket holds: the program waits in its write
-    time.sleep(1)
-    waits(process)
-    process.send_signal(signal.SIGSTOP)
-    process.send_signal(signal.SIGCONT)
+    # the last answer is longer than the socket holds: once it has begun, the program waits in its write
+    while len(answers) < 5 and (more := near.recv(5 - len(answers))):
+        answers += more
+    stops_and_goes_on(process)
     near.shutdown(socket.SHUT_WR)
     while more := near.recv(65536):
         answers += more
@@ -123,22 +138,20 @@ def told_at_terminal(folder, *words, answers):
     stdout = slave if answers else subprocess.PIPE
     process = subprocess.Popen([program, "run", folder, *words], stdin=subprocess.PIPE, stdout=stdout, stderr=slave)
     os.close(slave)
-    for _ in range(4):
+    found = b""
+    for number in range(1, 5):
         process.stdin.write(b"(GET 'A 'B)\n")
         process.stdin.flush()
+        # its second begins when it does: with the first answer at the latest
+        while found.count(b"9") < number and (more := os.read(master if answers else process.stdout.fileno(), 65536)):
+            found += more
         time.sleep(0.6)
     process.stdin.write(b")\n")
     process.stdin.close()
     process.wait(timeout=PATIENCE)
-    text = b""
-    while True:
-        try:
-            more = os.read(master, 65536)
-        except OSError:
-            break
-        text += more
+    text = (found if answers else b"").decode() + rest_of(master)
     os.close(master)
-    return text.decode()
+    return text
 
 
 def load(folder):
@@ -161,7 +174,7 @@ def long_opening(folder):
         master, slave = pty.openpty()
         process = subprocess.Popen([program, *words], stdin=subprocess.DEVNULL, stdout=subprocess.PIPE, stderr=slave)
         os.close(slave)
-        check(f"a long opening: {words[0]}", (process.communicate()[0], os.read(master, 65536).decode()), (answers, told))
+        check(f"a long opening: {words[0]}", (process.communicate()[0], rest_of(master)), (answers, told))
         os.close(master)
     silent = subprocess.run([program, "verify", folder], capture_output=True)
     check("a long opening without a terminal", (silent.stdout, silent.stderr), (b"half A generation 1 records 7\n", b""))

@@ -122,7 +122,8 @@ class MessageStore:
     @property
     def pid(self) -> int | None:
         """The number of the program's process."""
-        return self._program.process.pid if self._program else None
+        program = self._program  # another thread may take it for an exchange
+        return program.process.pid if program else None
 
     def __enter__(self) -> MessageStore:
         return self
