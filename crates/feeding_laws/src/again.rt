@@ -74,14 +74,7 @@ fn written_by_both(alloc: Global, first: &[u8], second: &[u8]) -> Result<Vec<u8>
     let mut input = first;
     let mut later = second;
     let macros = Macros::new(alloc, NoFunctions);
-    feed_both(
-        alloc,
-        disk,
-        macros,
-        &mut input,
-        &mut later,
-        &mut output,
-    )?;
+    feed_both(alloc, disk, macros, &mut input, &mut later, &mut output)?;
     Ok(output)
 }
 
