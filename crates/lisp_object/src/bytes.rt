@@ -70,19 +70,6 @@ impl Bytes {
         })
     }
 
-    /// Bytes equal to these.
-    pub fn copy(&self, alloc: Global) -> Result<Bytes, AllocError>
-        ensures { IfOk result (λ b. b ≡ self.now) }
-    {
-        match &self.kept {
-            Kept::Short(bytes) => Ok(Bytes {
-                kept: Kept::Short(bytes.copy()),
-            }),
-            Kept::User => Ok(Bytes { kept: Kept::User }),
-            Kept::Long(bytes) => Bytes::long(Vec::from_slice(alloc, bytes.as_slice())?),
-        }
-    }
-
     /// The bytes.
     pub fn as_slice(&self) -> &[u8]
         ensures { result.now ≡ self.now }
@@ -114,6 +101,23 @@ fn in_place(bytes: &[u8]) -> Option<Kept>
         return Some(Kept::User);
     }
     None
+}
+
+impl Clone for Bytes {
+    ghost is_clone = { λ b copy. copy ≡ b };
+
+    fn clone(&self) -> Result<Bytes, AllocError> {
+        match &self.kept {
+            Kept::Short(bytes) => Ok(Bytes {
+                kept: Kept::Short(bytes.copy()),
+            }),
+            Kept::User => Ok(Bytes { kept: Kept::User }),
+            Kept::Long(bytes) => {
+                let vec = Vec::from_slice(*bytes.allocator(), bytes.as_slice())?;
+                Bytes::long(vec)
+            }
+        }
+    }
 }
 
 impl PartialEq for Bytes {

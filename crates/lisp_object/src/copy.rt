@@ -14,12 +14,12 @@ impl Datum {
             Datum::Integer(n) => Ok(Datum::Integer(*n)),
             Datum::Rational(ratio) => Ok(Datum::Rational(*ratio)),
             Datum::Char(c) => Ok(Datum::Char(*c)),
-            Datum::Text(bytes) => Ok(Datum::Text(bytes.copy(alloc)?)),
+            Datum::Text(bytes) => Ok(Datum::Text(bytes.clone()?)),
             Datum::Symbol { package, name } => Ok(Datum::Symbol {
-                package: package.copy(alloc)?,
-                name: name.copy(alloc)?,
+                package: package.clone()?,
+                name: name.clone()?,
             }),
-            Datum::Uninterned(name) => Ok(Datum::Uninterned(name.copy(alloc)?)),
+            Datum::Uninterned(name) => Ok(Datum::Uninterned(name.clone()?)),
             Datum::List { items, tail } => Ok(Datum::List {
                 items: copy_items(alloc, items)?,
                 tail: copy_tail(alloc, tail)?,

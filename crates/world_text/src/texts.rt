@@ -48,7 +48,7 @@ pub(crate) fn texts_of(alloc: Global, names: &[Bytes]) -> Result<Datum, AllocErr
 {
     let mut items = Vec::new(alloc);
     for name in names {
-        items.push(Datum::Text(name.copy(alloc)?))?;
+        items.push(Datum::Text(name.clone()?))?;
     }
     Datum::list(alloc, items, None)
 }
@@ -60,8 +60,8 @@ fn import_of(alloc: Global, name: &Bytes, home: &Bytes) -> Result<Datum, AllocEr
         → IfOk result (λ d. is_proper d ≡ true) }
 {
     let mut items = Vec::new(alloc);
-    items.push(Datum::Text(name.copy(alloc)?))?;
-    items.push(Datum::Text(home.copy(alloc)?))?;
+    items.push(Datum::Text(name.clone()?))?;
+    items.push(Datum::Text(home.clone()?))?;
     Datum::list(alloc, items, None)
 }
 
