@@ -63,9 +63,7 @@ fn is_symbol(datum: &Datum, home: &Bytes, name: &Bytes) -> bool
         Datum::Symbol {
             package: other_home,
             name: other_name,
-        } => {
-            home.as_slice() == other_home.as_slice() && name.as_slice() == other_name.as_slice()
-        }
+        } => home == other_home && name == other_name,
         _ => false,
     }
 }
