@@ -1,5 +1,5 @@
 //! Slots, as a row keeps them.
-ghost use Rattle.std.specs.Prelude.{◌≡◌, ◌+◌, ◌-◌, ◌<◌, ◌≤◌, ◌==◌, true, not, [], ◌∷◌, ◌++◌, map, length, take, is_ok, if◌then◌else◌, IfSome, IsOk, slice_index_or, slice_set, vec_capacity};
+ghost use Rattle.std.specs.Prelude.{◌≡◌, ◌+◌, ◌-◌, ◌<◌, ◌≤◌, ◌==◌, true, false, not, [], ◌∷◌, ◌++◌, map, length, take, is_ok, if◌then◌else◌, IfSome, IsOk, slice_index_or, slice_set, vec_capacity};
 ghost use Rattle.std.specs.List.{filter, position, insert, remove};
 ghost use Rattle.property_rows.specs.Vacant.{IsVacant};
 ghost use Rattle.property_rows.specs.Slots.{IsSlots, gone_in, slot_at, is_gone, property_in, there, uncounted, packed, blank, no_property, has, with_value, most};
@@ -205,6 +205,7 @@ pub(crate) fn append(slots: &mut Vec<Slot>, property: NumberedProperty) -> Resul
 /// Takes the last slot away, in which a property is.
 pub(crate) fn drop_last(slots: &mut Vec<Slot>)
     requires slots { IsSlots slots.old.items }
+    requires some { 0 < length slots.old.items }
     requires last { is_gone (slice_index_or slots.old.items (length slots.old.items - 1) blank) ≡ false }
     ensures slots { IsSlots slots.new.items }
     ensures items { there slots.new.items ≡ take (length (there slots.old.items) - 1) (there slots.old.items) }
