@@ -58,6 +58,17 @@ pub(crate) enum Note {
 }
 
 impl Note {
+    /// The number of the symbol of whose list this took a property out.
+    pub(crate) fn shortens(&self) -> Option<u32> {
+        match self {
+            Note::Property { number, change } => match change {
+                PropertyChange::Removed { .. } => Some(*number),
+                _ => None,
+            },
+            _ => None,
+        }
+    }
+
     /// Whether the readtable of this name is gone, or an earlier one, where this is undone, whatever was made of it since.
     pub(crate) fn restores(&self, name: &[u8]) -> bool
         ensures { result ≡ restores name.now self.now }

@@ -86,11 +86,10 @@ fn next_order(row: &Row) -> Result<u64, AllocError>
     ensures { IfOk result (λ next. IsRising (orders row.now.items)
         → (k : ℕ) → k < length row.now.items → (nth (orders row.now.items) k).1 < next) }
 {
-    let count = row.len();
-    if count == 0 {
+    if row.is_empty() {
         return Ok(0);
     }
-    match row.order(count - 1).checked_add(1) {
+    match row.last_order().checked_add(1) {
         Some(next) => Ok(next),
         None => Err(AllocError),
     }
@@ -225,18 +224,12 @@ fn fits(
     is_between(row, index, property.order)
 }
 
-// Gives an index the order of an indicator, if it has one, and tells whether it has.
+// Gives an index the order of an indicator, and tells whether it knows it now. It asks for memory only where it did not know one.
 fn set_order(index: &mut Index, indicator: u32, order: u64) -> bool
     ensures { result ≡ true → (q : ℕ) → order_in index.new.entries q
         ≡ cond (eq_by_cmp nat_cmp q indicator) (Some order) (order_in index.old.entries q) }
 {
-    match index.get_mut(&indicator) {
-        Some(known) => {
-            *known = order;
-            true
-        }
-        None => false,
-    }
+    index.insert(indicator, order).is_ok()
 }
 
 /// A property comes back to a place of the row of a number: its index knows it then. Where it does not fit, the row has no

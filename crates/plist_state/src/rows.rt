@@ -349,3 +349,17 @@ pub(crate) fn take_back(
         revert(row, indexes, number, change);
     }
 }
+
+/// Moves the properties of the symbol of a number together, if many were taken out between them. What was taken out cannot be
+/// taken back in its place then.
+pub(crate) fn tidy(rows: &mut BTreeMap<u32, Row>, number: u32)
+    requires { IsProperRows rows.old.entries }
+    ensures same { lists_of rows.new ≡ lists_of rows.old }
+    ensures wider { IsWider rows.old.entries rows.new.entries }
+    ensures indexed { (indexes : _) → AreIndexed rows.old.entries indexes
+        → AreIndexed rows.new.entries indexes }
+{
+    if let Some(row) = rows.get_mut(&number) {
+        row.tidy();
+    }
+}

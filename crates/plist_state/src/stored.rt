@@ -174,6 +174,24 @@ pub(crate) fn remove(
     else {
         unreachable!()
     };
+    if marks.is_empty() {
+        rows::tidy(&mut stored.properties, number);
+    }
     push_note(marks, Note::Property { number, change });
     Ok(true)
+}
+
+/// Moves what is left of the property lists together from which these notes took properties out.
+pub(crate) fn tidy(stored: &mut Stored, notes: &[Note])
+    requires values { IsProperRows stored.old.properties.entries }
+    requires indexed { AreIndexed stored.old.properties.entries stored.old.indexes.entries }
+    ensures same { rest_of stored.new ≡ rest_of stored.old }
+    ensures wider { IsWider stored.old.properties.entries stored.new.properties.entries }
+    ensures indexed { AreIndexed stored.new.properties.entries stored.new.indexes.entries }
+{
+    for note in notes {
+        if let Some(number) = note.shortens() {
+            rows::tidy(&mut stored.properties, number);
+        }
+    }
 }

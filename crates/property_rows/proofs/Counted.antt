@@ -6,14 +6,16 @@
 --     in_front, in_middle, behind      where a property is: before it, there, or after it
 --     counted-any, tree-any, whole-half, tree-half, tree-join      a tree of any size that the slots fit
 --     tree-nil, whole-double, next_middle, next_half, next_lower, after_long      one slot more
+--     gone_under, place_behind      how many are gone before a place
+--     slots-front      a slot less
 use Rattle.std.proofs.Common.{◌≡◌, ℕ, zero, suc, ◌+◌, ◌/◌, ◌%◌, ◌≤◌, ◌<◌, ◌-◌, ◌*◌, true, false, cond, List, [], ◌∷◌, ◌++◌, length, take, drop, refl, sym, ap, subst, ◌∙◌, arith}
 use Rattle.std.proofs.lemmas.Bool.Decides.{nat_tests}
 use Rattle.std.proofs.Math.ListN.{drop_of_length-le}
-use Rattle.std.proofs.Math.Seq.{take-append_seam, drop-append_seam}
+use Rattle.std.proofs.Math.Seq.{take-append_seam, drop-append_seam, take-append-add}
 use Rattle.std.proofs.lemmas.List.{take-append-drop, length-append, length-take-le, length-drop, length_push, append_assoc}
 use Rattle.std.specs.List.{slice_index_or}
 use Rattle.property_rows.specs.declared.slot.Slot.{Slot}
-use Rattle.property_rows.specs.Slots.{is_gone, property_in, there, gone_in, slot_at, full, IsNode, IsCounted, IsTree, IsWhole}
+use Rattle.property_rows.specs.Slots.{is_gone, property_in, there, gone_in, slot_at, full, IsNode, IsCounted, IsTree, IsWhole, IsSlots}
 
 pub there-append : (a b : List Slot) → there (a ++ b) ≡ there a ++ there b
 there-append [] b = refl
@@ -338,3 +340,64 @@ next_lower size slots s less tree next =
 
 pub after_long : (k : ℕ) (slots : List Slot) → length (take (length slots - (k + 1)) (drop (k + 1) slots)) ≡ length slots - suc k
 after_long k slots = ap length (after_is k slots) ∙ length-drop (suc k) slots
+
+-- ---- how many are gone before a place
+pub gone_under : (slots : List Slot) (k : ℕ) → k ≤ length slots → length (there (take k slots)) + gone_in (take k slots) ≡ k
+gone_under slots k le = there_and_gone (take k slots) ∙ length-take-le k slots le
+
+pub place_behind : (size : ℕ) (slots : List Slot) (s : Slot) (after : List Slot) → Parts size slots s after → size < length slots → (k j : ℕ) → k ≡ size + suc j
+    → s.gone / 2 + s.gone % 2 + gone_in (take j after) ≡ gone_in (take k slots)
+place_behind size slots s after p le k j e =
+    let long = length-take-le size slots (omega (arith, le)) in
+    let is : k ≡ length (take size slots) + suc j = omega (arith, e, long) in
+    let whole : gone_in (take k slots) ≡ gone_in (take size slots ++ s ∷ take j after) =
+    ap (λ ts. gone_in (take k ts)) (sym p.whole) ∙ ap (λ n. gone_in (take n (take size slots ++ s ∷ after))) is ∙ ap gone_in (take-append-add (take size slots) (s ∷ after) (suc j)) in
+    let sum = gone-append (take size slots) (s ∷ take j after) in
+    let count = p.count in
+    omega (arith, whole, sum, count)
+
+-- ---- a slot less
+-- a part of the second list is cut off only where all of the first one is
+record Cut (n : ℕ) (a b : List Slot) : Type 0 where
+  pub more : List Slot
+  pub rest : List Slot
+  pub take_is : take n (a ++ b) ≡ take n a ++ more
+  pub drop_is : drop n (a ++ b) ≡ drop n a ++ rest
+  pub none : (length (drop n a) ≡ 0 → ⊥) → more ≡ []
+
+cut : (n : ℕ) (a b : List Slot) → Cut n a b
+cut zero a b = record { more = []; rest = b; take_is = refl; drop_is = refl; none = λ _. refl }
+cut (suc n) [] b = record { more = take (suc n) b; rest = drop (suc n) b; take_is = refl; drop_is = refl; none = λ some. absurd (some refl) }
+cut (suc n) (s ∷ a) b =
+    let c = cut n a b in
+    record { more = c.more; rest = c.rest; take_is = ap (λ ts. s ∷ ts) c.take_is; drop_is = c.drop_is; none = c.none }
+
+node_front : (d : ℕ) (before more rest b : List Slot) → ((x y : List Slot) → IsCounted d (x ++ y) → IsCounted d x) → ((length rest ≡ 0 → ⊥) → more ≡ [])
+    → IsNode (IsCounted d) (before ++ more) (rest ++ b) → IsNode (IsCounted d) before rest
+node_front d before more [] b each none node = tt
+node_front d before more (s ∷ ss) b each none node =
+    let empty = ap gone_in (none (λ e. omega (arith, e))) in
+    let count : s.gone / 2 ≡ gone_in (before ++ more) = node.0 in
+    let sum = gone-append before more in
+    (omega (arith, count, sum, empty), each ss b node.1)
+
+counted-front : (d : ℕ) (a b : List Slot) → IsCounted d (a ++ b) → IsCounted d a
+counted-front zero [] b counted = refl
+counted-front zero (s ∷ a) b counted = absurd (let e = ap length counted in omega (arith, e))
+counted-front (suc d) a b counted =
+    let c = cut (full d) a b in (
+      counted-front d (take (full d) a) c.more (subst (IsCounted d) c.take_is counted.0),
+      node_front d (take (full d) a) c.more (drop (full d) a) c.rest (counted-front d) c.none
+          (subst (λ (ts : List Slot × List Slot). IsNode (IsCounted d) ts.0 ts.1) (λ i. (c.take_is i, c.drop_is i)) counted.1),
+    )
+
+full_over : (d : ℕ) → d ≤ full d
+full_over zero = omega arith
+full_over (suc d) = let e = full_over d in omega (arith, e)
+
+pub slots-front : (a b : List Slot) → IsSlots (a ++ b) → IsSlots a
+slots-front a b are =
+    let long = length-append a b in
+    let few = are.few in
+    let d = length (a ++ b) in
+    record { counted = λ e le. counted-any d e a le (counted-front d a b (are.counted d (full_over d))); few = omega (arith, long, few) }

@@ -2,12 +2,11 @@
 --     slot_at-within, slot_at-shown      the slot of a property
 --     removed, replaced, inserted      a slot that leaves, is written, or comes back
 --     shown-set, shown-written, shown-turned, got_same      what slots show, after a write
-use Rattle.std.proofs.Common.{◌≡◌, ℕ, zero, suc, ◌≤◌, ◌<◌, true, false, cond, List, [], ◌∷◌, map, length, get_or, set, refl, sym, ap, ◌∙◌, arith}
+use Rattle.std.proofs.Common.{◌≡◌, ℕ, zero, suc, ◌<◌, true, false, cond, List, [], ◌∷◌, map, length, take, get_or, set, refl, sym, ap, ◌∙◌, arith}
 use Rattle.std.specs.List.{insert, remove}
 use Rattle.property_rows.specs.declared.slot.Slot.{Slot}
 use Rattle.property_rows.specs.declared.property.NumberedProperty.{NumberedProperty}
 use Rattle.property_rows.specs.Slots.{is_gone, property_in, there, slot_at, shown, blank, no_property}
-use Rattle.std.proofs.lemmas.Bool.{false≢true}
 use Rattle.std.proofs.lemmas.List.{length-map}
 use Rattle.property_rows.proofs.Turned.{Shown, there_of, there_shown, shown_at}
 
@@ -69,37 +68,17 @@ replaced (s ∷ ss) (suc i) q le =
       | false ↦ λ le. ap (λ ps. property_in s ∷ ps) (replaced ss i q (omega (arith, le)))
     ] le
 
-later_slot : (slots : List Slot) (i : ℕ) → suc i ≤ length (there slots) → slot_at slots (suc i) ≡ 0 → ⊥
-later_slot [] i le none = omega (arith, le)
-later_slot (s ∷ ss) i le none = omega (arith, none)
-
--- the slot before that of an index is gone
-pub inserted : (slots : List Slot) (i j : ℕ) (q : NumberedProperty) → i ≤ length (there slots) → slot_at slots i ≡ suc j → is_gone (get_or slots j blank) ≡ true
-    → there_of (set (map shown slots) j (false, q)) ≡ insert (there slots) i q
-inserted [] i j q le at gone = absurd (omega (arith, at))
-inserted (s ∷ ss) zero zero q le at gone =
-    elim (is_gone s) as (λ g. is_gone s ≡ g → q ∷ there_of (map shown ss) ≡ insert (cond g (there ss) (property_in s ∷ there ss)) zero q) [
-      | true ↦ λ t. ap (λ ps. q ∷ ps) (sym (there_shown ss))
-      | false ↦ λ t. absurd (false≢true (sym t ∙ gone))
-    ] refl
-inserted (s ∷ ss) zero (suc j) q le at gone =
-    elim (is_gone s) as (λ g. cond g (suc (slot_at ss zero)) 0 ≡ suc (suc j)
-    → there_of ((g, property_in s) ∷ set (map shown ss) j (false, q)) ≡ insert (cond g (there ss) (property_in s ∷ there ss)) zero q) [
-      | true ↦ λ at. inserted ss zero j q (omega arith) (omega (arith, at)) gone
-      | false ↦ λ at. absurd (omega (arith, at))
-    ] at
-inserted (s ∷ ss) (suc i) zero q le at gone =
-    elim (is_gone s) as (λ g. is_gone s ≡ g → suc i ≤ length (cond g (there ss) (property_in s ∷ there ss)) → suc (slot_at ss (cond g (suc i) i)) ≡ 1
-    → q ∷ there_of (map shown ss) ≡ insert (cond g (there ss) (property_in s ∷ there ss)) (suc i) q) [
-      | true ↦ λ t le at. absurd (later_slot ss i le (omega (arith, at)))
-      | false ↦ λ t le at. absurd (false≢true (sym t ∙ gone))
-    ] refl le at
-inserted (s ∷ ss) (suc i) (suc j) q le at gone =
-    elim (is_gone s) as (λ g. suc i ≤ length (cond g (there ss) (property_in s ∷ there ss)) → suc (slot_at ss (cond g (suc i) i)) ≡ suc (suc j)
-    → there_of ((g, property_in s) ∷ set (map shown ss) j (false, q)) ≡ insert (cond g (there ss) (property_in s ∷ there ss)) (suc i) q) [
-      | true ↦ λ le at. inserted ss (suc i) j q le (omega (arith, at)) gone
-      | false ↦ λ le at. ap (λ ps. property_in s ∷ ps) (inserted ss i j q (omega (arith, le)) (omega (arith, at)) gone)
-    ] le at
+-- a slot that is gone
+pub inserted : (slots : List Slot) (j : ℕ) (q : NumberedProperty) → j < length slots → is_gone (get_or slots j blank) ≡ true
+    → there_of (set (map shown slots) j (false, q)) ≡ insert (there slots) (length (there (take j slots))) q
+inserted [] j q le gone = absurd (omega (arith, le))
+inserted (s ∷ ss) zero q le gone = ap (λ ps. q ∷ ps) (sym (ap (λ g. cond g (there ss) (property_in s ∷ there ss)) gone ∙ there_shown ss))
+inserted (s ∷ ss) (suc j) q le gone =
+    elim (is_gone s) as (λ g. there_of ((g, property_in s) ∷ set (map shown ss) j (false, q))
+    ≡ insert (cond g (there ss) (property_in s ∷ there ss)) (length (cond g (there (take j ss)) (property_in s ∷ there (take j ss)))) q) [
+      | true ↦ inserted ss j q (omega (arith, le)) gone
+      | false ↦ ap (λ ps. property_in s ∷ ps) (inserted ss j q (omega (arith, le)) gone)
+    ]
 
 -- ---- what slots show, after a write
 pub shown-set : (slots : List Slot) (k : ℕ) (t : Slot) → map shown (set slots k t) ≡ set (map shown slots) k (shown t)

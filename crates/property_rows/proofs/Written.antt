@@ -3,9 +3,10 @@
 --     exchanged, left_value, left_there, back_there      what is there, after a write
 --     written_slots, turned_slots, next_slots, put_slots, packed_slots      slots that are counted again
 --     appended, put_there      a slot more
+--     last_there      a slot less
 --     either_slots, either_there      after a call that may refuse
 --     whole_slice      the slots of a vector whose slice was written
-use Rattle.std.proofs.Common.{◌≡◌, ℕ, zero, suc, ◌*◌, ◌%◌, ◌==◌, ◌≤◌, ◌<◌, Bool, true, false, not, cond, List, [], ◌∷◌, ◌++◌, map, length, take, drop, get_or, set, refl, sym, ap, subst, ◌∙◌, arith}
+use Rattle.std.proofs.Common.{◌≡◌, ℕ, zero, suc, ◌-◌, ◌*◌, ◌%◌, ◌==◌, ◌≤◌, ◌<◌, Bool, true, false, not, cond, List, [], ◌∷◌, ◌++◌, map, length, take, drop, get_or, set, refl, sym, ap, subst, ◌∙◌, arith}
 use Rattle.std.specs.List.{insert, remove, filter}
 use Rattle.std.proofs.lemmas.Bool.Decides.{nat_tests}
 use Rattle.std.proofs.Math.Seq.{take-append_seam}
@@ -13,6 +14,7 @@ use Rattle.std.proofs.lemmas.List.{length-map, length_push}
 use Rattle.property_rows.specs.declared.slot.Slot.{Slot}
 use Rattle.property_rows.specs.declared.property.NumberedProperty.{NumberedProperty}
 use Rattle.property_rows.specs.Slots.{is_gone, property_in, there, slot_at, shown, blank, no_property, most, IsTree, IsSlots, uncounted, packed}
+use Rattle.property_rows.specs.Vacant.{IsVacant}
 use Rattle.property_rows.proofs.Counted.{there-append}
 use Rattle.property_rows.proofs.Turned.{Shown, there_of, there_shown, shown-length}
 use Rattle.property_rows.proofs.Holding.{slot_at-within, slot_at-shown, removed, replaced, inserted, shown-set, shown-written, shown-turned, got_same}
@@ -73,21 +75,30 @@ turned_slots size slots turned at x shows are tree =
     tree-slots size turned (omega (arith, same, few)) tree
 
 -- a slot came back, and was filled
-pub back_there : (slots turned : List Slot) (index at : ℕ) (x : Shown) (s t : Slot) → index ≤ length (there slots) → slot_at slots index ≡ suc at → at < length slots
-    → is_gone (get_or slots at blank) ≡ true → map shown turned ≡ set (map shown slots) at x → x.0 ≡ false → s ≡ get_or turned at s → t.gone ≡ s.gone
-    → there (set turned at t) ≡ insert (there slots) index (property_in t)
-back_there slots turned index at x s t le is within gone shows here read same =
+pub back_there : (slots turned : List Slot) (index at : ℕ) (x : Shown) (s t : Slot) → IsVacant slots at index → map shown turned ≡ set (map shown slots) at x → x.0 ≡ false
+    → s ≡ get_or turned at s → t.gone ≡ s.gone → there (set turned at t) ≡ insert (there slots) index (property_in t)
+back_there slots turned index at x s t is shows here read same =
+    let within = is.place in
     let long = shown-length slots turned at x shows in
     let now : shown s ≡ x = ap shown (got_same turned at s (omega (arith, within, long)) read) ∙ shown-turned slots turned at x within shows in
     let not_gone : is_gone t ≡ false = ap (λ n. n % 2 == 1) same ∙ ap (λ (e : Shown). e.0) now ∙ here in
     there_shown (set turned at t) ∙ ap there_of (shown-written slots turned at x t shows) ∙ ap (λ b. there_of (set (map shown slots) at (b, property_in t))) not_gone
-    ∙ inserted slots index at (property_in t) le is gone
+    ∙ inserted slots at (property_in t) within is.gone ∙ ap (λ n. insert (there slots) n (property_in t)) is.before
 
 -- ---- a slot more
 pub appended : (slots : List Slot) (s : Slot) (n : ℕ) → s.gone ≡ 2 * n → there (slots ++ s ∷ []) ≡ there slots ++ property_in s ∷ []
 appended slots s n e =
     let is : is_gone s ≡ false = grind (arith, nat_tests, e) in
     there-append slots (s ∷ []) ∙ ap (λ g. there slots ++ cond g [] (property_in s ∷ [])) is
+
+-- ---- a slot less
+pub last_there : (old new : List Slot) (s : Slot) → old ≡ new ++ s ∷ [] → is_gone s ≡ false → there new ≡ take (length (there old) - 1) (there old)
+last_there old new s e is =
+    let both : there old ≡ there new ++ property_in s ∷ [] = ap there e ∙ there-append new (s ∷ []) ∙ ap (λ g. there new ++ cond g [] (property_in s ∷ [])) is in
+    let long = ap length both in
+    let more = length_push (there new) (property_in s) in
+    let one_less : length (there old) - 1 ≡ length (there new) = omega (arith, long, more) in
+    sym (ap (take (length (there old) - 1)) both ∙ ap (λ n. take n (there new ++ property_in s ∷ [])) one_less ∙ take-append_seam (there new) (property_in s ∷ []))
 
 -- ---- a slot among packed ones
 abbrev kept : List Slot → List Slot

@@ -1,5 +1,5 @@
 //! Rows of properties: lists from which a property is taken out, and to which it comes back, without those after it being
-//! moved. What is taken out leaves its slot; slots that are gone are skipped, and dropped when they are more than a quarter.
+//! moved. What is taken out leaves its slot, to which it may come back; slots that are gone are skipped, until the row is packed.
 ghost use Rattle.std.specs.Prelude.{◌≡◌, ◌+◌, ◌-◌, ◌<◌, ◌≤◌, ◌==◌, [], ◌∷◌, ◌++◌, length, take, is_ok, if◌then◌else◌, IfOk, IsOk, slice_index_or, slice_set};
 ghost use Rattle.std.specs.List.{insert, remove, position};
 ghost use Rattle.property_rows.specs.Slots.{no_property, with_value, has};
@@ -8,7 +8,7 @@ ghost use Rattle.property_rows.specs.Rows.{room};
 use crate::NumberedProperty;
 use crate::slot::Slot;
 use crate::slots::{
-    append, bring_back, exchange, gone, holder, pack, place, put_in, search, take_out,
+    append, bring_back, drop_last, exchange, gone, holder, pack, put_in, search, take_out, vacant,
 };
 use lisp_object::Datum;
 use std::alloc::{AllocError, Global};
@@ -79,6 +79,18 @@ impl Row {
         holder(self.slots.as_slice(), index).order
     }
 
+    /// An order that is not below that of the last property, nor of one that was taken out and may come back.
+    pub fn last_order(&self) -> u64
+        requires { 0 < length self.now.items }
+        ensures { (slice_index_or self.now.items (length self.now.items - 1) no_property).order ≤ result }
+    {
+        let order = self.order(self.len() - 1);
+        match self.slots.last() {
+            Some(last) => order.max(last.order),
+            None => order,
+        }
+    }
+
     /// The value at an index.
     pub fn value(&self, index: usize) -> &Datum
         requires { index < length self.now.items }
@@ -123,7 +135,7 @@ impl Row {
         append(&mut self.slots, property)
     }
 
-    /// Takes the property at an index out.
+    /// Takes the property at an index out. A short row is packed; in a long one its slot stays, for it to come back to.
     pub fn remove(&mut self, index: usize) -> NumberedProperty
         requires { index < length self.old.items }
         ensures value { result ≡ slice_index_or self.old.items index result }
@@ -131,11 +143,21 @@ impl Row {
         ensures room { room self.new ≡ room self.old }
     {
         let property = take_out(self.slots.as_mut_slice(), index);
-        let count = self.slots.len();
-        if count <= SHORT || gone(self.slots.as_slice()) > count / 4 {
+        if self.slots.len() <= SHORT {
             pack(&mut self.slots);
         }
         property
+    }
+
+    /// Moves the properties together, if more than a quarter of the slots are gone. What was taken out comes back to no slot
+    /// then.
+    pub fn tidy(&mut self)
+        ensures items { self.new.items ≡ self.old.items }
+        ensures room { room self.new ≡ room self.old }
+    {
+        if gone(self.slots.as_slice()) > self.slots.len() / 4 {
+            pack(&mut self.slots);
+        }
     }
 
     /// Takes the last property away.
@@ -143,6 +165,13 @@ impl Row {
         ensures items { self.new.items ≡ take (length self.old.items - 1) self.old.items }
         ensures room { room self.new ≡ room self.old }
     {
+        let Some(last) = self.slots.last() else {
+            return;
+        };
+        if last.gone % 2 == 0 {
+            drop_last(&mut self.slots);
+            return;
+        }
         let count = self.len();
         if count > 0 {
             let _ = self.remove(count - 1);
@@ -156,11 +185,12 @@ impl Row {
         ensures room { room self.old ≤ room self.new }
         ensures succeeds { length self.old.items < room self.old → IsOk result }
     {
-        let at = place(self.slots.as_slice(), index);
-        if at > 0 && self.slots[at - 1].gone % 2 == 1 {
-            bring_back(self.slots.as_mut_slice(), index, at - 1, property);
-            return Ok(());
+        match vacant(self.slots.as_slice(), index, property.order) {
+            Some(at) => {
+                bring_back(self.slots.as_mut_slice(), index, at, property);
+                Ok(())
+            }
+            None => put_in(&mut self.slots, index, property),
         }
-        put_in(&mut self.slots, index, property)
     }
 }

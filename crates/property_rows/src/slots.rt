@@ -1,11 +1,12 @@
 //! Slots, as a row keeps them.
-ghost use Rattle.std.specs.Prelude.{◌≡◌, ◌+◌, ◌<◌, ◌≤◌, ◌==◌, true, not, [], ◌∷◌, ◌++◌, map, length, is_ok, if◌then◌else◌, IsOk, slice_index_or, slice_set, vec_capacity};
+ghost use Rattle.std.specs.Prelude.{◌≡◌, ◌+◌, ◌-◌, ◌<◌, ◌≤◌, ◌==◌, true, false, not, [], ◌∷◌, ◌++◌, map, length, take, is_ok, if◌then◌else◌, IfSome, IsOk, slice_index_or, slice_set, vec_capacity};
 ghost use Rattle.std.specs.List.{filter, position, insert, remove};
+ghost use Rattle.property_rows.specs.Vacant.{IsVacant};
 ghost use Rattle.property_rows.specs.Slots.{IsSlots, gone_in, slot_at, is_gone, property_in, there, uncounted, packed, blank, no_property, has, with_value, most};
 
 use crate::NumberedProperty;
 use crate::slot::Slot;
-use crate::tree::{count_gone, gone_before_next, slot_of, tree_of, turn};
+use crate::tree::{count_gone, gone_before, gone_before_next, slot_of, tree_of, turn};
 use lisp_object::Datum;
 use std::alloc::AllocError;
 use std::mem;
@@ -114,13 +115,50 @@ pub(crate) fn take_out(slots: &mut [Slot], index: usize) -> NumberedProperty
     empty(&mut slots[at])
 }
 
+// The first slot whose order is not below this one, where the orders rise.
+fn first_from(slots: &[Slot], order: u64) -> usize
+    ensures { result ≤ length slots.now }
+{
+    let mut first = 0;
+    let mut end = slots.len();
+    while first < end {
+        let middle = first + (end - first) / 2;
+        if slots[middle].order < order {
+            first = middle + 1;
+        } else {
+            end = middle;
+        }
+    }
+    first
+}
+
+// Whether a slot is gone, and so many properties are there before it.
+fn is_vacant(slots: &[Slot], at: usize, index: usize) -> bool
+    requires { IsSlots slots.now }
+    ensures { result ≡ true → IsVacant slots.now at index }
+{
+    if at >= slots.len() || slots[at].gone % 2 != 1 {
+        return false;
+    }
+    at - gone_before(slots, tree_of(slots.len()), at) == index
+}
+
+/// The slot that a property of this order left, where it is gone still and the property comes to this index again.
+pub(crate) fn vacant(slots: &[Slot], index: usize, order: u64) -> Option<usize>
+    requires { IsSlots slots.now }
+    ensures { IfSome result (λ at. IsVacant slots.now at index) }
+{
+    let at = first_from(slots, order);
+    if is_vacant(slots, at, index) {
+        return Some(at);
+    }
+    None
+}
+
 /// A property comes to an index, in a slot that is gone.
 pub(crate) fn bring_back(slots: &mut [Slot], index: usize, at: usize, property: NumberedProperty)
     requires slots { IsSlots slots.old }
-    requires index { index ≤ length (there slots.old) }
-    requires at { slot_at slots.old index ≡ at + 1 }
-    requires place { at < length slots.old }
-    requires gone { is_gone (slice_index_or slots.old at blank) ≡ true }
+    requires vacant { IsVacant slots.old at index }
     ensures slots { IsSlots slots.new }
     ensures items { there slots.new ≡ insert (there slots.old) index property }
 {
@@ -162,6 +200,18 @@ pub(crate) fn append(slots: &mut Vec<Slot>, property: NumberedProperty) -> Resul
         Ok(_) => Ok(()),
         Err(_) => Err(AllocError),
     }
+}
+
+/// Takes the last slot away, in which a property is.
+pub(crate) fn drop_last(slots: &mut Vec<Slot>)
+    requires slots { IsSlots slots.old.items }
+    requires some { 0 < length slots.old.items }
+    requires last { is_gone (slice_index_or slots.old.items (length slots.old.items - 1) blank) ≡ false }
+    ensures slots { IsSlots slots.new.items }
+    ensures items { there slots.new.items ≡ take (length (there slots.old.items) - 1) (there slots.old.items) }
+    ensures capacity { vec_capacity slots.new ≡ vec_capacity slots.old }
+{
+    let _ = slots.pop();
 }
 
 /// A property comes to an index. The others are moved.

@@ -1,6 +1,6 @@
 //! Trees over slots: a slot in the middle, and before it and after it a tree of half the size. Each slot counts how many are
 //! gone in the tree before it.
-ghost use Rattle.std.specs.Prelude.{◌≡◌, ◌+◌, ◌*◌, ◌<◌, ◌≤◌, true, false, not, [], ◌∷◌, ◌++◌, map, length, slice_index_or, slice_set};
+ghost use Rattle.std.specs.Prelude.{◌≡◌, ◌+◌, ◌*◌, ◌<◌, ◌≤◌, true, false, not, [], ◌∷◌, ◌++◌, map, length, take, slice_index_or, slice_set};
 ghost use Rattle.property_rows.specs.declared.slot.Slot.{Slot as Kept};
 ghost use Rattle.property_rows.specs.Slots.{IsTree, IsWhole, gone_in, slot_at, is_gone, property_in, shown, blank, most};
 
@@ -56,6 +56,26 @@ pub(crate) fn slot_of(slots: &[Slot], size: usize, index: usize) -> usize
         return half;
     }
     half + 1 + slot_of(&slots[half + 1..], half, index - before - (1 - gone % 2))
+}
+
+/// How many of the slots before a place are gone.
+pub(crate) fn gone_before(slots: &[Slot], size: usize, place: usize) -> usize
+    requires tree { IsTree size slots.now }
+    requires place { place ≤ length slots.now }
+    ensures { result ≡ gone_in (take place slots.now) }
+{
+    if size == 0 {
+        return 0;
+    }
+    let half = size / 2;
+    if slots.len() <= half {
+        return gone_before(slots, half, place);
+    }
+    if place <= half {
+        return gone_before(&slots[..half], half, place);
+    }
+    let gone = slots[half].gone as usize;
+    gone / 2 + gone % 2 + gone_before(&slots[half + 1..], half, place - half - 1)
 }
 
 /// How many of the slots in the tree before the next one are gone.

@@ -7,21 +7,21 @@ use Rattle.property_rows.proofs.Written.{packed_slots, whole_slice}
 use Rattle.property_rows.proofs.Rooms.{same_room}
 use Rattle.property_rows.proofs.row.Row.remove.Goals as goal
 
-pub invariant_of-self-then-count-le-SHORT : goal.invariant_of-self-then-count-le-SHORT
-invariant_of-self-then-count-le-SHORT c =
+pub invariant_of-self : goal.invariant_of-self
+invariant_of-self c =
     let long = ap length c.as_mut_slice.ensures.value in
     let whole = whole_slice c.self.inside.slots.len c.take_out-property.new.slots c.self.inside.slots.items c.self.inside.slots.ok.0 (omega (arith, c.take_out-property.auto.slots, long)) in
     subst IsSlots (sym (c.pack.ensures.items ∙ ap packed whole)) (packed_slots c.take_out-property.new.slots c.take_out-property.ensures.slots)
 
-pub returns-then-count-le-SHORT-clause-items : goal.returns-then-count-le-SHORT-clause-items
-returns-then-count-le-SHORT-clause-items c =
+pub returns-then-len-le-SHORT-clause-items : goal.returns-then-len-le-SHORT-clause-items
+returns-then-len-le-SHORT-clause-items c =
     let long = ap length c.as_mut_slice.ensures.value in
     let whole = whole_slice c.self.inside.slots.len c.take_out-property.new.slots c.self.inside.slots.items c.self.inside.slots.ok.0 (omega (arith, c.take_out-property.auto.slots, long)) in
     ap there (c.pack.ensures.items ∙ ap packed whole) ∙ packed-there c.take_out-property.new.slots ∙ c.take_out-property.ensures.items
     ∙ ap (λ l. remove (there l) c.args.index) c.as_mut_slice.ensures.value ∙ ap (λ (row : PropertyRow). remove row.items c.args.index) c.self.view_is
 
-pub returns-then-count-le-SHORT-clause-room : goal.returns-then-count-le-SHORT-clause-room
-returns-then-count-le-SHORT-clause-room c =
+pub returns-then-len-le-SHORT-clause-room : goal.returns-then-len-le-SHORT-clause-room
+returns-then-len-le-SHORT-clause-room c =
     let long = ap length c.as_mut_slice.ensures.value in
     let whole = whole_slice c.self.inside.slots.len c.take_out-property.new.slots c.self.inside.slots.items c.self.inside.slots.ok.0 (omega (arith, c.take_out-property.auto.slots, long)) in
     let kept : IsSlots c.pack.new.slots.items = subst IsSlots (sym (c.pack.ensures.items ∙ ap packed whole)) (packed_slots c.take_out-property.new.slots c.take_out-property.ensures.slots) in
@@ -30,8 +30,8 @@ returns-then-count-le-SHORT-clause-room c =
     ∙ sym (same_room c.self.inside.slots.items c.self.inside.slots.cap (omega (arith, c.self.inside.slots.ok.0, c.self.inside.slots.ok.1)) c.self.invariant.few)
     ∙ ap room c.self.view_is
 
-pub returns-else-gone-count-clause-room : goal.returns-else-gone-count-clause-room
-returns-else-gone-count-clause-room c =
+pub returns-else-len-le-SHORT-clause-room : goal.returns-else-len-le-SHORT-clause-room
+returns-else-len-le-SHORT-clause-room c =
     let long = ap length c.as_mut_slice.ensures.value in
     let whole = whole_slice c.self.inside.slots.len c.take_out-property.new.slots c.self.inside.slots.items c.self.inside.slots.ok.0 (omega (arith, c.take_out-property.auto.slots, long)) in
     ap (λ l. length (there l) + (min c.self.inside.slots.cap most - length (there l))) whole
