@@ -7,6 +7,7 @@ ghost use Rattle.package_sets.specs.Changes.{number_in, with_name};
 use crate::Seed;
 use crate::name::{KeptName, SoughtName};
 use indexmap::IndexSet;
+use lisp_object::Bytes;
 use std::alloc::{AllocError, Global};
 use std::marker::Model;
 
@@ -25,7 +26,7 @@ impl Model for Names {
 
     ghost coded = { coded_list name_code };
 
-    ghost view = { λ a. map (λ k. k.bytes.items) a.set.keys };
+    ghost view = { λ a. map (λ k. k.bytes) a.set.keys };
 
     ghost invariant = { λ a. length a.set.keys < 2 ^ 32 };
 }
@@ -101,7 +102,7 @@ impl Names {
         if self.set.len() >= u32::MAX as usize {
             return Err(AllocError);
         }
-        let bytes = Vec::from_slice(alloc, name)?;
+        let bytes = Bytes::from_slice(alloc, name)?;
         if let Err(_) = self.set.insert_full(KeptName { bytes }) {
             return Err(AllocError);
         }
@@ -117,7 +118,7 @@ impl Names {
         if self.set.len() >= u32::MAX as usize {
             return Err(AllocError);
         }
-        let bytes = Vec::from_slice(alloc, name)?;
+        let bytes = Bytes::from_slice(alloc, name)?;
         let Ok(added) = self.set.insert_full(KeptName { bytes }) else {
             return Err(AllocError);
         };

@@ -5,4 +5,4 @@ use Rattle.package_sets.proofs.Places.{distinct-map}
 use Rattle.package_sets.proofs.names.Names.distinctness.Goals as goal
 
 pub returns : goal.returns
-returns c = subst AreDistinctNames c.self.view_is (distinct-map (λ k. k.bytes.items) bytes_eq c.self.inside.set.keys c.len-len.ensures.unique)
+returns c = subst AreDistinctNames c.self.view_is (distinct-map (λ k. k.bytes) bytes_eq c.self.inside.set.keys c.len-len.ensures.unique)

@@ -9,9 +9,9 @@ pub returns-clause-ok : goal.returns-clause-ok
 returns-clause-ok c =
     let ks = c.self.inside.set.keys in
     let n : KeptName = record { bytes = c.in_ok-bytes.bytes } in
-    let test = λ (k : KeptName). bytes_eq n.bytes.items k.bytes.items in
-    let same : n.bytes.items ≡ c.args.name.now = c.in_ok-bytes.ensures.items in
-    let none : position test ks ≡ None = sym (position-map (λ k. k.bytes.items) (bytes_eq n.bytes.items) ks) ∙ (λ i. position (bytes_eq (same i)) (c.self.view_is i)) ∙ c.requires in
-    ap (map (λ k. k.bytes.items)) (c.in_default.ensures.keys ∙ ap (λ b. if b then ks else ks ++ n ∷ []) (none_any test ks none))
-    ∙ map-append (λ k. k.bytes.items) ks (n ∷ [])
+    let test = λ (k : KeptName). bytes_eq n.bytes k.bytes in
+    let same : n.bytes ≡ c.args.name.now = c.in_ok-bytes.ensures in
+    let none : position test ks ≡ None = sym (position-map (λ k. k.bytes) (bytes_eq n.bytes) ks) ∙ (λ i. position (bytes_eq (same i)) (c.self.view_is i)) ∙ c.requires in
+    ap (map (λ k. k.bytes)) (c.in_default.ensures.keys ∙ ap (λ b. if b then ks else ks ++ n ∷ []) (none_any test ks none))
+    ∙ map-append (λ k. k.bytes) ks (n ∷ [])
     ∙ (λ i. c.self.view_is i ++ same i ∷ [])
