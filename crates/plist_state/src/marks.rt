@@ -52,9 +52,7 @@ impl World {
         ensures { self.new ≡ (self.old.0, []) }
     {
         self.packages.settle();
-        for notes in &self.marks {
-            tidy(&mut self.stored, notes.as_slice());
-        }
+        tidy(&mut self.stored, self.marks.as_slice());
         self.marks.clear();
     }
 }
