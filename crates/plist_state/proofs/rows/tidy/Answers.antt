@@ -7,7 +7,7 @@ use Rattle.property_rows.specs.Rows.{PropertyRow, room}
 use Rattle.plist_state.specs.Shown.{numbered_property, plist_of, lists_of}
 use Rattle.plist_state.specs.Kept.{IsProperRow}
 use Rattle.plist_state.specs.Indexed.{IsIndexedIn}
-use Rattle.plist_state.proofs.ListRows.{written, written_same, row_shown, IsWritten, put_set, wider_same}
+use Rattle.plist_state.proofs.ListRows.{written, written_same, row_shown, put_set, wider_same}
 use Rattle.plist_state.proofs.Placing.{are_indexed, still_indexed}
 use Rattle.plist_state.proofs.rows.tidy.Goals as goal
 
