@@ -15,3 +15,4 @@ pub mod Journal
 pub mod Marked
 pub mod Viewed
 pub mod Pushed
+pub mod Shortened

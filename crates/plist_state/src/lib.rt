@@ -11,7 +11,7 @@
 //! `World::mark` adds the state to the marked ones, `back_to` goes back to one, and `settle` forgets them all; every other
 //! call leaves the list as it is. A mark copies nothing. Each call that writes makes room for a note first, then moves what it
 //! overwrites into the note (`Note`), and notes it under the newest mark (`journal`); `back_to` undoes the notes, the last first
-//! (`undo`), and takes no memory: a row that was emptied stays, with its memory, and the journal's invariant (`IsJournal`
+//! (`undo`), and does not fail: a row that was emptied stays, with its memory, and the journal's invariant (`IsJournal`
 //! of specs/Journal.antt) says that each row has memory for what is put back. The packages have marks of their own, which cut
 //! their lists.
 //!

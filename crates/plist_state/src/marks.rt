@@ -33,8 +33,8 @@ impl World {
     }
 
     /// Goes back to the state as it was at this mark, and takes it and all later marks away: the world is the one that was
-    /// marked, with the marks that it had. It does not fail: where an index of properties wants memory that there is not, that list
-    /// has none from then on.
+    /// marked, with the marks that it had. It does not fail: where an index of properties wants memory that there is not,
+    /// that list has none from then on.
     pub fn back_to(&mut self, mark: usize)
         requires { mark < length self.old.1 }
         ensures past { self.new.1 ≡ take mark self.old.1 }
@@ -46,15 +46,13 @@ impl World {
         undo_to(&mut self.stored, &mut self.marks, mark);
     }
 
-    /// Takes all marks away: the state stays as it is. Takes no memory. Only now are the property lists packed from which much was
-    /// taken out: as long as it may come back, it has its place.
+    /// Takes all marks away: the state stays as it is. Takes no memory. Only now are the property lists packed from which
+    /// much was taken out: as long as it may come back, it has its place.
     pub fn settle(&mut self)
         ensures { self.new ≡ (self.old.0, []) }
     {
         self.packages.settle();
-        for notes in &self.marks {
-            tidy(&mut self.stored, notes.as_slice());
-        }
+        tidy(&mut self.stored, self.marks.as_slice());
         self.marks.clear();
     }
 }

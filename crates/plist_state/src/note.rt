@@ -1,6 +1,7 @@
 //! Changes, each with what it overwrote.
 ghost use Rattle.std.specs.Prelude.{◌≡◌};
 ghost use Rattle.plist_state.specs.Undoing.{restores};
+ghost use Rattle.plist_state.specs.Shortened.{shortened};
 
 use lisp_object::Datum;
 use property_rows::NumberedProperty;
@@ -59,7 +60,9 @@ pub(crate) enum Note {
 
 impl Note {
     /// The number of the symbol of whose list this took a property out.
-    pub(crate) fn shortens(&self) -> Option<u32> {
+    pub(crate) fn shortens(&self) -> Option<u32>
+        ensures { result ≡ shortened self.now }
+    {
         match self {
             Note::Property { number, change } => match change {
                 PropertyChange::Removed { .. } => Some(*number),

@@ -232,8 +232,8 @@ fn set_order(index: &mut Index, indicator: u32, order: u64) -> bool
     index.insert(indicator, order).is_ok()
 }
 
-/// A property comes back to a place of the row of a number: its index knows it then. Where it does not fit, the row has no
-/// index any more.
+/// A property comes back to a place of the row of a number: its index knows it then. Where it does not fit, or there is no
+/// memory for it, the row has no index any more.
 pub(crate) fn note_back(
     row: &Row,
     indexes: &mut Indexes,

@@ -353,7 +353,6 @@ pub(crate) fn take_back(
 /// Moves the properties of the symbol of a number together, if many were taken out between them. What was taken out cannot be
 /// taken back in its place then.
 pub(crate) fn tidy(rows: &mut BTreeMap<u32, Row>, number: u32)
-    requires { IsProperRows rows.old.entries }
     ensures same { lists_of rows.new ≡ lists_of rows.old }
     ensures wider { IsWider rows.old.entries rows.new.entries }
     ensures indexed { (indexes : _) → AreIndexed rows.old.entries indexes

@@ -24,7 +24,7 @@ use std::collections::BTreeMap;
 
 /// A row of properties for each symbol that ever had one, by its number, the indexes of long rows, the readtables by name, the
 /// two current names, and the base in which numbers are read.
-/// A row that was emptied stays, so that to go back takes no memory: the symbol has no property list then.
+/// A row that was emptied stays, so that to go back takes no memory for a row: the symbol has no property list then.
 #[derive(Drop)]
 pub(crate) struct Stored {
     pub(crate) properties: BTreeMap<u32, Row>,
@@ -143,6 +143,18 @@ pub(crate) fn push(
     Ok(())
 }
 
+// Moves the properties of the symbol of a number together, if there is no mark: then nothing that was taken out comes back.
+fn tidy_unmarked(stored: &mut Stored, marks: &[Vec<Note>], number: u32)
+    requires { AreIndexed stored.old.properties.entries stored.old.indexes.entries }
+    ensures same { rest_of stored.new ≡ rest_of stored.old }
+    ensures wider { IsWider stored.old.properties.entries stored.new.properties.entries }
+    ensures indexed { AreIndexed stored.new.properties.entries stored.new.indexes.entries }
+{
+    if marks.is_empty() {
+        rows::tidy(&mut stored.properties, number);
+    }
+}
+
 /// Removes a property of the symbol of a number, notes it, and answers whether it was there.
 pub(crate) fn remove(
     stored: &mut Stored,
@@ -174,17 +186,14 @@ pub(crate) fn remove(
     else {
         unreachable!()
     };
-    if marks.is_empty() {
-        rows::tidy(&mut stored.properties, number);
-    }
+    tidy_unmarked(stored, marks.as_slice(), number);
     push_note(marks, Note::Property { number, change });
     Ok(true)
 }
 
-/// Moves what is left of the property lists together from which these notes took properties out.
-pub(crate) fn tidy(stored: &mut Stored, notes: &[Note])
-    requires values { IsProperRows stored.old.properties.entries }
-    requires indexed { AreIndexed stored.old.properties.entries stored.old.indexes.entries }
+// Moves what is left of the property lists together from which these notes took properties out.
+fn tidy_noted(stored: &mut Stored, notes: &[Note])
+    requires { AreIndexed stored.old.properties.entries stored.old.indexes.entries }
     ensures same { rest_of stored.new ≡ rest_of stored.old }
     ensures wider { IsWider stored.old.properties.entries stored.new.properties.entries }
     ensures indexed { AreIndexed stored.new.properties.entries stored.new.indexes.entries }
@@ -193,5 +202,17 @@ pub(crate) fn tidy(stored: &mut Stored, notes: &[Note])
         if let Some(number) = note.shortens() {
             rows::tidy(&mut stored.properties, number);
         }
+    }
+}
+
+/// Moves what is left of the property lists together from which properties were taken out since these marks.
+pub(crate) fn tidy(stored: &mut Stored, marks: &[Vec<Note>])
+    requires { AreIndexed stored.old.properties.entries stored.old.indexes.entries }
+    ensures same { rest_of stored.new ≡ rest_of stored.old }
+    ensures wider { IsWider stored.old.properties.entries stored.new.properties.entries }
+    ensures indexed { AreIndexed stored.new.properties.entries stored.new.indexes.entries }
+{
+    for notes in marks {
+        tidy_noted(stored, notes.as_slice());
     }
 }

@@ -1,4 +1,5 @@
-//! Going back: changes are undone, the last first. No call takes memory.
+//! Going back: changes are undone, the last first. No call fails: memory is taken at most for an index, and where there is none
+//! for it, the list has no index from then on.
 ghost use Rattle.std.specs.Prelude.{◌≡◌, ◌<◌, length, take, Some};
 ghost use Rattle.std.specs.List.{slice_get};
 ghost use Rattle.plist_state.specs.Shown.{rest_of};

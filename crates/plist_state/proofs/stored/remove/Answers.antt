@@ -1,11 +1,11 @@
-use Rattle.std.proofs.Common.{◌≡◌, ℕ, false, is_some, rules, ap, sym}
+use Rattle.std.proofs.Common.{◌≡◌, ℕ, false, is_some, rules, ap, sym, subst, ◌∙◌}
 use Rattle.plist_state.specs.Properties.{without_value_by}
 use Rattle.plist_state.specs.Lists.{NumberedLists, same_number, row_of}
-use Rattle.plist_state.specs.Shown.{Rows, rest_of, lists_in}
-use Rattle.plist_state.specs.Journal.{marks_of}
+use Rattle.plist_state.specs.Shown.{NumberedRest, Rows, rest_of, lists_in}
+use Rattle.plist_state.specs.Journal.{marks_of, Continues}
 use Rattle.plist_state.proofs.Notes.{property_noted}
 use Rattle.plist_state.proofs.Lists.{without-absent, none_shown_as}
-use Rattle.plist_state.proofs.ListRows.{with_row_same, some_in}
+use Rattle.plist_state.proofs.ListRows.{with_row_same, some_in, wider_both}
 use Rattle.plist_state.proofs.stored.remove.Goals as goal
 
 pub returns-then-is_none-clause-ok : goal.returns-then-is_none-clause-ok
@@ -20,7 +20,19 @@ returns-then-is_none-clause-ok c =
 
 pub returns-clause-marked : goal.returns-clause-marked
 returns-clause-marked c =
-    property_noted (marks_of c.args.marks.now.items) _ (marks_of c.push_note.new.marks.items) c.in_ok-reserve_note.ensures.same
+    let ms = marks_of c.args.marks.now.items in
+    let ns = marks_of c.push_note.new.marks.items in
+    let before = rest_of c.args.stored.now in
+    subst (λ (u : NumberedRest). Continues ms before ns u) (sym c.tidy_unmarked.ensures.same)
+    (property_noted ms _ ns c.in_ok-reserve_note.ensures.same
     c.args.number c.in-Some.change c.push_note.ensures c.in-Some.ensures.former
-    (rest_of c.args.stored.now) c.args.stored.now.properties.entries c.remove.new.rows.entries _
-    c.in-Some.ensures.after c.in-Some.ensures.back
+    before c.args.stored.now.properties.entries c.remove.new.rows.entries _
+    c.in-Some.ensures.after c.in-Some.ensures.back)
+
+pub returns-clause-ok : goal.returns-clause-ok
+returns-clause-ok c =
+    c.tidy_unmarked.ensures.same ∙ ap (λ (m : NumberedLists). record (rest_of c.args.stored.now) { properties = m }) c.in-Some.ensures.after
+
+pub returns-clause-wider : goal.returns-clause-wider
+returns-clause-wider c =
+    wider_both c.args.stored.now.properties.entries c.remove.new.rows.entries _ c.in-Some.ensures.wider c.tidy_unmarked.ensures.wider

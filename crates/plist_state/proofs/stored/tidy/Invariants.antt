@@ -1,0 +1,12 @@
+use Rattle.std.proofs.Common.{◌≡◌}
+use Rattle.plist_state.specs.Shown.{rest_of}
+use Rattle.plist_state.specs.Indexed.{AreIndexed}
+use Rattle.plist_state.specs.Kept.{IsWider}
+use Rattle.plist_state.proofs.stored.tidy.Given as goal
+
+-- the same properties, in rows with as much memory
+abbrev pub invariant-loop-notes : goal.invariant-loop-notes
+invariant-loop-notes l =
+    (rest_of l.stored ≡ rest_of l.initial.stored)
+    × IsWider l.initial.stored.properties.entries l.stored.properties.entries
+    × AreIndexed l.stored.properties.entries l.stored.indexes.entries
