@@ -52,7 +52,7 @@
 //! - `recipient`: who gets the lines of a session.
 //! - `step`, `outcome`, `open_fault`: the words of the calls, with `Mode` and `Wanted` of session_words. `failure`: why a form is not accepted.
 //! - `laws`: the headline, openings in a row, that an image means one world, that files of version 1 mean what they meant, and
-//!   which numbers refuse a form.
+//!   which numbers refuse a form, and what the number tells with which requests are refused.
 //!
 //! # Laws for the crates above
 //!

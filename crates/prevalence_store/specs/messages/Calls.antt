@@ -80,7 +80,7 @@ RefusesOwn functions first requests cause =
     ⊎ IsNotClosed functions (each_request functions first requests) cause
 
 module _ (functions : Functions) {D R : Type 0} (state : D → State) (old new : StoreView D R) (world : WorldState) (round : Round) where
-  abbrev records : List LogRecord
+  abbrev pub records : List LogRecord
   records = entries_by round.wrote round.entries
 
   -- The requests have these answers, and what came of them was logged together, with the position. Where no message wrote, all is as

@@ -1,0 +1,26 @@
+-- Why requests were not answered, by the number of the refusal.
+use Rattle.std.specs.Prelude.{◌≡◌, ◌≢◌, ℕ, ◌+◌, ◌<◌, List, length}
+use Rattle.std.specs.List.{flat_map}
+use Rattle.disk_trait.specs.Disk.{State}
+use Rattle.gate_log.specs.Layout.{open_record}
+use Rattle.lisp_object.specs.declared.refusal.TheConstants.{DEVICE, LOG_FULL, NO_MEMORY}
+use Rattle.plist_state.specs.State.{WorldState}
+use Rattle.prevalence_store.specs.calls.Store.{StoreView}
+use Rattle.prevalence_store.specs.declared.failure.Failure.TheVariants.{Refused}
+use Rattle.prevalence_store.specs.declared.messages.request.Request.{Request}
+use Rattle.prevalence_store.specs.messages.Answers.{answered, begun}
+use Rattle.prevalence_store.specs.messages.Calls.{Fail, RefusesOwn, records}
+use Rattle.user_macros.specs.Functions.{Functions}
+
+module _ (functions : Functions) {D R : Type 0} (state : D → State) (old new : StoreView D R) (world : WorldState) (last : ℕ) (requests : List Request) where
+  -- These requests were not answered, with this number.
+  pub record AreRefusedBy (number : ℕ) : Type 0 where
+    -- 60: the device failed as what they wrote was logged, for which there was room. All of it may be in the file, or nothing.
+    pub device : number ≡ DEVICE → Fail functions state old new world (answered functions (begun last world) requests)
+    -- any other: the store is as it was
+    pub unchanged : number ≢ DEVICE → new ≡ old
+    -- 64: what they wrote has no room in the half
+    pub full : number ≡ LOG_FULL
+        → old.limit < old.size + length (flat_map open_record (records functions state old new world (answered functions (begun last world) requests)))
+    -- None of these, nor 90: a form of the store's own was refused with it, before one of them or after all.
+    pub own : number ≢ DEVICE → number ≢ LOG_FULL → number ≢ NO_MEMORY → RefusesOwn functions (begun last world) requests (Refused number)

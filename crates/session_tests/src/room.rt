@@ -1,0 +1,69 @@
+//! Requests that have no room.
+ghost use Rattle.std.specs.Prelude.{◌≡◌, ◌<◌, ◌-◌, ◌^◌, ◌+◌, length, Some, true};
+ghost use Rattle.std.specs.List.{flat_map};
+ghost use Rattle.gate_log.specs.Layout.{open_record};
+ghost use Rattle.plist_state.specs.State.{WorldState};
+ghost use Rattle.prevalence_store.specs.messages.Answers.{answered, begun};
+ghost use Rattle.prevalence_store.specs.messages.Calls.{records};
+ghost use Rattle.user_macros.specs.Functions.{are_registered};
+
+use crate::batches::long_form;
+use disk_trait::{Disk, MemoryDisk};
+use lisp_object::refusal::LOG_FULL;
+use prevalence_store::{Request, Store, refusals_have_causes};
+use std::alloc::{AllocError, Global};
+use std::test::Fail;
+use user_macros::{MacroFunctions, Macros, NoFunctions};
+
+/// Answers requests, and tells whether they were refused for want of room: then there is none for what they wrote, and the store is as it was.
+fn has_no_room<D: Disk, M: MacroFunctions>(
+    store: &mut Store<D, M>,
+    last: u64,
+    requests: &[Request<'_>],
+) -> bool
+    requires answers { M.answers store.old.macros }
+    requires whole { are_registered M.Meaning.functions (M.functions store.old.macros) ≡ true }
+    ensures { (world : WorldState) → store.old.world ≡ Some world → result ≡ true
+        → (store.new ≡ store.old) × (store.old.limit < store.old.size + length (flat_map open_record
+        (records M.Meaning.functions D.state store.old store.new world
+        (answered M.Meaning.functions (begun last world) requests.now)))) }
+{
+    refusals_have_causes::<D, M>();
+    matches!(store.answer_requests(last, requests), Err(LOG_FULL))
+}
+
+/// Whether a store in small halves has no room for a message with a long text, and has it for a short one.
+fn is_short_of_room<D: Disk + Drop, M: MacroFunctions + Drop>(
+    alloc: Global,
+    disk: D,
+    macros: M,
+) -> Result<bool, AllocError>
+    requires room { (D.state disk).failures < 2 ^ 64 - 1 }
+    requires answers { M.answers macros }
+{
+    let text = long_form(alloc, 4_096)?;
+    let Ok(mut store) = Store::open(alloc, disk, macros, 4_096) else {
+        return Err(AllocError);
+    };
+    let begun = store.begin_messages();
+    let long = Request {
+        number: Some(1),
+        text: text.as_slice(),
+    };
+    let short = Request {
+        number: Some(1),
+        text: b"(SETF (GET 'A 'B) 7)",
+    };
+    let is_short = has_no_room(&mut store, 0, &[long]) && !has_no_room(&mut store, 0, &[short]);
+    let _closed = store.close();
+    Ok(begun.is_ok() && is_short)
+}
+
+#[test]
+fn a_long_message_has_no_room(rt: HostRuntime) -> Result<(), Fail> {
+    let alloc = rt.alloc();
+    let disk = MemoryDisk::new(alloc);
+    assert!(rt; disk.failures() == 0);
+    assert!(rt; is_short_of_room(alloc, disk, Macros::new(alloc, NoFunctions))?);
+    Ok(())
+}
