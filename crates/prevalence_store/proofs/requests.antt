@@ -5,3 +5,4 @@ pub mod Settling
 pub mod Shapes
 pub mod Owned
 pub mod Fronts
+pub mod ByNumber

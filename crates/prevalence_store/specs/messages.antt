@@ -4,3 +4,4 @@ pub mod Answers
 pub mod Rounds
 pub mod Calls
 pub mod Fronts
+pub mod Refusals
