@@ -13,6 +13,9 @@ ghost use Rattle.prevalence_store.specs.calls.Store.{StoreView};
 ghost use Rattle.prevalence_store.specs.Theorem.{Call, Headline, IsAfterSome, IsStoppedBetween};
 ghost use Rattle.prevalence_store.specs.Theorem.{Keeps, KeepsSome, MeansSome, Reopens, Run};
 ghost use Rattle.prevalence_store.specs.Theorem.{acknowledged_of, disk_after, forms_of};
+ghost use Rattle.prevalence_store.specs.declared.messages.request.Request.{Request};
+ghost use Rattle.prevalence_store.specs.messages.Calls.{AnswersRequests};
+ghost use Rattle.prevalence_store.specs.messages.Refusals.{AreRefusedBy};
 ghost use Rattle.plist_state.specs.State.{WorldState, initial};
 ghost use Rattle.user_macros.specs.Functions.{Functions};
 

@@ -11,15 +11,17 @@ use Rattle.prevalence_store.specs.declared.messages.own.Own.{Own}
 use Rattle.prevalence_store.specs.declared.messages.request.Request.{Request}
 use Rattle.prevalence_store.specs.meaning.Acceptance.{IsFormNumber, accepts}
 use Rattle.prevalence_store.specs.messages.Answers.{answered, begun}
+use Rattle.prevalence_store.specs.messages.Position.{own_text}
 use Rattle.prevalence_store.specs.messages.Calls.{AnswersRequests, AreLeft, IsOwnRefused, RefusesOwn}
 use Rattle.prevalence_store.specs.steps.Failure.{failure_number}
 use Rattle.session_words.specs.declared.mode.Mode.{Mode}
+use Rattle.session_words.specs.declared.mode.Mode.TheVariants.{Rescue}
 use Rattle.user_macros.specs.Functions.{Functions}
 
 module _ (functions : Functions)
     (numbers : (w : WorldState) (mode : Mode) (text : List ℕ) (number : ℕ) → accepts functions w mode text ≡ Err number → IsFormNumber number) where
   own_number : (w : WorldState) (own : Own) (number : ℕ) → IsOwnRefused functions w own number → number < DEVICE
-  own_number w own number (inl is) = omega (arith, (numbers w _ _ number is).to)
+  own_number w own number (inl is) = omega (arith, (numbers w Rescue (own_text own) number is).to)
   own_number w own number (inr other) = omega (arith, other.0)
 
   module _ {D R : Type 0} (state : D → State) (old new : StoreView D R) (world : WorldState) (last : ℕ) (requests : List Request) where
