@@ -1,6 +1,8 @@
 -- Forms that are carried out as they stand: GET of two quoted symbols, and SETF of such a property to a literal.
-use Rattle.std.specs.Prelude.{◌≡◌, List, codes, unwrap_or}
+use Rattle.std.specs.Prelude.{◌≡◌, ℕ, List, None, codes, length, unwrap_or}
 use Rattle.lisp_object.specs.Object.{Object, symbol, pair, nil}
+use Rattle.lisp_object.specs.declared.datum.Datum
+use Rattle.lisp_object.specs.declared.datum.Datum.{Datum}
 use Rattle.lisp_object.specs.Datum.{object_of}
 use Rattle.package_table.specs.Table.{Name, Table, common_lisp}
 use Rattle.plist_state.specs.Properties.{Symbol}
@@ -11,10 +13,9 @@ use Rattle.plist_state.specs.Sound.{IsSymbol}
 use Rattle.lisp_operators.specs.Evaluation.{Evaluation, gives, writes}
 use Rattle.lisp_operators.specs.Evaluated.{IsArgument, object_of_symbol}
 use Rattle.evaluator.specs.declared.direct.QuotedProperty.{QuotedProperty}
-use Rattle.evaluator.specs.declared.direct.Assignment.{Assignment}
 use Rattle.evaluator.specs.declared.operation.Operation.TheVariants.{Setf}
 use Rattle.evaluator.specs.Value.{value}
-use Rattle.evaluator.specs.Gathered.{operation_value}
+use Rattle.evaluator.specs.Gathered.{arguments_in, operation_value}
 
 -- (QUOTE x)
 abbrev pub quoted : Object → Object
@@ -24,6 +25,10 @@ quoted x = pair (symbol common_lisp (codes "QUOTE")) (pair x nil)
 abbrev pub quoted_key : Symbol → Symbol → Object
 quoted_key x i = pair (quoted (object_of_symbol x)) (pair (quoted (object_of_symbol i)) nil)
 
+-- a list of so many items that is headed by the symbol of COMMON-LISP with this name
+abbrev pub IsCall : Name → ℕ → Datum → Type 0
+IsCall operator n d = (items : List Datum) × (d ≡ Datum.List items None) × (object_of d ≡ pair (symbol common_lisp operator) (arguments_in items)) × (length items ≡ n)
+
 -- a form has this value in every state, which it leaves as it is
 abbrev pub IsLiteral : Object → Object → Type 0
 IsLiteral form x = (names : List Name) (s : WorldState) → value names s form ≡ gives x s
@@ -32,17 +37,20 @@ IsLiteral form x = (names : List Name) (s : WorldState) → value names s form �
 abbrev pub property_value : QuotedProperty → WorldState → Evaluation Object
 property_value p s = gives (unwrap_or (property s (symbol_named p.symbol) (symbol_named p.indicator)) nil) s
 
--- the literal, which is the property from then on
-abbrev pub assigned : Assignment → WorldState → Evaluation Object
-assigned a s =
-    writes (object_of a.literal.now) (with_property s (symbol_named a.property.symbol) (symbol_named a.property.indicator) (object_of a.literal.now))
+-- this, which is the property from then on
+abbrev pub assigned : QuotedProperty → Object → WorldState → Evaluation Object
+assigned p x s = writes x (with_property s (symbol_named p.symbol) (symbol_named p.indicator) x)
 
--- SETF of these arguments is this assignment
-abbrev pub IsSetf : Object → Assignment → Type 0
-IsSetf arguments a = (names : List Name) (s : WorldState) → operation_value names Setf arguments s ≡ assigned a s
+-- SETF of these arguments puts this there
+abbrev pub IsSetf : Object → QuotedProperty → Object → Type 0
+IsSetf arguments p x = (names : List Name) (s : WorldState) → operation_value names Setf arguments s ≡ assigned p x s
 
--- both symbols are there, and the literal may be stored
-pub record IsStorable (u : Table) (a : Assignment) : Type 0 where
-  pub symbol : IsSymbol u (symbol_named a.property.symbol)
-  pub indicator : IsSymbol u (symbol_named a.property.indicator)
-  pub literal : IsArgument u a.literal.now
+-- both symbols are there, and this may be stored
+pub record IsStorable (u : Table) (p : QuotedProperty) (d : Datum) : Type 0 where
+  pub symbol : IsSymbol u (symbol_named p.symbol)
+  pub indicator : IsSymbol u (symbol_named p.indicator)
+  pub value : IsArgument u d
+
+-- (SETF place form)
+abbrev pub setf : Object → Object → Object
+setf place form = pair (symbol common_lisp (codes "SETF")) (pair place (pair form nil))

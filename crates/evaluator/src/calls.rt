@@ -1,15 +1,18 @@
 //! The calls of this crate: the value of a form, and what a form does.
-ghost use Rattle.std.specs.Prelude.{◌≡◌, IfOk};
+ghost use Rattle.std.specs.Prelude.{◌≡◌, IfOk, None, codes, length};
+ghost use Rattle.lisp_object.specs.Object.{pair, symbol};
 ghost use Rattle.lisp_object.specs.Datum.{object_of};
+ghost use Rattle.package_table.specs.Table.{common_lisp};
 ghost use Rattle.lisp_operators.specs.Effects.{Leaves};
 ghost use Rattle.lisp_operators.specs.Readtables.{AreFunctionNames};
 ghost use Rattle.lisp_operators.specs.Evaluated.{IsArgument, KeepsArguments};
 ghost use Rattle.evaluator.specs.Value.{value};
-ghost use Rattle.evaluator.specs.Gathered.{Evaluates};
+ghost use Rattle.evaluator.specs.Gathered.{arguments_in, Evaluates};
 
+use crate::direct::{into_call, is_literal, set_moved};
 use crate::evaluation::evaluate_for;
 use crate::wanted::Wanted;
-use lisp_object::Datum;
+use lisp_object::{Datum, Items};
 use lisp_operators::{Evaluated, EvaluationError};
 use plist_state::World;
 use readtable_core::FnName;
@@ -34,8 +37,58 @@ pub fn evaluate(
 }
 
 /// What a form does, as `evaluate` does it, where its value is not asked for. Gives whether anything was written. Where it is
-/// refused, or memory runs out, what was carried out before stays, and the marks are as they were.
+/// refused, or memory runs out, what was carried out before stays, and the marks are as they were. What the form is to store is
+/// moved out of it where it is SETF of a property to a literal.
 pub fn apply(
+    alloc: Global,
+    world: &mut World,
+    names: &[FnName],
+    form: Datum,
+) -> Result<bool, EvaluationError>
+    requires names { AreFunctionNames names.now }
+    requires form { IsArgument world.old.0.packages form }
+    ensures gives { Leaves result world.new.0 (value names.now world.old.0 (object_of form)) }
+    ensures marked { world.new.1 ≡ world.old.1 }
+{
+    if is_literal(&form) {
+        return Ok(false);
+    }
+    match into_call(form, b"SETF", 3) {
+        Ok(items) => assign(alloc, world, names, items),
+        Err(form) => carry_out(alloc, world, names, &form),
+    }
+}
+
+// What a list of these items does that is headed by SETF.
+fn assign(
+    alloc: Global,
+    world: &mut World,
+    names: &[FnName],
+    items: Vec<Datum>,
+) -> Result<bool, EvaluationError>
+    requires names { AreFunctionNames names.now }
+    requires counted { length items.items ≡ 3 }
+    requires setf { object_of (Datum.List items.items None)
+        ≡ pair (symbol common_lisp (codes "SETF")) (arguments_in items.items) }
+    requires form { IsArgument world.old.0.packages (Datum.List items.items None) }
+    ensures gives { Leaves result world.new.0
+        (value names.now world.old.0 (object_of (Datum.List items.items None))) }
+    ensures marked { world.new.1 ≡ world.old.1 }
+{
+    let mut items = items;
+    let value = items.remove(2);
+    match set_moved(world, &items[1], value) {
+        Ok(set) => set,
+        Err(value) => {
+            items.push(value)?;
+            let items = Items::from_vec(items);
+            carry_out(alloc, world, names, &Datum::List { items, tail: None })
+        }
+    }
+}
+
+// What a form does. It is not taken apart.
+fn carry_out(
     alloc: Global,
     world: &mut World,
     names: &[FnName],

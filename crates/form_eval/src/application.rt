@@ -15,7 +15,8 @@ use std::alloc::Global;
 use user_macros::Meaning;
 
 /// Does what `accept` does, where the value is not asked for. Gives whether anything in the world was written. Asks for what
-/// `accept` asks for. Where the whole form is SETF or PUSH of a property, neither the value nor a list that is there is copied.
+/// `accept` asks for. Where the whole form is SETF or PUSH of a property, neither the value nor a list that is there is copied; nor
+/// is a literal, which is moved out of the form.
 ///
 /// # Errors
 /// Those of `accept`. The world is then as it was, its marks too.
@@ -23,11 +24,11 @@ pub fn apply<M: Meaning>(
     alloc: Global,
     world: &mut World,
     macros: &M,
-    form: &ReadForm,
+    form: ReadForm,
 ) -> Result<bool, EvaluationError>
-    requires form { MayEvaluate world.old.0.packages form.now }
+    requires form { MayEvaluate world.old.0.packages form }
     ensures gives { Leaves result world.new.0
-        (accept M.functions.names world.old.0 (object_of form.now.datum)) }
+        (accept M.functions.names world.old.0 (object_of form.datum)) }
     ensures marked { IfOk result (λ _. world.new.1 ≡ world.old.1 ++ world.old.0 ∷ []) }
     ensures unchanged { IfErr result (λ _. world.new ≡ world.old) }
 {
@@ -41,12 +42,12 @@ fn perform(
     alloc: Global,
     world: &mut World,
     names: &[FnName],
-    form: &ReadForm,
+    form: ReadForm,
 ) -> Result<bool, EvaluationError>
     requires names { AreFunctionNames names.now }
-    requires form { MayEvaluate world.old.0.packages form.now }
+    requires form { MayEvaluate world.old.0.packages form }
     ensures gives { Leaves result world.new.0
-        (accept names.now world.old.0 (object_of form.now.datum)) }
+        (accept names.now world.old.0 (object_of form.datum)) }
     ensures marked { IfOk result (λ _. world.new.1 ≡ world.old.1 ++ world.old.0 ∷ []) }
     ensures unchanged { IfErr result (λ _. world.new ≡ world.old) }
 {
@@ -65,20 +66,20 @@ fn run(
     alloc: Global,
     world: &mut World,
     names: &[FnName],
-    form: &ReadForm,
+    form: ReadForm,
 ) -> Result<bool, EvaluationError>
     requires names { AreFunctionNames names.now }
-    requires form { MayEvaluate world.old.0.packages form.now }
+    requires form { MayEvaluate world.old.0.packages form }
     ensures gives { Leaves result world.new.0
-        (accept names.now world.old.0 (object_of form.now.datum)) }
+        (accept names.now world.old.0 (object_of form.datum)) }
     ensures marked { world.new.1 ≡ world.old.1 }
 {
     world.soundness();
-    let interned = match intern_symbols(alloc, world, form) {
+    let interned = match intern_symbols(alloc, world, &form) {
         Ok(interned) => interned,
         Err(error) => return Err(EvaluationError::from(error)),
     };
-    match evaluator::apply(alloc, world, names, &form.datum) {
+    match evaluator::apply(alloc, world, names, form.datum) {
         Ok(wrote) => Ok(either(interned, wrote)),
         Err(error) => Err(error),
     }
