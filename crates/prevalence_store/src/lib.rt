@@ -79,8 +79,8 @@ mod step;
 mod store;
 
 pub use laws::{
-    form_numbers, fresh_files, headline, one_world, recoveries, version_1_stays,
-    what_is_answered_is_stored,
+    form_numbers, fresh_files, headline, one_world, recoveries, refusals_have_causes,
+    version_1_stays, what_is_answered_is_stored,
 };
 pub use lisp_object::refusal::name_of as refusal_name;
 pub use messages::request::{

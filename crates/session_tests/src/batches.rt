@@ -33,7 +33,7 @@ fn answer_in_batches<D: Disk, M: MacroFunctions>(
 }
 
 /// A form that makes a property a text of so many characters.
-fn long_form(alloc: Global, length: usize) -> Result<Vec<u8>, AllocError> {
+pub(crate) fn long_form(alloc: Global, length: usize) -> Result<Vec<u8>, AllocError> {
     let mut text = Vec::from_slice(alloc, b"(SETF (GET 'A 'B) \"")?;
     for _ in 0..length {
         text.push(b'x')?;

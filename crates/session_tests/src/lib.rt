@@ -8,6 +8,7 @@
 //! - `once`: messages that are answered in one call, and what a crash leaves of them
 //! - `cuts`: the same messages in one call and in two
 //! - `batches`: requests that are answered in batches, each of which ends with the bytes of its answers
+//! - `room`: requests that are refused, as there is no room for what they write
 //!
 //! Lemmas in `proofs`: `Keeping`.
 #![tactic(auto)]
@@ -22,5 +23,7 @@ mod cuts;
 mod keepers;
 #[cfg(test)]
 mod once;
+#[cfg(test)]
+mod room;
 #[cfg(test)]
 mod rounds;
