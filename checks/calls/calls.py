@@ -148,6 +148,11 @@ def files_after(made, *texts, files=(b"", b""), limit=AMPLE):
 HEAD = 15
 
 
+def snapshot_in(half):
+    """The text of the snapshot that a half holds."""
+    return half[HEAD : HEAD + int.from_bytes(half[11:HEAD], "big")]
+
+
 def world(made, files):
     """The text of the world that these files mean: that of the next snapshot."""
     store = opened(made, files)
@@ -155,4 +160,4 @@ def world(made, files):
     generation = store.figures()[0]
     found = [held for held in store.close() if int.from_bytes(held[3:11], "big") == generation]
     want(len(found) == 1, "generation", generation, "is in", len(found), "halves")
-    return found[0][HEAD : HEAD + int.from_bytes(found[0][11:15], "big")]
+    return snapshot_in(found[0])

@@ -1,8 +1,9 @@
 /* Loaded before a program: its Nth call to the system fails (DEVICE_AT=N, from 1). DEVICE_MODE says how: `e5` with the error 5 (any
    number) and nothing done, `E5` so from then on for all calls of this kind, `i4` so at every second write, read and sync of a file from
-   it on, `s` half of the bytes, `t` half of the bytes and then the error 5, `x` the process ends before it, `y` after it, `h` after half
-   of it. How many calls there were and which one failed is written to the file DEVICE_LOG at the end. DEVICE_TRACE is a file that gets
-   what was opened, locked, written, cut and synced, and the answers. Built without headers. */
+   it on, `s` half of the bytes, `t` half of the bytes and then the error 5, `p5` the error at the Nth read of standard input, which comes
+   in pieces then, `x` the process ends before it, `y` after it, `h` after half of it. How many calls there were and which one failed is
+   written to the file DEVICE_LOG at the end. DEVICE_TRACE is a file that gets what was opened, locked, written, cut and synced, and the
+   answers. Built without headers. */
 typedef unsigned long size_t;
 typedef long off_t;
 extern long syscall(long, ...);
@@ -14,7 +15,7 @@ extern int *__errno_location(void);
 extern void _exit(int) __attribute__((noreturn));
 
 enum { READ = 0, WRITE = 1, CLOSE = 3, PREAD = 17, PWRITE = 18, FLOCK = 73, FSYNC = 74, FDATASYNC = 75, FTRUNCATE = 77, OPENAT = 257, MKDIR = 83, STATX = 332 };
-enum { HERE = -100, CREATE = 0100, APPEND = 02000, ANEW = 01000, WRITE_ONLY = 01, EIO = 5 };
+enum { HERE = -100, CREATE = 0100, APPEND = 02000, ANEW = 01000, WRITE_ONLY = 01, EIO = 5, PIECE = 7 };
 
 static unsigned long count, at;
 static char mode, hit;
@@ -54,6 +55,7 @@ static void traced(char call, int file, off_t place, const void *bytes, size_t l
 
 static int is_hit(char call) {
     if (mode == 'i' && call != 'w' && call != 'r' && call != 's') return 0;
+    if (mode == 'p' && call != 'R') return 0;
     count++;
     if (mode == 'i') return count >= at && (count - at) % 2 == 0;
     if (mode == 'E' && hit == call) return 1;
@@ -65,7 +67,7 @@ static int is_hit(char call) {
 static long failed(int number) { *__errno_location() = number; return -1; }
 
 #define BEGIN(call) int now = is_hit(call); \
-    if (now && (mode == 'e' || mode == 'E' || mode == 'i')) return failed(error); \
+    if (now && (mode == 'e' || mode == 'E' || mode == 'i' || mode == 'p')) return failed(error); \
     if (now && mode == 'x') { note(); _exit(99); }
 #define END if (now && mode == 't') return failed(EIO); \
     if (now && (mode == 'y' || mode == 'h')) { note(); _exit(99); }
@@ -152,7 +154,8 @@ int open(const char *name, int flags, ...) {
 
 long read(int file, void *bytes, size_t length) {
     BEGIN('R')
-    long result = syscall(READ, file, bytes, now && mode == 's' ? 1 : length);
+    size_t most = mode == 'p' ? PIECE : now && mode == 's' ? 1 : length;
+    long result = syscall(READ, file, bytes, most < length ? most : length);
     END
     return result;
 }

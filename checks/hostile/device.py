@@ -3,9 +3,9 @@ import collections
 
 from store import DEVICE, INPUT, OUTPUT, check, courses, library, logged, want
 
-# an error once, want of room, an interrupt, an error from then on, half of the bytes, half of them and an error; the end of the process
-# before the call, after it, and in it
-MODES = ("e5", "e28", "e4", "E5", "s", "t", "x", "y", "h")
+# an error once, want of room, an interrupt, an error from then on, half of the bytes, half of them and an error; an error of a read of
+# standard input, which comes in pieces; the end of the process before the call, after it, and in it
+MODES = ("e5", "e28", "e4", "E5", "s", "t", "p5", "x", "y", "h")
 
 # a fault of the device: of a write of a half, a sync, a cut, a read, a lock; then of standard input and of standard output
 TOLD = {"w": DEVICE, "s": DEVICE, "c": DEVICE, "r": DEVICE, "f": DEVICE, "R": INPUT, "W": OUTPUT}

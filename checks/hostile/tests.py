@@ -5,7 +5,7 @@ import subprocess
 
 from store import PATIENCE, library, logged, want
 
-CRATES = ("log_tests", "program_tests", "reader_tests", "world_tests")
+CRATES = ("program_tests", "reader_tests")
 
 # What the error names with which a test ends that met want of memory. A disk in memory that finds none answers with a fault of the device.
 ERRORS = (b"AllocError", b"AllocFailed", b"Memory", b"Device")

@@ -1,13 +1,44 @@
-//! Lines of the text of calls, and what they tell.
+//! Lines of the text of calls, and why a test has none.
 
-use crate::files::{Trouble, trouble_of};
-use disk_trait::Half;
+use disk_trait::{DeviceFault, Half};
 use lisp_object::Datum;
 use prevalence_store::{Ended, Ending, Outcome, Place};
+use std::alloc::AllocError;
 use std::io::Write;
 
-/// A line of a word and a number.
-pub fn number_line(text: &mut Vec<u8>, word: &str, number: i128) -> Result<(), Trouble> {
+/// Why a test has no text or bytes to look at.
+#[derive(Debug, PartialEq, Eq, Drop)]
+pub enum Trouble {
+    /// The device failed: a disk in memory does where it finds none.
+    Device,
+    Memory,
+    /// A refusal of this number, where the test wants none.
+    Refused(u16),
+}
+
+/// What a refusal of this number is, where none is wanted.
+pub fn trouble_of(number: u16) -> Trouble {
+    match number {
+        90 => Trouble::Memory,
+        60 => Trouble::Device,
+        _ => Trouble::Refused(number),
+    }
+}
+
+impl From<AllocError> for Trouble {
+    fn from(_error: AllocError) -> Trouble {
+        Trouble::Memory
+    }
+}
+
+impl From<DeviceFault> for Trouble {
+    fn from(_fault: DeviceFault) -> Trouble {
+        Trouble::Device
+    }
+}
+
+// A line of a word and a number.
+fn number_line(text: &mut Vec<u8>, word: &str, number: i128) -> Result<(), Trouble> {
     match writeln!(text, "{word} {number}") {
         Ok(()) => Ok(()),
         Err(_) => Err(Trouble::Memory),
@@ -34,11 +65,12 @@ pub fn half_line(
     }
 }
 
-/// The line of how a session ended.
+/// The line of how a session ended. A writer in memory fails for want of it alone.
 pub fn ending_line(text: &mut Vec<u8>, ending: Ending) -> Result<(), Trouble> {
     match ending {
         Ending::End => Ok(text.extend_from_slice(b"end\n")?),
         Ending::Reader(number) => number_line(text, "reader", i128::from(number)),
+        Ending::Store(68) => Err(Trouble::Memory),
         Ending::Store(number) => number_line(text, "store", i128::from(number)),
     }
 }
@@ -58,16 +90,8 @@ pub fn ended_line(text: &mut Vec<u8>, ended: Ended) -> Result<(), Trouble> {
         Ended::End => Ok(text.extend_from_slice(b"end\n")?),
         Ended::Unreadable(number, place) => place_line(text, "reader", number, place),
         Ended::Unaccepted(number, place) => place_line(text, "strict", number, place),
+        Ended::Store(68) => Err(Trouble::Memory),
         Ended::Store(number) => number_line(text, "store", i128::from(number)),
-    }
-}
-
-/// Nothing where a session ended in no fault. It is an error if it did, and one of memory if a writer in memory took nothing.
-pub fn unfaulted(ending: Ending) -> Result<(), Trouble> {
-    match ending {
-        Ending::End | Ending::Reader(_) => Ok(()),
-        Ending::Store(68) => Err(Trouble::Memory),
-        Ending::Store(number) => Err(trouble_of(number)),
     }
 }
 
@@ -91,8 +115,5 @@ pub fn outcome_lines(text: &mut Vec<u8>, outcomes: &[Outcome]) -> Result<(), Tro
 
 /// Whether a line tells of want of memory.
 pub fn is_short(line: &[u8]) -> bool {
-    matches!(
-        line,
-        b"refused 90" | b"unrun 90" | b"store 90" | b"unopened 90"
-    )
+    matches!(line, b"refused 90" | b"store 90")
 }
