@@ -146,8 +146,9 @@ pub fn recoveries<D: Disk>()
         ↔ KeepsSome functions (D.state disk) world [] 0 }
 {}
 
-/// The number with which requests are refused tells why, and what stands after it: 60 a device fault, 64 that there is no room, 90 that there
-/// was no memory, any other that a form of the store's own was refused. Only after 60 the store has changed.
+/// The number with which requests are refused tells why, and what stands after it: 60 a device fault, 64 that there is no room for what they wrote,
+/// any other but 90 that a form of the store's own was refused. Only after 60 the store has changed. For `answer_first_requests` it speaks of
+/// the front of the requests that was to be answered.
 pub fn refusals_have_causes<D: Disk, R>()
     ensures { (functions : Functions) (old new : StoreView D R) (world : WorldState) (last : ℕ) (requests : List Request) (number : ℕ)
         → AnswersRequests functions D.state old new world last requests (Err number)

@@ -1,10 +1,7 @@
 //! Requests that have no room.
-ghost use Rattle.std.specs.Prelude.{◌≡◌, ◌<◌, ◌-◌, ◌^◌, ◌+◌, length, Some, true};
-ghost use Rattle.std.specs.List.{flat_map};
-ghost use Rattle.gate_log.specs.Layout.{open_record};
+ghost use Rattle.std.specs.Prelude.{◌≡◌, ◌<◌, ◌-◌, ◌^◌, Some, true};
 ghost use Rattle.plist_state.specs.State.{WorldState};
-ghost use Rattle.prevalence_store.specs.messages.Answers.{answered, begun};
-ghost use Rattle.prevalence_store.specs.messages.Calls.{records};
+ghost use Rattle.prevalence_store.specs.messages.Refusals.{HasNoRoom};
 ghost use Rattle.user_macros.specs.Functions.{are_registered};
 
 use crate::batches::long_form;
@@ -30,10 +27,8 @@ fn has_no_room<D: Disk, M: MacroFunctions>(
 ) -> bool
     requires answers { M.answers store.old.macros }
     requires whole { are_registered M.Meaning.functions (M.functions store.old.macros) ≡ true }
-    ensures { (world : WorldState) → store.old.world ≡ Some world → result ≡ true
-        → (store.new ≡ store.old) × (store.old.limit < store.old.size + length (flat_map open_record
-        (records M.Meaning.functions D.state store.old store.new world
-        (answered M.Meaning.functions (begun last world) requests.now)))) }
+    ensures { (world : WorldState) → store.old.world ≡ Some world → result ≡ true → (store.new ≡ store.old)
+        × HasNoRoom M.Meaning.functions D.state store.old store.new world last requests.now }
 {
     refusals_have_causes::<D, M>();
     match store.answer_requests(last, requests) {

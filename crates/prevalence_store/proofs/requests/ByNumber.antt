@@ -35,7 +35,7 @@ module _ (functions : Functions)
       device = λ is. absurd (omega (arith, is, below));
       unchanged = λ _. left.unchanged refl;
       full = λ is. absurd (omega (arith, is, below));
-      own = λ _ _ _. own;
+      own = λ _ _ _. (below, own);
     }
     by_cause Full left own = record {
       device = λ is. absurd (omega (arith, is));

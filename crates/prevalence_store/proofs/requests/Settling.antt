@@ -94,7 +94,7 @@ module _ (functions : Functions) {D R : Type 0} (state : D → State) (sound : (
         → AreLeft functions state old new w round cause
     round_left round cause wrote again took = record {
       unchanged = took.unchanged;
-      full = λ full. subst (of_records (λ es v. old.limit < old.size + length (flat_map open_record es)) round) (sym wrote) (took.full full).1;
+      full = λ full. subst (of_records (λ es v. (0 < length es) × (old.limit < old.size + length (flat_map open_record es))) round) (sym wrote) (took.full full);
       stopped = λ device.
           let stopped = took.stopped device in
           record {

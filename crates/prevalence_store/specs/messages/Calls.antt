@@ -104,7 +104,7 @@ module _ (functions : Functions) {D R : Type 0} (state : D → State) (old new :
   -- They were not logged, and this is why. Unless the device failed all is as it was.
   pub record AreLeft (cause : Failure) : Type 0 where
     pub unchanged : is_device cause ≡ false → new ≡ old
-    pub full : cause ≡ failure.Full → old.limit < old.size + length (flat_map open_record records)
+    pub full : cause ≡ failure.Full → (0 < length records) × (old.limit < old.size + length (flat_map open_record records))
     pub stopped : is_device cause ≡ true → Fail
 
 module _ (functions : Functions) {D R : Type 0} (state : D → State) (old new : StoreView D R) (world : WorldState) where
