@@ -86,9 +86,6 @@ fn next_order(row: &Row) -> Result<u64, AllocError>
     ensures { IfOk result (λ next. IsRising (orders row.now.items)
         → (k : ℕ) → k < length row.now.items → (nth (orders row.now.items) k).1 < next) }
 {
-    if row.is_empty() {
-        return Ok(0);
-    }
     match row.last_order().checked_add(1) {
         Some(next) => Ok(next),
         None => Err(AllocError),

@@ -79,15 +79,20 @@ impl Row {
         holder(self.slots.as_slice(), index).order
     }
 
-    /// An order that is not below that of the last property, nor of one that was taken out and may come back.
+    /// An order that is not below that of the last property, nor of one that was taken out and may come back; 0 where there is none.
     pub fn last_order(&self) -> u64
-        requires { 0 < length self.now.items }
-        ensures { (slice_index_or self.now.items (length self.now.items - 1) no_property).order ≤ result }
+        ensures { 0 < length self.now.items
+            → (slice_index_or self.now.items (length self.now.items - 1) no_property).order ≤ result }
     {
-        let order = self.order(self.len() - 1);
+        let count = self.len();
         match self.slots.last() {
-            Some(last) => order.max(last.order),
-            None => order,
+            None => 0,
+            Some(last) => {
+                if count == 0 {
+                    return last.order;
+                }
+                last.order.max(self.order(count - 1))
+            }
         }
     }
 

@@ -115,7 +115,7 @@ pub(crate) fn take_out(slots: &mut [Slot], index: usize) -> NumberedProperty
     empty(&mut slots[at])
 }
 
-// The first slot whose order is not below this one, where the orders rise.
+// The first slot whose order is not below this one, where the orders rise: those of slots that are gone too, as a new one is over `last_order`.
 fn first_from(slots: &[Slot], order: u64) -> usize
     ensures { result ≤ length slots.now }
 {
