@@ -7,7 +7,7 @@ import os
 import re
 import shutil
 
-from store import Answer, NO_MEMORY, library, logged, want, without_cause
+from store import Answer, NO_MEMORY, OUTPUT, library, logged, want, without_cause
 
 REFUSED = NO_MEMORY.decode().strip()
 FOLDER = os.path.join(os.path.dirname(os.path.dirname(os.path.abspath(__file__))), "sessions")
@@ -43,6 +43,11 @@ def without_count(words, err):
     return re.sub(rb"answers \d+ refusals \d+\n\Z", b"", err) if "--quiet" in words else err
 
 
+def shortages(words):
+    """What tells of want of memory. A quiet session gathers the lines of refusals, and where they find none its output has failed."""
+    return (NO_MEMORY, OUTPUT) if "--quiet" in words else (NO_MEMORY,)
+
+
 def outcomes(room, folder, name, step, loaded, most, before_it):
     """What came of a run where one growth of it is refused, after so many of other runs: the first one of it goes by these, so that
     runs which begin alike are not all refused the same growths. The folder is left as it was."""
@@ -64,7 +69,8 @@ def outcomes(room, folder, name, step, loaded, most, before_it):
     for number in range(1 + before_it % every, total + 1, every):
         got, words = tried(number)
         want(words is not None and words[1] == "1", name, step.words, "growth", number, "was not refused, or the program did not end")
-        is_short = got.status == 3 and without_count(step.words, got.err) == NO_MEMORY and ample.out.startswith(got.out)
+        told = without_count(step.words, got.err)
+        is_short = got.status == 3 and told in shortages(step.words) and ample.out.startswith(got.out)
         want(got == ample or is_short, name, step.words, "growth", number, got, "in place of", ample)
-        yield "absorbed" if got == ample else REFUSED
+        yield "absorbed" if got == ample else told.decode().strip()
     shutil.rmtree(before)

@@ -164,8 +164,8 @@ def logged(log):
     return words
 
 
-# The line on the place of a refusal that ended a session.
-PLACE = re.compile(rb"(?:line \d+, column \d+|after \d+ bytes)(: refused with .* in form \d+), which began .*\n")
+# The line on the place of a refusal that ended a session, and the count after it that a quiet one ends with.
+PLACE = re.compile(rb"(?:line \d+, column \d+|after \d+ bytes)(: refused with .* in form \d+), which began .*\n(answers \d+ refusals \d+\n|)")
 
 
 def without_cause(faults):
@@ -173,7 +173,7 @@ def without_cause(faults):
     if faults.startswith(DEVICE) and faults.count(b"\n") == 2:
         return DEVICE
     place = PLACE.fullmatch(faults)
-    return place[1] if place else faults
+    return place[1] + place[2] if place else faults
 
 
 class Room:
