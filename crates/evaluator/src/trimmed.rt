@@ -4,7 +4,7 @@ ghost use Rattle.std.specs.Prelude.{◌≡◌};
 use lisp_object::{Datum, Items};
 use std::mem;
 
-/// The same datum. Its lists and vectors keep no room for more items than they have.
+/// The same datum. Its lists and vectors, but for one behind a dot, keep no room for more items than they have.
 #[cycle(trimming)]
 pub(crate) fn trimmed(datum: Datum) -> Datum
     ensures { result ≡ datum }

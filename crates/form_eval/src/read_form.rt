@@ -1,4 +1,4 @@
-// A form that was read.
+//! A form that was read.
 
 use lisp_object::Datum;
 

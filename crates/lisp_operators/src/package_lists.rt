@@ -1,5 +1,4 @@
-//! The operators that take packages or symbols in lists (standard 11.2): EXPORT, IMPORT, USE-PACKAGE. None takes memory before
-//! its first change.
+//! The operators that take packages or symbols in lists (standard 11.2): EXPORT, IMPORT, USE-PACKAGE.
 ghost use Rattle.std.specs.Prelude.{◌≡◌, true, IfOk, bytes_eq};
 ghost use Rattle.std.specs.List.{list_any};
 ghost use Rattle.lisp_object.specs.declared.refusal.TheConstants.{NO_SUCH_PACKAGE as NO_PACKAGE};
