@@ -19,9 +19,15 @@ const USER: &[u8] = b"COMMON-LISP-USER";
 
 /// A name or a text, of sixteen bytes. Contracts see the list of its bytes. At most 14 of them are kept in the value itself,
 /// and COMMON-LISP-USER takes no memory either.
-#[derive(Debug, Drop)]
+#[derive(Debug)]
 pub struct Bytes {
     kept: Kept,
+}
+
+impl Drop for Bytes {
+    fn drop(self) {
+        let Bytes { kept: _ } = self;
+    }
 }
 
 #[derive(Debug, Drop)]

@@ -15,9 +15,14 @@ use std::alloc::{AllocError, Global};
 use std::marker::Model;
 
 /// A proper datum whose object is sound, so that nothing looks at it once more. Contracts see it as its object.
-#[derive(Drop)]
 pub struct HeldObject {
     datum: Datum,
+}
+
+impl Drop for HeldObject {
+    fn drop(self) {
+        let HeldObject { datum: _ } = self;
+    }
 }
 
 impl Model for HeldObject {
@@ -129,9 +134,14 @@ fn quote(alloc: Global) -> Result<HeldObject, AllocError>
 }
 
 /// Such data in order, which contracts see as their objects.
-#[derive(Drop)]
 pub struct HeldObjects {
     data: Vec<Datum>,
+}
+
+impl Drop for HeldObjects {
+    fn drop(self) {
+        let HeldObjects { data: _ } = self;
+    }
 }
 
 impl Model for HeldObjects {
