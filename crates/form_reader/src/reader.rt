@@ -122,6 +122,8 @@ impl FormReader {
         requires highest_base { base ≤ 36 }
         requires current { IsPackage packages.now.0 current.now }
         requires count { fed self.old < 2 ^ 63 }
+
+        // What the byte comes to is what the whole text comes to: a form, a refusal, or that more bytes decide.
         ensures steps { (bytes : List ℕ) → IsAfter
             (setting_of (limits_of self.old) readtable.now base packages.now.0 current.now
             (R.functions macros.now))
@@ -130,10 +132,14 @@ impl FormReader {
             (R.functions macros.now))
             self.new (bytes ++ byte ∷ [])) }
         ensures limits { limits_of self.new ≡ limits_of self.old }
+
+        // How many bytes the reader has, and from where on they are still needed.
         ensures fed { fed self.new ≤ fed self.old + 1 }
         ensures counts { IfOk result (Counts self.old self.new) }
         ensures begun { IfOk result (BeginsLater self.old self.new) }
         ensures sound { IfOk result IsSoundStep }
+
+        // After a refusal, and after it ran out of memory, it answers the same again.
         ensures refused { (number offset : ℕ) → HasRefused self.old number offset
             → (result ≡ Ok (AdvanceRefused number offset)) × HasRefused self.new number offset }
         ensures unchanged { (number offset : ℕ) → HasRefused self.old number offset → self.new ≡ self.old }
@@ -142,11 +148,15 @@ impl FormReader {
         ensures stays { (number offset : ℕ)
             → (HasRefused self.old number offset → fed self.new ≡ fed self.old)
             × (HasNoMemory self.old → fed self.new ≡ fed self.old) }
+
+        // Between forms whitespace leaves the reader there.
         ensures between { IsBetween self.old → is_whitespace readtable.now byte ≡ true
             → 0 < (limits_of self.old).text → (result ≡ Ok AdvanceMore) × IsBetween self.new }
         ensures between_forms { IfOk result (LeavesBetween self.new) }
         ensures nothing_open { result ≡ Ok AdvanceMore
             → begun self.new ≡ fed self.new → IsBetween self.new }
+
+        // Where the form that is open began.
         ensures has_begun { (bytes : List ℕ) → IsAfter
             (setting_of (limits_of self.old) readtable.now base packages.now.0 current.now
             (R.functions macros.now))
@@ -233,9 +243,13 @@ impl FormReader {
         requires highest_base { base ≤ 36 }
         requires current { IsPackage packages.now.0 current.now }
         requires count { fed self ≤ 2 ^ 63 }
+
+        // After a refusal, and after it ran out of memory, it answers the same again.
         ensures refused { (number offset : ℕ) → HasRefused self number offset
             → result ≡ Ok (ReadRefused number offset) }
         ensures spent { HasNoMemory self → IsErr result }
+
+        // The outcome is that of the whole text.
         ensures outcome { (bytes : List ℕ) → IsAfter
             (setting_of (limits_of self) readtable.now base packages.now.0 current.now
             (R.functions macros.now))

@@ -127,10 +127,14 @@ fn change_of<R: MacroFunctions>(
     requires ready { IsReady with.now.limits at event }
     requires some { 0 < at }
     requires count { start + at ≤ 2 ^ 63 }
+
+    // The change is what the text comes to under what the byte brings; the rest is what the next byte finds.
     ensures turns { let setting = setting R.functions with.now in
         (cs : List ℕ) (read : Read FoundThere) → Brings setting stack.old at cs event read
         → IfOk result (λ change. ChangesTo setting stack.new cs change (verdict_of setting start read)) }
     ensures ready { IfOk result (IsReadyChange with.now.limits stack.new (start + at)) }
+
+    // Where the attempt began that is then open.
     ensures begins { IfOk result (BeginsFrom start) }
     ensures anew { IfOk result (BeginsAnew stack.new) }
     ensures starts { IfOk result (StartsAt start) }
@@ -161,10 +165,14 @@ fn first_change<R: MacroFunctions>(
     requires answers { R.answers with.now.macros.now }
     requires none { stack.old ≡ [] }
     requires count { start < 2 ^ 63 }
+
+    // The change is what a text that begins with the byte comes to; the rest is what the next byte finds.
     ensures turns { let setting = setting R.functions with.now in
         (cs : List ℕ) → IfOk result (λ change. ChangesTo setting stack.new cs change
         (verdict_of setting start (state_gives setting [] AtObject 0 (c ∷ cs)))) }
     ensures ready { IfOk result (IsReadyChange with.now.limits stack.new (start + 1)) }
+
+    // Where the attempt began that is then open, also after whitespace.
     ensures begins { IfOk result (BeginsFrom start) }
     ensures anew { IfOk result (BeginsAnew stack.new) }
     ensures starts { IfOk result (StartsWith (setting R.functions with.now) start c) }
@@ -192,10 +200,15 @@ fn done_before<R: MacroFunctions>(
     requires found { lookahead found ≤ 1 }
     requires none { stack.old ≡ [] }
     requires count { start + at < 2 ^ 63 }
+
+    // The change is what the text comes to, whose first object ended before the byte; the rest is what the next byte
+    // finds.
     ensures turns { let setting = setting R.functions with.now in
         (cs : List ℕ) → IfOk result (λ change. ChangesTo setting stack.new cs change
         (verdict_of setting start (Ok (found, at, c ∷ cs)))) }
     ensures ready { IfOk result (IsReadyChange with.now.limits stack.new (start + at + 1)) }
+
+    // Where the attempt began that is then open.
     ensures begins { IfOk result (BeginsFrom start) }
     ensures anew { IfOk result (BeginsAnew stack.new) }
     ensures starts { IfOk result (StartsAfter (setting R.functions with.now) found start at c) }
@@ -238,10 +251,14 @@ pub(crate) fn take_byte<R: MacroFunctions>(
     requires answers { R.answers with.now.macros.now }
     requires standing { IsStanding with.now.limits stack.old state at }
     requires count { start + at < 2 ^ 63 }
+
+    // The change is what the text comes to; the rest is what the next byte finds.
     ensures turns { let setting = setting R.functions with.now in
         (cs : List ℕ) → IfOk result (λ change. ChangesTo setting stack.new cs change
         (verdict_of setting start (state_gives setting stack.old state at (c ∷ cs)))) }
     ensures ready { IfOk result (IsReadyChange with.now.limits stack.new (start + at + 1)) }
+
+    // Where the attempt began that is then open, also after whitespace.
     ensures begins { IfOk result (BeginsFrom start) }
     ensures anew { IfOk result (BeginsAnew stack.new) }
     ensures starts { IfOk result (Starts (setting R.functions with.now) stack.old state start at c) }

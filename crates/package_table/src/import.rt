@@ -81,6 +81,8 @@ impl Packages {
             (after_import self.old.0 owner.now home.now name.now) }
         ensures changed { Yields result (import_changes self.old.0 owner.now name.now) }
         ensures exactly { IfOk result (λ changed. Tells changed self.old.0 self.new.0) }
+
+        // What stays.
         ensures grows { Grows self.old.0 self.new.0 }
         ensures memory { IfErr result
             (RunsOutOnlyIf (import_changes self.old.0 owner.now name.now)) }

@@ -38,6 +38,8 @@ fn intern_in(
     requires counted { length sets.old.symbols ≡ symbol_count (numbered_of sets.old).0 }
     requires joined { IsJoined (numbered_of sets.old).0 }
     requires placed { IsPlaced sets.old }
+
+    // What interning gives, and what is kept of the numbers.
     ensures gives { Gives (λ interned. (interned.home, (numbered_of sets.new).0)) result
         (after_intern (numbered_of sets.old).0 (name_at sets.old.packages owner) name.now) }
     ensures is_new { let p = name_at sets.old.packages owner in IfOk result
@@ -105,6 +107,8 @@ impl Packages {
         ensures exactly { IfOk result (λ interned. Tells interned.is_new self.old.0 self.new.0) }
         ensures finds { IfOk result
             (λ interned. found self.new.0 owner.now name.now ≡ Some interned.home) }
+
+        // What stays.
         ensures others { IsSameBut self.old.0 self.new.0 owner.now name.now }
         ensures grows { Grows self.old.0 self.new.0 }
         ensures unchanged { IfErr result (λ _. self.new ≡ self.old) }

@@ -55,6 +55,8 @@ pub fn read_plain(
         (λ f. f.known ≡ true → are_there packages.now.0 (object_of f.datum) ≡ true)) }
     ensures proper { IfOk result (λ found. IfSome found (λ f. is_proper f.datum ≡ true)) }
     ensures sound { IfOk result (λ found. IfSome found (λ f. IsSound (object_of f.datum))) }
+
+    // Where the form ends; whitespace alone is none.
     ensures some { IfOk result (λ found. IfSome found (λ f. 0 < f.end)) }
     ensures within { IfOk result (λ found. IfSome found (λ f. f.end ≤ length bytes.now)) }
     ensures blank { list_all (is_whitespace readtable.now) bytes.now ≡ true → result ≡ Ok None }

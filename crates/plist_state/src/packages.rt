@@ -47,6 +47,8 @@ impl World {
             (λ interned. Tells interned.is_new self.old.0.packages self.new.0.packages) }
         ensures finds { IfOk result
             (λ interned. found self.new.0.packages owner.now name.now ≡ Some interned.home) }
+
+        // What stays.
         ensures others { IsSameBut self.old.0.packages self.new.0.packages owner.now name.now }
         ensures rest { self.new ≡ (with_packages self.old.0 self.new.0.packages, self.old.1) }
         ensures grows { Grows self.old.0.packages self.new.0.packages }

@@ -81,6 +81,8 @@ fn write(
     ensures back { IfOk result (GoesBack (plist_of row.old) (plist_of row.new)) }
     ensures values { IsProperRow row.old → IsProperRow row.new }
     ensures former { IsProperRow row.old → IfOk result IsProperChange }
+
+    // What the next change rests on.
     ensures room { room row.old ≤ room row.new }
     ensures err { OnErr result (row.new.items ≡ row.old.items) }
     ensures indexed { IsIndexedIn indexes.new.entries number row.new.items }
@@ -122,6 +124,8 @@ fn write_first(
     ensures back { IfOk result (GoesBack (plist_of row.old) (plist_of row.new)) }
     ensures values { IsProperRow row.new }
     ensures former { IfOk result IsProperChange }
+
+    // What the next change rests on.
     ensures room { room row.old ≤ room row.new }
     ensures err { OnErr result (plist_of row.new ≡ plist_of row.old) }
     ensures indexed { IsIndexedIn indexes.now.entries number row.new.items }
@@ -166,6 +170,8 @@ fn revert(row: &mut Row, indexes: &mut Indexes, number: u32, change: PropertyCha
     requires room { length (list_before change (plist_of row.old)) ≤ room row.old }
     ensures after { plist_of row.new ≡ list_before change (plist_of row.old) }
     ensures values { IsProperRow row.old → IsProperRow row.new }
+
+    // What the next change rests on.
     ensures room { room row.old ≤ room row.new }
     ensures indexed { IsIndexedIn indexes.new.entries number row.new.items }
     ensures others { KeepsOthers indexes.old.entries indexes.new.entries number }
@@ -233,6 +239,8 @@ fn write_at(
     ensures back { IfOk result
         (GoesBack (row_of (lists_of rows.old) number) (row_of (lists_of rows.new) number)) }
     ensures former { IfOk result IsProperChange }
+
+    // What the next change rests on.
     ensures wider { IsWider rows.old.entries rows.new.entries }
     ensures err { OnErr result (lists_of rows.new ≡ lists_of rows.old) }
     ensures indexed { AreIndexed rows.new.entries indexes.new.entries }
@@ -263,6 +271,8 @@ pub(crate) fn put(
     ensures back { IfOk result
         (GoesBack (row_of (lists_of rows.old) number) (row_of (lists_of rows.new) number)) }
     ensures former { IfOk result IsProperChange }
+
+    // What the next change rests on.
     ensures wider { IsWider rows.old.entries rows.new.entries }
     ensures err { OnErr result (lists_of rows.new ≡ lists_of rows.old) }
     ensures indexed { AreIndexed rows.new.entries indexes.new.entries }
@@ -290,6 +300,8 @@ pub(crate) fn push(
     ensures back { IfOk result
         (GoesBack (row_of (lists_of rows.old) number) (row_of (lists_of rows.new) number)) }
     ensures former { IfOk result IsProperChange }
+
+    // What the next change rests on.
     ensures wider { IsWider rows.old.entries rows.new.entries }
     ensures err { OnErr result (lists_of rows.new ≡ lists_of rows.old) }
     ensures indexed { AreIndexed rows.new.entries indexes.now.entries }

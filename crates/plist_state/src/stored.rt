@@ -117,11 +117,15 @@ pub(crate) fn push(
     requires values { IsProperRows stored.old.properties.entries }
     requires indexed { AreIndexed stored.old.properties.entries stored.old.indexes.entries }
     requires list { holds_pair (value_in (rest_of stored.old).properties number indicator) ≡ true }
+
+    // The property has the item first; or memory ran out, and it is as it was.
     ensures ok { let r = rest_of stored.old in
         OnOk result (rest_of stored.new ≡ record r {
           properties = with_pushed_in r.properties number indicator (object_of first);
         }) }
     ensures err { OnErr result (rest_of stored.new ≡ rest_of stored.old) }
+
+    // What the next change rests on.
     ensures wider { IsWider stored.old.properties.entries stored.new.properties.entries }
     ensures indexed { AreIndexed stored.new.properties.entries stored.new.indexes.entries }
     ensures marked { Continues (marks_of marks.old.items) (rest_of stored.old)
@@ -164,6 +168,8 @@ pub(crate) fn remove(
 ) -> Result<bool, AllocError>
     requires values { IsProperRows stored.old.properties.entries }
     requires indexed { AreIndexed stored.old.properties.entries stored.old.indexes.entries }
+
+    // The property is gone, and whether it was there; or memory ran out, and it is as it was.
     ensures ok { let r = rest_of stored.old in
         OnOk result (rest_of stored.new ≡ record r {
           properties = without_value_in r.properties number indicator;
@@ -173,6 +179,8 @@ pub(crate) fn remove(
     ensures absent { OnErr result
         (is_some (value_in (rest_of stored.old).properties number indicator) ≡ true) }
     ensures err { OnErr result (rest_of stored.new ≡ rest_of stored.old) }
+
+    // What the next change rests on.
     ensures wider { IsWider stored.old.properties.entries stored.new.properties.entries }
     ensures indexed { AreIndexed stored.new.properties.entries stored.new.indexes.entries }
     ensures marked { Continues (marks_of marks.old.items) (rest_of stored.old)

@@ -56,11 +56,15 @@ pub(crate) fn undo_to(stored: &mut Stored, marks: &mut Vec<Vec<Note>>, mark: usi
         stored.old.properties.entries }
     requires values { IsProperRows stored.old.properties.entries }
     requires indexed { AreIndexed stored.old.properties.entries stored.old.indexes.entries }
+
+    // The state is that of the mark, and the marks before it stay.
     ensures past { rests_at (marks_of marks.new.items) (rest_of stored.new)
         ≡ take mark (rests_at (marks_of marks.old.items) (rest_of stored.old)) }
     ensures now { slice_get (rests_at (marks_of marks.old.items) (rest_of stored.old)) mark
         ≡ Some (rest_of stored.new) }
     ensures count { length marks.new.items ≡ mark }
+
+    // What the next change rests on.
     ensures journal { IsJournal (marks_of marks.new.items) (rest_of stored.new)
         stored.new.properties.entries }
     ensures wider { IsWider stored.old.properties.entries stored.new.properties.entries }

@@ -45,6 +45,9 @@ impl FormReader {
         requires current { IsPackage packages.now.0 current.now }
         requires some { 0 < length bytes.now }
         requires count { fed self.old + length bytes.now ≤ 2 ^ 63 }
+
+        // What the bytes come to is what so many steps come to: up to the first that answers something else than
+        // `More`.
         ensures feeds { (before : List ℕ) → IsAfter
             (setting_of (limits_of self.old) readtable.now base packages.now.0 current.now
             (R.functions macros.now))
@@ -55,19 +58,27 @@ impl FormReader {
         ensures some { IfOk result (λ got. 0 < got.0) }
         ensures within { IfOk result (λ got. got.0 ≤ length bytes.now) }
         ensures whole { IfOk result (λ got. got.1 ≡ AdvanceMore → got.0 ≡ length bytes.now) }
+
+        // How many bytes the reader has, and from where on they are still needed.
         ensures limits { limits_of self.new ≡ limits_of self.old }
         ensures fed { fed self.new ≤ fed self.old + length bytes.now }
         ensures advances { IfOk result (λ got. Advances self.old self.new got.0 got.1) }
         ensures sound { IfOk result (λ got. IsSoundStep got.1) }
+
+        // After a refusal, and after it ran out of memory, it answers the same again.
         ensures refused { (number offset : ℕ) → HasRefused self.old number offset
             → (result ≡ Ok (1, AdvanceRefused number offset)) × (self.new ≡ self.old) }
         ensures memory { OnErr result (HasNoMemory self.new) }
         ensures spent { HasNoMemory self.old → IsErr result }
+
+        // Between forms whitespace leaves the reader there.
         ensures between { IsBetween self.old → list_all (is_whitespace readtable.now) bytes.now ≡ true
             → 0 < (limits_of self.old).text → (result ≡ Ok (length bytes.now, AdvanceMore)) × IsBetween self.new }
         ensures between_forms { IfOk result (λ got. LeavesBetween self.new got.1) }
         ensures nothing_open { IfOk result (λ got. got.1 ≡ AdvanceMore
             → begun self.new ≡ fed self.new → IsBetween self.new) }
+
+        // Where the form that is open began.
         ensures has_begun { (before : List ℕ) → IsAfter
             (setting_of (limits_of self.old) readtable.now base packages.now.0 current.now
             (R.functions macros.now))
