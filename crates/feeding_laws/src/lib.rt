@@ -8,8 +8,6 @@
 //! - `feeding_on`: and however often it is stopped
 #![tactic(auto)]
 
-#[cfg(test)]
-mod again;
 mod feeding;
 
 pub use feeding::{fed_sessions, feeding_again, feeding_on};

@@ -1,7 +1,9 @@
-//! Tests of the store, its log and its devices, through the public calls of prevalence_store, gate_log and disk_trait: what neither a
-//! run of the program nor a call by C can show.
+//! Tests of the store, its log and its devices, through the public calls of the crates: what neither a run of the program nor a call by C can
+//! show. Then callers of the laws of store_laws, message_laws, feeding_laws, wider_functions and whole_export, over any disk, any macro
+//! functions and any input, and runs of them.
 //!
-//! They are a crate of their own, so that the libraries are not proved again for the sake of their tests.
+//! They are a crate of their own, at the top, so that no library is proved again for the sake of its tests, and that the store is compiled
+//! for tests once.
 //!
 //! What a call ensures stays in the context of all that comes after it. So each call of a store is made in `asked` alone, and a test
 //! compares the text of what its calls gave with the one that is wanted.
@@ -10,19 +12,69 @@
 //! - `halves`: sessions in halves with little room, with groups and without; steps one after the other
 //! - `logs`: a log with no store over it
 //! - `disks`: disks in memory, disks that fail where they are told to, and files of the system
-//! - Want of memory ends a test with an error, wherever it comes: an assertion that fails is an answer that has changed.
-//! - What a run of the built program can show is in `checks/sessions`: answers, refusals and their places, words, commands, files; how
-//!   it takes its input in `checks/pieces`, and what it does at a terminal in `checks/terminal`. Limits, calls that stop, crashes and
-//!   calls that are made again for want of memory are in `checks/calls`, faults of the device and of streams in `checks/campaign`.
+//!
+//! Callers of laws:
+//!
+//! - `lives`: a store that is opened, stopped, refused once, opened again and called again
+//! - `replicas`: two stores that are handed the same input
+//! - `migration`: a store that is opened on files of version 1
+//! - `exports`: a store that takes the export of a world; `same`: two stores with the same export
+//! - `reopened`: a store that is opened with macro functions on files of a program without any
+//! - `keepers`: a session whose recipient keeps account of it, and what follows at each moment
+//! - `again`: the store that a history goes on with after a session
+//! - `rounds`: two rounds of messages, and the position after them
+//! - `once`: messages that are answered in one call, and what a crash leaves of them
+//! - `cuts`: the same messages in one call and in two
+//! - `batches`: requests that are answered in batches, each of which ends with the bytes of its answers
+//! - `room`: requests that are refused, as there is no room for what they write
+//! - `fed_again`: a session over messages that are fed once more
+//! - `troubled_disks`: the disks of these, and what may go wrong in them
+//!
+//! Lemmas in `proofs`: `Keeping`.
+//!
+//! Want of memory ends a test with an error, wherever it comes: an assertion that fails is an answer that has changed. What a run of the built
+//! program can show is in `checks/sessions`: answers, refusals and their places, words, commands, files; how it takes its input in
+//! `checks/pieces`, and what it does at a terminal in `checks/terminal`. Limits, calls that stop, crashes and calls that are made again for want
+//! of memory are in `checks/calls`, faults of the device and of streams in `checks/campaign`.
 #![tactic(auto)]
 
 #[cfg(test)]
+mod again;
+#[cfg(test)]
 mod asked;
+#[cfg(test)]
+mod batches;
+#[cfg(test)]
+mod cuts;
 #[cfg(test)]
 mod disks;
 #[cfg(test)]
+mod exports;
+#[cfg(test)]
+mod fed_again;
+#[cfg(test)]
 mod halves;
+#[cfg(test)]
+mod keepers;
 #[cfg(test)]
 mod lines;
 #[cfg(test)]
+mod lives;
+#[cfg(test)]
 mod logs;
+#[cfg(test)]
+mod migration;
+#[cfg(test)]
+mod once;
+#[cfg(test)]
+mod reopened;
+#[cfg(test)]
+mod replicas;
+#[cfg(test)]
+mod room;
+#[cfg(test)]
+mod rounds;
+#[cfg(test)]
+mod same;
+#[cfg(test)]
+mod troubled_disks;
