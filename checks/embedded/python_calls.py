@@ -11,9 +11,12 @@ import sys
 import tempfile
 import threading
 import unittest
+from collections.abc import Callable
 from fractions import Fraction
 from typing import Any
+from unittest import mock
 
+from interrupts import interrupting
 from pazturrok import (
     BrokenStoreError,
     Character,
@@ -22,6 +25,7 @@ from pazturrok import (
     EmbeddedMessageStore,
     EmbeddedStore,
     FaultError,
+    NestedCallError,
     NoLibraryError,
     RefusedError,
     Symbol,
@@ -30,6 +34,7 @@ from pazturrok import (
     printed,
     quote,
 )
+from pazturrok.library import Library
 
 VALUES: list[Any] = [
     0, -7, Fraction(22, 7), 2**126, Character("a"), Character("\n"), "", "two\nlines \"quoted\" \\ |bars|", [], [1, [2, "x"]],
@@ -204,6 +209,56 @@ class Embedded(unittest.TestCase):
         for thread in threads:
             thread.join()
         self.assertEqual((wrong, store.execute("(GET 'N 'N)")), ([], 1200))
+
+    def test_a_handler_within_a_call_is_refused(self) -> None:
+        store, feed = self.store(), self.feed()
+        with interrupting(lambda: store.execute("(LIST 2222)")) as counts:
+            while counts["refused"] < 200:
+                self.assertEqual(store.execute("(LIST 1111)"), [1111])
+                self.assertEqual(store.answer("(LIST 3333)"), "(3333)")
+                self.assertEqual(store.execute_all(["1", "2"]), [1, 2])
+        self.assertLessEqual(set(counts), {"[2222]", "refused"})
+        feed.do_all(["(SETF (GET 'N 'IN) 0)", "(SETF (GET 'N 'OUT) 0)"])
+        out = 0
+        with interrupting(lambda: feed.do("(PROGN (INCF (GET 'N 'IN)) T)")) as counts:
+            while counts["refused"] < 200:
+                out += 2
+                self.assertEqual(feed.do_all(["(INCF (GET 'N 'OUT))"] * 2), [out - 1, out])
+        inside = sum(counts.values()) - counts["refused"]
+        self.assertEqual((feed.ask("(GET 'N 'OUT)"), feed.ask("(GET 'N 'IN)")), (out, inside))
+        self.assertEqual(feed.position, 2 + out + inside)
+
+    def within(self, outer: Callable[[], Any], inner: Callable[[], object]) -> Any:
+        """What a call gives, where another one comes before its answer is copied, and is refused."""
+        refused = []
+        text = Library._text
+
+        def interrupted(library: Library, answer: int | None, length: int) -> str:
+            with self.assertRaises(NestedCallError) as raised:
+                inner()
+            refused.append(raised)
+            return text(library, answer, length)
+
+        with mock.patch.object(Library, "_text", interrupted):
+            value = outer()
+        self.assertTrue(refused)
+        return value
+
+    def test_each_call_within_another_is_refused(self) -> None:
+        store, feed = self.store(), self.feed()
+        for inner in (
+            lambda: store.execute("1"), lambda: store.execute_all(["1", "2"]), lambda: store.answer("1"), store.snapshot, store.figures,
+            store.close, store.reopen,
+        ):  # fmt: skip
+            self.assertEqual(self.within(lambda: store.execute("(LIST 1111)"), inner), [1111])
+        for inner in (lambda: feed.do("1"), lambda: feed.ask("1"), feed.snapshot, feed.figures, feed.close):
+            self.assertEqual(self.within(lambda: feed.do("(LIST 1111)"), inner), [1111])
+            self.assertEqual(self.within(lambda: feed.ask("(LIST 1111)"), inner), [1111])
+        self.assertEqual(feed.position, 5)
+        # what the handler does not take goes through the call, and neither store is broken by it
+        with mock.patch.object(Library, "_text", lambda *_: store.execute("1")), self.assertRaises(NestedCallError):
+            store.execute("(LIST 1111)")
+        self.assertEqual(store.execute("(LIST 1111)"), [1111])
 
     def test_a_forked_child_has_no_store(self) -> None:
         store = self.store()

@@ -6,8 +6,9 @@ import os
 from collections.abc import Callable, Sequence
 from typing import TypeVar
 
+from .alone import alone
 from .answers import refusal_of
-from .errors import BrokenStoreError, ClosedStoreError, FaultError, RefusedError
+from .errors import BrokenStoreError, ClosedStoreError, FaultError, NestedCallError, RefusedError
 from .library import EXISTING, Figures, Library, calls_of, find_library
 from .messages import MessageStore
 from .naming import NAMING_QUESTION
@@ -15,6 +16,17 @@ from .printer import check_characters
 from .store import Link, Outcome, State, Store, changes_naming
 
 Given = TypeVar("Given")
+
+
+def asked(library: Library, call: Callable[[Library], Given], after_fault: Callable[[], object]) -> Given:
+    """What the library gives to a call. Where it has failed, what is to be done after a fault is done."""
+    try:
+        return call(library)
+    except NestedCallError:  # it is of a handler, which the call was interrupted by
+        raise
+    except (BrokenStoreError, FaultError):
+        after_fault()
+        raise
 
 
 class EmbeddedStore(Store):
@@ -46,12 +58,7 @@ class EmbeddedStore(Store):
         """Executes the texts. No answer is left half read, so only a fault breaks the store."""
         if seconds is not None:
             raise ValueError("a store in this process has no time limits")
-        assert self._program
-        try:
-            self._program.exchange(texts, answers, self._ends_session, None)
-        except (BrokenStoreError, FaultError):
-            self._state = State.BROKEN
-            raise
+        self._call(lambda library: library.exchange(texts, answers, self._ends_session, None))
         self._round_trips += 1
         self._state = State.GOOD
 
@@ -59,46 +66,42 @@ class EmbeddedStore(Store):
         """No refusal ends anything: each text is one form."""
         return False
 
-    def _library(self) -> Library:
-        library = self._make_ready()
-        assert isinstance(library, Library)
-        return library
+    def _call(self, call: Callable[[Library], Given]) -> Given:
+        """What the library gives. After a fault the store is broken."""
+        assert isinstance(self._program, Library)
+        return asked(self._program, call, self._break)
 
+    def _break(self) -> None:
+        self._state = State.BROKEN
+
+    @alone
     def answer(self, text: str) -> str:
         """The printed text of a form's value, as it is, of a text that nobody looked at before."""
         check_characters(text, text)
-        with self._lock:
-            library = self._library()
-            try:
-                answer = library.execute(text.encode("ascii"))
-            except (BrokenStoreError, FaultError):
-                self._state = State.BROKEN
-                raise
-            if changes_naming(text):
-                self._ask_naming(None)
+        self._make_ready()
+        answer = self._call(lambda library: library.execute(text.encode("ascii")))
+        if changes_naming(text):
+            self._ask_naming(None)
         if answer.startswith("! "):
             refusal = refusal_of(answer)
             assert refusal
             raise RefusedError(*refusal)
         return answer
 
+    @alone
     def snapshot(self) -> None:
         """Takes a snapshot, so that the next opening reads the world, and not each form that made it."""
-        with self._lock:
-            library = self._library()
-            try:
-                line = library.snapshot()
-            except (BrokenStoreError, FaultError):
-                self._state = State.BROKEN
-                raise
+        self._make_ready()
+        line = self._call(lambda library: library.snapshot())
         refusal = refusal_of(line) if line else None
         if refusal:
             raise RefusedError(*refusal)
 
+    @alone
     def figures(self) -> Figures:
         """What the file in use holds: its generation, records and version."""
-        with self._lock:
-            return self._library().figures()
+        self._make_ready()
+        return self._call(lambda library: library.figures())
 
 
 class EmbeddedMessageStore(MessageStore):
@@ -121,20 +124,20 @@ class EmbeddedMessageStore(MessageStore):
         self._library: Library | None = None
         self._begin()
 
+    @alone
     def snapshot(self) -> None:
         """Takes a snapshot, so that the next opening reads the world, and not each form that made it."""
-        with self._lock:
-            self._ready()
-            line = self._call(lambda library: library.snapshot())
+        self._ready()
+        line = self._call(lambda library: library.snapshot())
         refusal = refusal_of(line) if line else None
         if refusal:
             raise RefusedError(*refusal)
 
+    @alone
     def figures(self) -> Figures:
         """What the file in use holds: its generation, records and version."""
-        with self._lock:
-            self._ready()
-            return self._call(lambda library: library.figures())
+        self._ready()
+        return self._call(lambda library: library.figures())
 
     def _do_some(self, texts: Sequence[str]) -> list[Outcome]:
         numbers = range(self._ready() + 1, self._last + 1 + len(texts))
@@ -150,11 +153,7 @@ class EmbeddedMessageStore(MessageStore):
     def _call(self, call: Callable[[Library], Given]) -> Given:
         """What the library gives. After a fault the next call opens the store again."""
         assert self._library
-        try:
-            return call(self._library)
-        except (BrokenStoreError, FaultError):
-            self._leave()
-            raise
+        return asked(self._library, call, self._leave)
 
     def _ready(self) -> int:
         if self._is_closed:

@@ -117,8 +117,20 @@ class BrokenStoreError(StoreError):
     What the program still has to say would be taken for the answer of another form.
     """
 
+    def __init__(
+        self, reason: str = "a form was left before its answer was read whole: reopen() opens the store again"
+    ) -> None:
+        super().__init__(reason)
+
+
+class NestedCallError(BrokenStoreError):
+    """This thread is within another call on the store, which goes on. Nothing was sent.
+
+    A signal handler or a finalizer called, which had interrupted it. There is nothing to open again.
+    """
+
     def __init__(self) -> None:
-        super().__init__("a form was left before its answer was read whole: reopen() opens the store again")
+        super().__init__("this thread is within another call on the store, which goes on")
 
 
 class ClosedStoreError(StoreError):

@@ -4,10 +4,10 @@ from __future__ import annotations
 
 import os
 import re
-import threading
 from collections.abc import Iterable, Sequence
 from types import TracebackType
 
+from .alone import Shared, alone
 from .errors import (
     ClosedStoreError,
     LostAnswerError,
@@ -81,7 +81,7 @@ class FrameSplitter:
         return end
 
 
-class MessageStore:
+class MessageStore(Shared):
     """A program over a folder that carries out messages, of which each has a number, and answers questions.
 
     A message is carried out once. Where the program was killed it is started again: it tells which message it
@@ -107,7 +107,7 @@ class MessageStore:
 
     def _begin(self) -> None:
         """Opens the store for the first time."""
-        self._lock = threading.RLock()
+        Shared.__init__(self)
         self._program: Program | None = None
         self._is_closed = False
         self._last = 0
@@ -133,11 +133,11 @@ class MessageStore:
     ) -> None:
         self.close()
 
+    @alone
     def close(self) -> int | None:
         """Ends the session, and gives the status of the program. What was answered is in the store."""
-        with self._lock:
-            self._is_closed = True
-            return self._leave()
+        self._is_closed = True
+        return self._leave()
 
     def do(self, form: Form) -> Value:
         """Has a form carried out, its text or the form as a list, and gives its value."""
@@ -148,22 +148,23 @@ class MessageStore:
 
     def do_all(self, forms: Iterable[Form]) -> list[Outcome]:
         """Has many forms carried out, all sent at once, and gives the value of each, or its exception."""
-        texts = [text_of(form) for form in forms]
-        outcomes: list[Outcome] = []
-        with self._lock:
-            while len(outcomes) < len(texts):
-                outcomes += self._do_some(until_naming(texts[len(outcomes) :]))
-                if changes_naming(texts[len(outcomes) - 1]):
-                    self._ask_naming()
-        return outcomes
+        return self._do_texts([text_of(form) for form in forms])
 
+    @alone
     def ask(self, form: Form) -> Value:
         """Asks for the value of a form, which may change nothing."""
-        text = text_of(form)
-        with self._lock:
-            return self._naming.value(self._ask(text))
+        return self._naming.value(self._ask(text_of(form)))
 
     # Sending
+
+    @alone
+    def _do_texts(self, texts: Sequence[str]) -> list[Outcome]:
+        outcomes: list[Outcome] = []
+        while len(outcomes) < len(texts):
+            outcomes += self._do_some(until_naming(texts[len(outcomes) :]))
+            if changes_naming(texts[len(outcomes) - 1]):
+                self._ask_naming()
+        return outcomes
 
     def _do_some(self, texts: Sequence[str]) -> list[Outcome]:
         """The outcomes of texts that change no names, but for the last one."""

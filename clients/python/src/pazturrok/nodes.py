@@ -6,12 +6,12 @@ import contextlib
 import selectors
 import socket
 import ssl
-import threading
 import time
 import uuid
 from collections.abc import Iterable, Sequence
 from types import TracebackType
 
+from .alone import Shared, alone
 from .answers import refusal_of
 from .errors import (
     ClosedStoreError,
@@ -93,7 +93,7 @@ class Connection:
         self._socket.close()
 
 
-class NodeStore:
+class NodeStore(Shared):
     """A store on several machines. A request goes to one node, and to the next where that does not answer.
 
     A message is carried out once: it has a name, and is sent again under it. `ask` asks the store of one
@@ -113,9 +113,9 @@ class NodeStore:
     ) -> None:
         if not nodes:
             raise ValueError("no nodes")
+        super().__init__()
         self._nodes, self._context = list(nodes), context
         self._time_limit, self._patience = time_limit, patience
-        self._lock = threading.RLock()
         self._naming = Naming()
         self._connection: Connection | None = None
         self._is_closed = False
@@ -135,10 +135,10 @@ class NodeStore:
     ) -> None:
         self.close()
 
+    @alone
     def close(self) -> None:
-        with self._lock:
-            self._is_closed = True
-            self._leave()
+        self._is_closed = True
+        self._leave()
 
     def do(self, form: Form, *, name: str | None = None) -> Value:
         """Has a form carried out, and gives its value.
@@ -146,14 +146,14 @@ class NodeStore:
         A name of one's own makes it one with what another call, or another process, sends under it: 1 to 100
         letters, digits, dots, hyphens and underscores.
         """
-        value = self._do_all([form], name)[0]
+        value = self._do_texts([text_of(form)], name)[0]
         if isinstance(value, StoreError):
             raise value
         return value
 
     def do_all(self, forms: Iterable[Form]) -> list[Outcome]:
         """Has many forms carried out, in their order, and gives the value of each, or its exception."""
-        return self._do_all(forms, None)
+        return self._do_texts([text_of(form) for form in forms], None)
 
     def ask(self, form: Form) -> Value:
         """Asks the store of one node, as far as it has come; the form may change nothing."""
@@ -165,30 +165,29 @@ class NodeStore:
 
     # Sending
 
-    def _do_all(self, forms: Iterable[Form], name: str | None) -> list[Outcome]:
-        texts = [text_of(form) for form in forms]
+    @alone
+    def _do_texts(self, texts: Sequence[str], name: str | None) -> list[Outcome]:
         outcomes: list[Outcome] = []
-        with self._lock:
-            while len(outcomes) < len(texts):
-                some = until_naming(texts[len(outcomes) :])
-                frames = [f"do {name or self._next_name()} {len(text)}\n{text}" for text in some]
-                try:
-                    outcomes += [self._outcome(*answer) for answer in self._send(frames)]
-                except NoNodeError as error:
-                    error.outcomes = outcomes + [self._outcome(*answer) for answer in error.outcomes]
-                    raise
-                if changes_naming(some[-1]):
-                    self._leave()
+        while len(outcomes) < len(texts):
+            some = until_naming(texts[len(outcomes) :])
+            frames = [f"do {name or self._next_name()} {len(text)}\n{text}" for text in some]
+            try:
+                outcomes += [self._outcome(*answer) for answer in self._send(frames)]
+            except NoNodeError as error:
+                error.outcomes = outcomes + [self._outcome(*answer) for answer in error.outcomes]
+                raise
+            if changes_naming(some[-1]):
+                self._leave()
         return outcomes
 
     def _next_name(self) -> str:
         self._count += 1
         return f"{self._prefix}-{self._count}"
 
+    @alone
     def _question(self, kind: str, form: Form) -> Value:
         text = text_of(form)
-        with self._lock:
-            return self._naming.value(self._send([f"{kind} {len(text)}\n{text}"])[0][1])
+        return self._naming.value(self._send([f"{kind} {len(text)}\n{text}"])[0][1])
 
     def _send(self, frames: Sequence[str]) -> list[tuple[str, str]]:
         """The answers to frames, which are sent until they have one."""

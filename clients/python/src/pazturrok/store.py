@@ -6,11 +6,11 @@ import enum
 import itertools
 import os
 import re
-import threading
 from collections.abc import Callable, Iterable, Iterator, Sequence
 from types import TracebackType
 from typing import Protocol, Union
 
+from .alone import Shared, alone
 from .answers import parse_answer, refusal_of
 from .errors import (
     BrokenStoreError,
@@ -57,7 +57,7 @@ class State(enum.Enum):
     CLOSED = "the store was closed"
 
 
-class Store:
+class Store(Shared):
     """A program over a folder. Threads may share it: each waits until the one before it has its answers.
 
     `time_limit` is how many seconds an answer may take, `opening_time_limit` how many the opening, None for
@@ -81,7 +81,7 @@ class Store:
     def _begin(self, time_limit: float | None, opening_time_limit: float | None) -> None:
         self._time_limit = time_limit
         self._opening_time_limit = opening_time_limit
-        self._lock = threading.RLock()
+        Shared.__init__(self)
         self._state = State.CLOSED
         self._program: Link | None = None
         self._round_trips = 0
@@ -125,20 +125,23 @@ class Store:
             if self._state is not State.GOOD:
                 self._program.end()
 
+    @alone
     def close(self) -> int | None:
         """Ends the session, and gives the status of the program. What was answered is in the store.
 
         It waits ten seconds at most for the program, and then kills it.
         """
-        with self._lock:
-            self._state = State.CLOSED
-            return self._program.end()[0] if self._program else None
+        return self._close()
 
+    @alone
     def reopen(self) -> None:
         """Ends the program if it still runs, and opens the store again."""
-        with self._lock:
-            self.close()
-            self._open()
+        self._close()
+        self._open()
+
+    def _close(self) -> int | None:
+        self._state = State.CLOSED
+        return self._program.end()[0] if self._program else None
 
     # Forms
 
@@ -163,19 +166,23 @@ class Store:
         seconds = self._time_limit if time_limit is None else time_limit
         if seconds is not None and seconds <= 0:
             raise ValueError("a time limit is more than 0 seconds")
-        with self._lock:
-            texts = [self._text(form, seconds) for form in forms]
-            outcomes: list[Outcome] = []
-            try:
-                while len(outcomes) < len(texts):
-                    self._carry_out(_first_texts(texts[len(outcomes) :]), outcomes, seconds)
-            except UnansweredError as error:
-                error.outcomes = outcomes
-                raise
+        outcomes = self._execute_forms(list(forms), seconds)
         if raise_on_refusal:
             for outcome in outcomes:
                 if isinstance(outcome, StoreError):
                     raise outcome
+        return outcomes
+
+    @alone
+    def _execute_forms(self, forms: list[Form], seconds: float | None) -> list[Outcome]:
+        texts = [self._text(form, seconds) for form in forms]
+        outcomes: list[Outcome] = []
+        try:
+            while len(outcomes) < len(texts):
+                self._carry_out(_first_texts(texts[len(outcomes) :]), outcomes, seconds)
+        except UnansweredError as error:
+            error.outcomes = outcomes
+            raise
         return outcomes
 
     def iterate(

@@ -1,0 +1,40 @@
+"""A handler that a timer calls often, within calls of the thread and between them; and what came of it."""
+
+from __future__ import annotations
+
+import collections
+import contextlib
+import signal
+from collections.abc import Callable, Iterator
+
+from pazturrok import NestedCallError
+
+EVERY = 0.0003
+"""How many seconds are between two of its calls."""
+
+
+@contextlib.contextmanager
+def interrupting(call: Callable[[], object]) -> Iterator[collections.Counter[str]]:
+    """Calls it often, and counts how often it gave what, or was refused within another call."""
+    counts: collections.Counter[str] = collections.Counter()
+    busy = False
+
+    def handle(*_: object) -> None:
+        nonlocal busy
+        if busy:
+            return
+        busy = True
+        try:
+            counts[repr(call())] += 1
+        except NestedCallError:
+            counts["refused"] += 1
+        finally:
+            busy = False
+
+    before = signal.signal(signal.SIGALRM, handle)
+    signal.setitimer(signal.ITIMER_REAL, EVERY, EVERY)
+    try:
+        yield counts
+    finally:
+        signal.setitimer(signal.ITIMER_REAL, 0)
+        signal.signal(signal.SIGALRM, before)

@@ -1,0 +1,39 @@
+"""Calls on a store that threads share: one at a time."""
+
+from __future__ import annotations
+
+import functools
+import threading
+from collections.abc import Callable
+from typing import Any, TypeVar, cast
+
+from .errors import NestedCallError
+
+Method = TypeVar("Method", bound=Callable[..., Any])
+
+
+class Shared:
+    """A store that threads may share: a call waits until those of other threads have ended."""
+
+    def __init__(self) -> None:
+        self._lock = threading.RLock()  # held by the thread whose turn it is
+        self._call_lock = threading.Lock()  # held while it is within a call
+
+
+def alone(method: Method) -> Method:
+    """A call on a store that is alone there.
+
+    One within a call of the same thread, as of a signal handler or a finalizer, is refused, and the other
+    goes on: each would take what is answered for its own. Both locks are taken by `with` alone, so that they
+    are let go whatever a handler raises.
+    """
+
+    @functools.wraps(method)
+    def call(self: Shared, *arguments: Any, **options: Any) -> Any:
+        with self._lock:
+            if self._call_lock.locked():
+                raise NestedCallError
+            with self._call_lock:
+                return method(self, *arguments, **options)
+
+    return cast(Method, call)
