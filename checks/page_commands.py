@@ -1,0 +1,68 @@
+"""The page of the commands, made from the sources of the command line."""
+import re
+
+from pages import names_of, read
+
+PAGE = "docs/run/commands.md"
+
+HEAD = """# The commands
+
+Every command of the program with its options, in the words of its help. `checks/docs --write` makes this page from the sources of the command line (`crates/command_words`). What to do with them is in [operating.md](operating.md), which status a command ends with [there too](operating.md#the-exit-status).
+
+An option that is not given is off. **`--existing`** is an option of every command but `check`: the command refuses a folder that holds no store, and makes nothing. A command that only looks makes nothing in any case. `--help` after a command has its help with an example; `--version` tells the version of the program and of the files that it writes.
+"""
+
+
+def sources():
+    return "".join(read(name) for name in names_of("crates/command_words/src/**/*.rt"))
+
+
+def texts(code):
+    """The texts of constants by their names."""
+    return dict(re.findall(r'const (\w+): &str\s*=\s*"([^"]*)";', code))
+
+
+def options(code):
+    """The options by their names: what their value is called, if they have one, and what they do."""
+    known, found, said = texts(code), {}, ""
+    words = r'let help\s*=\s*"([^"]*)"|\b(?:flag|option)\(\s*alloc,\s*(\w+),\s*(?:"(\w+)",\s*)?(?:help|"([^"]*)")\s*,?\s*\)|Arg::new\(alloc, (\w+)\)'
+    for text, name, value, own, _ in re.findall(words, code):
+        if text:
+            said = text
+        elif name in known:
+            found[known[name]] = (value, own or said)
+    return found
+
+
+def commands(code):
+    """Each command in the order of the help: how it is called, and what it does."""
+    known = texts(code)
+    told = re.findall(r'about: "([^"]*)",\s*usage: (\w+),', code) + re.findall(r'\.about\("([^"]*)"\)\s*\.override_usage\((\w+)\)', code)
+    does = {known[usage].split("\\n")[0]: text for text, usage in told}
+    for usage in re.split(r"\\n\s*", known["USAGE"]):
+        yield usage.removeprefix("./pazturrok "), does[usage]
+
+
+def rows(usage, known):
+    for name in re.findall(r"--([a-z-]+)", usage):
+        if name != "existing" and name in known:
+            value, does = known[name]
+            yield f"| `--{name}{' ' + value if value else ''}` | {does} |"
+
+
+def page():
+    code = sources()
+    known = options(code)
+    parts = [HEAD]
+    for usage, does in commands(code):
+        name = usage.split(" ")[0] + (" --messages" if " --messages" in usage else "")
+        table = "\n".join(rows(usage, known))
+        parts.append(f"## {name}\n\n{does}.\n\n    ./pazturrok {usage}\n")
+        if table:
+            parts.append(f"| Option | What it does |\n|---|---|\n{table}\n")
+    return "\n".join(parts)
+
+
+def page_of_commands():
+    if read(PAGE) != page():
+        yield f"{PAGE} is not the page of the command line: checks/docs --write makes it"
