@@ -257,15 +257,34 @@ static void cancelled(void) {
 static pazturrok_store interrupted;
 static volatile sig_atomic_t signals, refusals, others;
 
+/* The number of one call after the other. The folder of the store is locked, so it is not opened. */
+static int call_in_turn(int turn) {
+    const char *text = "1";
+    size_t length = 1;
+    pazturrok_outcome outcome;
+    pazturrok_figures figures;
+    pazturrok_store other;
+    uint64_t position;
+    switch (turn % 7) {
+    case 0: return pazturrok_execute(interrupted, 0, text, length, NULL, NULL);
+    case 1: return pazturrok_execute_all(interrupted, 0, &text, &length, 1, &outcome);
+    case 2: return pazturrok_ask(interrupted, text, length, NULL, NULL);
+    case 3: return pazturrok_position(interrupted, &position);
+    case 4: return pazturrok_snapshot(interrupted);
+    case 5: return pazturrok_figures_of(interrupted, &figures);
+    default: return pazturrok_open(folder("signals"), 0, &other, NULL) == 61 ? 61 : 0;
+    }
+}
+
 static void within(int signal) {
-    int number = pazturrok_execute(interrupted, 0, "1", 1, NULL, NULL);
+    int number = call_in_turn(signals);
     (void)signal;
     signals++;
     if (number == 61) refusals++;
     else if (number != 0) others++;
 }
 
-/* A signal that comes within a call goes on with it; a call of its handler on the same store is refused or is one between two calls. */
+/* A signal that comes within a call goes on with it; a call of its handler is refused or is one between two calls. */
 static void signalled(void) {
     struct sigaction action = {.sa_handler = within};
     const int pause = is_slow ? 20000 : 300, times = is_slow ? 1000 : 20000;

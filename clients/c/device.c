@@ -100,8 +100,7 @@ static bool sync_file(int file) {
     return done == 0;
 }
 
-/* What the folder names lasts after it. */
-static bool sync_folder(const char *folder, pazturrok_fault *fault) {
+bool device_sync_folder(const char *folder, pazturrok_fault *fault) {
     int file = open(folder, O_RDONLY | O_CLOEXEC);
     if (file < 0) return failed(fault);
     bool done = sync_file(file) || failed(fault);
@@ -117,7 +116,7 @@ static bool make_folder(const char *folder, pazturrok_fault *fault) {
     if (!join(&inside, folder, HALVES[0], fault)) return false;
     if (lstat(inside.text, &found) < 0 && errno != ENOENT) return failed(fault);
     if (!make_folders(folder)) return failed(fault);
-    return join(&inside, folder, "..", fault) && sync_folder(inside.text, fault);
+    return join(&inside, folder, "..", fault) && device_sync_folder(inside.text, fault);
 }
 
 /* A half */
@@ -187,12 +186,15 @@ static bool open_and_lock(int *file, const char *folder, const char *name, bool 
     return move_above_streams(file, fault) && lock(*file, fault);
 }
 
-bool device_open(struct device *device, const char *folder, bool make, pazturrok_fault *fault) {
+bool device_find_folder(const char *folder, bool make, pazturrok_fault *fault) {
     if (folder[0] == 0) return refused(fault, "the folder has no name");
-    if (make && !make_folder(folder, fault)) return false;
+    return !make || make_folder(folder, fault);
+}
+
+bool device_open(struct device *device, const char *folder, bool make, pazturrok_fault *fault) {
     for (int half = 0; half < 2; half++)
         if (!open_and_lock(&device->files[half], folder, HALVES[half], make, fault)) return false;
-    return sync_folder(folder, fault);
+    return true;
 }
 
 /* Bytes */

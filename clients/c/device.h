@@ -21,8 +21,13 @@ typedef struct {
 
 #define NO_DEVICE ((struct device){{-1, -1}})
 
-/* Each gives whether it was done, and fills the fault if it was not. */
+/* Each gives whether it was done, and fills the fault if it was not.
+   First the name of the folder is looked at, and the folder is made if that is asked for. */
+bool device_find_folder(const char *folder, bool make, pazturrok_fault *fault);
+/* Opens and locks both files. */
 bool device_open(struct device *device, const char *folder, bool make, pazturrok_fault *fault);
+/* What the folder names lasts after it. */
+bool device_sync_folder(const char *folder, pazturrok_fault *fault);
 bool device_read(const struct device *device, contents both[2], pazturrok_fault *fault);
 bool device_write(const struct device *device, int half, const uint8_t *bytes, size_t count, uint64_t place, pazturrok_fault *fault);
 bool device_cut(const struct device *device, int half, uint64_t length, pazturrok_fault *fault);

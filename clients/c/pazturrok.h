@@ -6,7 +6,9 @@
    - Which thread: calls on one store wait for one another, so threads may share it. That is tried; what is proved speaks of a
      store that stays on the thread that opened it. No call may come from a signal handler; one that has interrupted a call is
      refused with 61.
-   - A fork: the child has no store. Each call there is 61, and the parent goes on.
+   - A fork: the child has no store. Each call there is 61, and the parent goes on. In a process of one thread a signal handler may fork
+     within a call; its child ends, or starts another program, and does not return into the call. Where there are more threads a handler
+     must not fork: fork itself waits for the locks of malloc, which the interrupted thread may hold.
    - Who owns what: what is handed over stays the caller's, and nothing of it is kept after the call. Answers belong to the
      store, and last until the next call on it; so threads that share a store look at an answer under a lock of their own.
    - Texts are bytes below 128, and need no zero at their end. Answers have one after their length, which is not counted.

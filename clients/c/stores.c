@@ -11,11 +11,33 @@
 static struct store stores[STORE_COUNT];
 static pthread_once_t once = PTHREAD_ONCE_INIT;
 static bool has_locks = true;
-/* Held while files are opened or closed, and over a fork: so a child knows each file that it has to close. */
+/* Held while files are opened or closed, and over a fork: so a child knows each file that it has to close. No handler of the thread that
+   holds it runs meanwhile: one that forks would wait for its own thread. */
 static pthread_mutex_t files_lock = PTHREAD_MUTEX_INITIALIZER;
 static atomic_uint_fast64_t ids_given;
 /* Whether this thread is in a call: a signal handler that calls within one is refused, and does not wait for itself. */
 static _Thread_local volatile sig_atomic_t is_in_call;
+
+/* Blocks all signals of this thread but those of its own faults. */
+static void block_signals(sigset_t *blocked_before) {
+    static const int faults[] = {SIGSEGV, SIGBUS, SIGFPE, SIGILL, SIGTRAP, SIGSYS};
+    sigset_t others;
+    (void)sigfillset(&others);
+    for (size_t place = 0; place < sizeof faults / sizeof faults[0]; place++) (void)sigdelset(&others, faults[place]);
+    (void)pthread_sigmask(SIG_BLOCK, &others, blocked_before);
+}
+
+static void unblock_signals(const sigset_t *blocked_before) { (void)pthread_sigmask(SIG_SETMASK, blocked_before, NULL); }
+
+static void lock_files(sigset_t *blocked_before) {
+    block_signals(blocked_before);
+    (void)pthread_mutex_lock(&files_lock);
+}
+
+static void unlock_files(const sigset_t *blocked_before) {
+    (void)pthread_mutex_unlock(&files_lock);
+    unblock_signals(blocked_before);
+}
 
 /* Forks */
 
@@ -40,11 +62,15 @@ static void in_child(void) {
 }
 
 static void begin(void) {
+    sigset_t signals;
     for (size_t place = 0; place < STORE_COUNT; place++) {
         stores[place].device = NO_DEVICE;
         if (pthread_mutex_init(&stores[place].lock, NULL)) has_locks = false;
     }
+    /* a fork would wait for it too */
+    block_signals(&signals);
     if (pthread_atfork(before_fork, after_fork, in_child)) has_locks = false;
+    unblock_signals(&signals);
 }
 
 /* Calls */
@@ -114,17 +140,20 @@ pazturrok_store number_store(struct store *store) {
 }
 
 bool open_device(struct store *store, const char *folder, bool make, pazturrok_fault *fault) {
-    (void)pthread_mutex_lock(&files_lock);
+    sigset_t signals;
+    if (!device_find_folder(folder, make, fault)) return false;
+    lock_files(&signals);
     bool is_open = device_open(&store->device, folder, make, fault);
-    (void)pthread_mutex_unlock(&files_lock);
-    return is_open;
+    unlock_files(&signals);
+    return is_open && device_sync_folder(folder, fault);
 }
 
 void let_store_go(struct store *store) {
+    sigset_t signals;
     pzt_close(&store->engine);
-    (void)pthread_mutex_lock(&files_lock);
+    lock_files(&signals);
     device_close(&store->device);
-    (void)pthread_mutex_unlock(&files_lock);
+    unlock_files(&signals);
     free(store->answer);
     store->answer = NULL;
     store->capacity = 0;

@@ -44,7 +44,7 @@ struct store *take_store(void);
 pazturrok_store number_store(struct store *store);
 /* Lets go of a store that was taken and has no number any more. */
 void let_store_go(struct store *store);
-/* Opens the files of a store that was taken. No fork comes between. */
+/* Opens the files of a store that was taken. */
 bool open_device(struct store *store, const char *folder, bool make, pazturrok_fault *fault);
 
 /* Forgets the fault of the call before, if the store has not failed by it. */
