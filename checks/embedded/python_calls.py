@@ -124,6 +124,8 @@ class Embedded(unittest.TestCase):
             self.store("none", existing=True)
         self.assertEqual((fault.exception.number, fault.exception.name), (60, "DEVICE"))
         self.assertEqual(fault.exception.cause, "there is no store in this folder")
+        self.assertEqual(fault.exception.folder, os.path.join(self.folder, "none"))
+        self.assertIn(self.folder, str(fault.exception))
         store = self.store()
         with self.assertRaises(FaultError) as fault:
             self.store()
@@ -136,8 +138,10 @@ class Embedded(unittest.TestCase):
         store.reopen()
         self.assertEqual(store.execute("1"), 1)
         for library in ("/nowhere.so", "libc.so.6"):
-            with self.assertRaises(NoLibraryError):
+            with self.assertRaises(NoLibraryError) as missing:
                 self.store("other", library=library)
+            self.assertEqual(missing.exception.path, library)
+            self.assertIn(library, str(missing.exception))
         with self.assertRaises(ValueError):
             store.execute("1", time_limit=1)
 

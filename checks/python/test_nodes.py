@@ -88,6 +88,10 @@ class Nodes(StoreTest):
         threading.Thread(target=nodes.listen, args=(0,), daemon=True).start()
         with NodeStore([path]) as store:
             self.assertEqual(1, store.do(ADD))
+        missing = path + "-that-is-not-there"
+        with NodeStore([missing], time_limit=0.1) as store, self.assertRaises(NoNodeError) as raised:
+            store.do(ADD)
+        self.assertIn(missing, str(raised.exception))
 
 
 @unittest.skipUnless(shutil.which("etcd"), "etcd is not installed")

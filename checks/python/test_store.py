@@ -7,6 +7,7 @@ import random
 import signal
 import threading
 import time
+from fractions import Fraction
 from unittest import mock
 
 from pazturrok import (
@@ -14,10 +15,13 @@ from pazturrok import (
     BrokenStoreError,
     ClosedStoreError,
     MalformedAnswerError,
+    MessageStore,
+    NoProgramError,
     RefusedError,
     StoppedError,
     Store,
     Symbol,
+    T,
     TimeLimitError,
     UnsendableError,
     keyword,
@@ -173,6 +177,13 @@ class Forms(StoreTest):
         self.assertEqual([], failures)
 
 
+    def test_what_true_none_and_false_are(self) -> None:
+        store = self.store()
+        back = store.execute([Symbol("LIST"), True, T, False, None, NIL, Fraction(4, 2)])
+        self.assertEqual([T, T, NIL, NIL, NIL, 2], back)
+        self.assertEqual([T, NIL, NIL], store.execute("(LIST 'T 'NIL ())"))
+
+
 class Faults(StoreTest):
     def test_an_interrupt_at_each_byte_breaks_the_store(self) -> None:
         form = "(LIST 1 \"two\nlines\" '|a b| #\\( '(3 . 4))"
@@ -305,5 +316,25 @@ class Faults(StoreTest):
             (3, "! 60 DEVICE\nlocked by another process"), (raised.exception.status, raised.exception.fault)
         )
         self.assertEqual(1, store.execute("1"))
-        with self.assertRaises(OSError):
-            Store(self.folder, PROGRAM + "-that-is-not-there")
+
+    def test_a_program_that_cannot_be_started(self) -> None:
+        missing = PROGRAM + "-that-is-not-there"
+        plain = os.path.join(self.folder, "plain")
+        with open(plain, "w", encoding="ascii"):
+            pass
+        for kind in (Store, MessageStore):
+            for path in (missing, plain, self.folder, os.path.join(plain, "under-a-file")):
+                with self.subTest(path), self.assertRaises(NoProgramError) as raised:
+                    kind(os.path.join(self.folder, "store"), path)
+                self.assertEqual(path, raised.exception.path)
+                self.assertIn(path, str(raised.exception))
+        self.assertFalse(os.path.exists(os.path.join(self.folder, "store")))
+        with self.store("moved") as store:
+            store._words[0] = missing
+            with self.assertRaises(NoProgramError):
+                store.reopen()
+            with self.assertRaises(BrokenStoreError):
+                store.execute("1")
+            store._words[0] = PROGRAM
+            store.reopen()
+            self.assertEqual(1, store.execute("1"))

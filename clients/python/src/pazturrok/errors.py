@@ -57,21 +57,35 @@ class UnansweredError(StoreError):
 class FaultError(UnansweredError):
     """The library could not open the store, or its device failed: the number, its name and the cause.
 
-    Whether the form is in the store is not known, and the store is broken.
+    Whether the form is in the store is not known, and the store is broken. Of a store that could not be opened
+    `folder` is its folder.
     """
 
-    def __init__(self, number: int, name: str, cause: str) -> None:
-        super().__init__(f"{number} {name}" + (f": {cause}" if cause else ""))
+    def __init__(self, number: int, name: str, cause: str, folder: str | None = None) -> None:
+        text = f"{number} {name}" + (f": {cause}" if cause else "")
+        super().__init__(text if folder is None else f"{text} ({folder})")
         self.number = number
         self.name = name
         self.cause = cause
+        self.folder = folder
 
 
 class NoLibraryError(StoreError):
-    """The library cannot be loaded, or is another one."""
+    """The library of this path cannot be loaded, or is another one."""
 
-    def __init__(self, reason: str) -> None:
+    def __init__(self, path: str, reason: str) -> None:
         super().__init__(f"there is no store in this process: {reason}; PAZTURROK_LIBRARY names its file")
+        self.path = path
+        self.reason = reason
+
+
+class NoProgramError(StoreError):
+    """The program of this path cannot be started: it is not there, or is no program."""
+
+    def __init__(self, path: str, reason: str) -> None:
+        super().__init__(f"the program {path!r} cannot be started: {reason}")
+        self.path = path
+        self.reason = reason
 
 
 class StoppedError(UnansweredError):

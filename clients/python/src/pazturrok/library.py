@@ -90,8 +90,8 @@ class Calls:
         """The name of a refusal."""
         return bytes(self._name(number)).decode("ascii")
 
-    def fault(self, fault: _Fault) -> FaultError:
-        return FaultError(fault.number, self.name(fault.number), fault.cause.decode("utf-8", "replace"))
+    def fault(self, fault: _Fault, folder: str | None = None) -> FaultError:
+        return FaultError(fault.number, self.name(fault.number), fault.cause.decode("utf-8", "replace"), folder)
 
 
 _loaded: dict[str, Calls] = {}
@@ -103,7 +103,7 @@ def calls_of(path: str) -> Calls:
         try:
             _loaded[path] = Calls(path)
         except (OSError, AttributeError) as error:
-            raise NoLibraryError(str(error)) from None
+            raise NoLibraryError(path, str(error)) from error
     return _loaded[path]
 
 
@@ -118,7 +118,7 @@ class Library:
         self._arguments = (ctypes.byref(self._answer), ctypes.byref(self._length))
         fault = _Fault()
         if calls.open(os.fsencode(folder), flags, ctypes.byref(self._store), ctypes.byref(fault)):
-            raise calls.fault(fault)
+            raise calls.fault(fault, folder)
         self._close = weakref.finalize(self, calls.close, self._store.value)
 
     def exchange(

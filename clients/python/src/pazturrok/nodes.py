@@ -202,9 +202,10 @@ class NodeStore(Shared):
                 return answers
             except OSError as error:
                 self._leave()
+                reason = f"{self.node}: {error}"
                 self._at = (self._at + 1) % len(self._nodes)
                 if time.monotonic() >= end:
-                    lost = NoNodeError(self._time_limit, str(error))
+                    lost = NoNodeError(self._time_limit, reason)
                     lost.outcomes = answers
                     raise lost from None
                 time.sleep(PAUSE)

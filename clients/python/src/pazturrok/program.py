@@ -12,7 +12,7 @@ from collections.abc import Callable, Sequence
 from typing import Protocol
 
 from .answers import AnswerSplitter
-from .errors import MalformedAnswerError, StoppedError, TimeLimitError
+from .errors import MalformedAnswerError, NoProgramError, StoppedError, TimeLimitError
 
 END_LIMIT = 10.0
 """How many seconds the program may take to end, before it is killed. That loses nothing that was answered."""
@@ -40,6 +40,9 @@ class Program:
             self.process = subprocess.Popen(
                 words, bufsize=0, stdin=subprocess.PIPE, stdout=subprocess.PIPE, stderr=self._errors
             )
+        except OSError as error:
+            self._errors.close()
+            raise NoProgramError(words[0], error.strerror or str(error)) from error
         except BaseException:
             self._errors.close()
             raise
