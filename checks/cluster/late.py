@@ -16,7 +16,8 @@ sys.path.append(os.path.join(os.path.dirname(os.path.abspath(__file__)), "..", "
 
 
 def add(cluster, place, name):
-    return Client(cluster.places[place : place + 1]).request(b"do " + name, ADD)[1]
+    """Adds to the counter under a name; gives the number and the answer."""
+    return Client(cluster.places[place : place + 1]).request(b"do " + name, ADD)
 
 
 def ended(node, words):

@@ -174,7 +174,8 @@ class Etcd:
         """The results of a watch from a revision on, one after the other, until its member is silent for so long."""
         connection = Connection(self._urls[self._watched], self._context)
         try:
-            request = {**ranged, "start_revision": str(revision)}
+            # results are cut to the size of a request: a member does not make one of all that a node has missed
+            request = {**ranged, "start_revision": str(revision), "fragment": True}
             await asyncio.wait_for(connection.post("/v3/watch", {"create_request": request}), TIMEOUT)
             text, chunks = b"", connection.chunks()
             while True:
@@ -201,4 +202,9 @@ def watched(found: dict[str, Any]) -> dict[str, Any]:
 
 def among(prefix: bytes) -> dict[str, Any]:
     """The keys that begin with a prefix, which does not end with a byte 255."""
-    return {"key": encoded(prefix), "range_end": encoded(prefix[:-1] + bytes([prefix[-1] + 1]))}
+    return {"key": encoded(prefix), "range_end": encoded(among_end(prefix))}
+
+
+def among_end(prefix: bytes) -> bytes:
+    """The first key after them."""
+    return prefix[:-1] + bytes([prefix[-1] + 1])

@@ -2,11 +2,13 @@
 
 from __future__ import annotations
 
+import itertools
 import json
+import uuid
 from collections.abc import AsyncIterator, Sequence
 from typing import Any, NamedTuple, Union
 
-from .etcd import CompactedError, Etcd, among, decoded, encoded
+from .etcd import CompactedError, Etcd, among, among_end, decoded, encoded
 
 PLACES = 128
 """An entry's number has its revision times this, and its place among those of one transaction, which have one revision."""
@@ -20,11 +22,20 @@ SILENCE = 15.0
 """Seconds without a beat of any node, after which another member is watched."""
 
 PAGE = 200
-"""How many entries are asked for at once, where they cannot be watched: more than one transaction has."""
+"""How many keys are listed at once, where entries cannot be watched. etcd has the values of all of them in memory for that."""
+
+MOST_OPERATIONS = 100
+"""How many entries are asked for at once: etcd takes 128 operations in one transaction."""
+
+LARGE = 1 << 22
+"""Where those had more bytes than this, fewer are asked for the next time."""
+
+BEHIND = "this store is behind what is left of the log"
+GONE = "entry {} is gone from etcd, though no node deleted it, and this store has not carried it out"
 
 
 class BehindError(Exception):
-    """Entries that a store has not carried out are deleted."""
+    """Entries that a store has not carried out cannot be had any more: a backup of another node's has to take its place."""
 
 
 class Identity(NamedTuple):
@@ -50,14 +61,24 @@ class Reached(NamedTuple):
 Found = Union[Entry, Reached]
 
 
+class Key(NamedTuple):
+    """A key that was made at this revision, without its prefix, and its value, if it was asked for."""
+
+    revision: int
+    name: bytes
+    value: bytes
+
+
 class Log:
-    """A log: each entry is a key of etcd, and one key, the tail, comes after them in each transaction."""
+    """A log: each entry is a key of etcd. In each transaction come after them the tail, which is one key for all transactions, and a key of
+    the transaction's own, which has the names of its entries: so it is seen where one of them is gone."""
 
     def __init__(self, etcd: Etcd, name: str) -> None:
         self.etcd = etcd
         self.prefix = f"pazturrok/{name}/".encode("ascii")
         self.entries = self.prefix + b"log/"
         self.tail, self.beat = self.entries + b"~", self.entries + b"~beat"
+        self.batches = self.prefix + b"batches/"
         self._trims, self._skips = self.prefix + b"trims/", self.prefix + b"skips/"
         self.identity: Identity | None = None
         self._begun = 1
@@ -73,7 +94,7 @@ class Log:
     async def begin(self, identity: Identity) -> Identity:
         """Begins it so, unless it has begun."""
         key = encoded(self.prefix + b"log")
-        await self.etcd.call("/v3/kv/txn", {"success": [put_once(key, encoded(json.dumps(identity).encode("ascii")))]})
+        await self.etcd.call("/v3/kv/txn", {"compare": [is_free(key)], "success": [put(key, json.dumps(identity).encode("ascii"))]})
         found = await self.identify()
         assert found
         return found
@@ -98,18 +119,29 @@ class Log:
 
         None, and nothing is put, where entries after this number are deleted: one of them may have had such a name.
         """
-        puts = [put_once(encoded(self.entries + name), encoded(b"%d\n%s" % (place, text))) for place, (name, text) in enumerate(entries)]
-        tail = {"request_put": {"key": encoded(self.tail), "value": encoded(b"%d" % len(entries))}}
-        found = await self.etcd.call("/v3/kv/txn", {"compare": [self._keeps(self.revision(floor))], "success": [*puts, tail]})
-        if not found.get("succeeded"):
-            return None
-        return [self._number_of(place, response["response_txn"], found) for place, response in enumerate(found["responses"][:-1])]
+        numbers: dict[bytes, int] = {}
+        while missing := [(name, text) for name, text in entries if name not in numbers]:
+            found = await self._append_new(missing, floor)
+            if found is None:
+                return None
+            numbers.update(found)
+        return [numbers[name] for name, _ in entries]
 
-    def _number_of(self, place: int, response: dict[str, Any], whole: dict[str, Any]) -> int:
-        """The number of an entry that was put now, or before."""
-        if response.get("succeeded"):
-            return self.number(int(whole["header"]["revision"]), place)
-        return self._entry(response["responses"][0]["response_range"]["kvs"][0]).number
+    async def _append_new(self, entries: Sequence[tuple[bytes, bytes]], floor: int) -> dict[bytes, int] | None:
+        """Puts entries, if none of them is there, and gives their numbers; else the numbers of those that are."""
+        names = [name for name, _ in entries]
+        keys = [encoded(self.entries + name) for name in names]
+        puts = [put(key, b"%d\n%s" % (place, text)) for place, (key, (_, text)) in enumerate(zip(keys, entries))]
+        puts += [put(encoded(self.tail), b"%d" % len(entries)), put(encoded(self.batches + uuid.uuid4().hex.encode("ascii")), b" ".join(names))]
+        compare = [self._keeps(self.revision(floor)), *map(is_free, keys)]
+        reads = [{"request_range": self._last_trim()}, *({"request_range": {"key": key}} for key in keys)]
+        found = await self.etcd.call("/v3/kv/txn", {"compare": compare, "success": puts, "failure": reads})
+        if found.get("succeeded"):
+            return {name: self.number(int(found["header"]["revision"]), place) for place, name in enumerate(names)}
+        trims, *held = (response["response_range"] for response in found["responses"])
+        if self._trimmed(trims) >= self.revision(floor):
+            return None
+        return {entry.name: entry.number for one in held for entry in map(self._entry, one.get("kvs", []))}
 
     def _entry(self, found: dict[str, Any]) -> Entry:
         place, _, text = decoded(found["value"]).partition(b"\n")
@@ -126,10 +158,12 @@ class Log:
 
     async def watch(self, number: int) -> AsyncIterator[Found]:
         """The entries after this number, in their order, for ever, and how far they go."""
-        revision = self.revision(number)
+        revision, is_told = self.revision(number), True
         while True:
+            source = self._watched(revision) if is_told else self._ranged(number, revision)
+            is_told = True
             try:
-                async for found in self._watched(revision):
+                async for found in source:
                     if isinstance(found, Reached):
                         revision = max(revision, found.revision)
                         yield found
@@ -137,12 +171,7 @@ class Log:
                         number = found.number
                         yield found
             except CompactedError:
-                async for found in self._ranged(number, revision):
-                    if isinstance(found, Reached):
-                        revision = found.revision
-                    else:
-                        number = found.number
-                    yield found
+                is_told = False
 
     async def _watched(self, revision: int) -> AsyncIterator[Found]:
         """The same by a watch, from a revision on, until it ends."""
@@ -155,27 +184,56 @@ class Log:
                     yield self._entry(event["kv"])
 
     async def _ranged(self, number: int, revision: int) -> AsyncIterator[Found]:
-        """The same by what the keys hold now, where etcd does not tell their past any more."""
-        more = True
-        while more:
-            ranged = {"key": encoded(self.entries), "range_end": encoded(self.tail), "limit": str(PAGE)}
-            ranged.update({"min_create_revision": str(revision), "sort_order": "ASCEND", "sort_target": "CREATE"})
-            reads = [{"request_range": self._last_trim()}, {"request_range": ranged}]
-            found = await self.etcd.call("/v3/kv/txn", {"success": reads})
-            trims, page = (response["response_range"] for response in found["responses"])
-            if revision <= self._trimmed(trims):
-                raise BehindError
-            more = bool(page.get("more"))
-            entries = sorted(map(self._entry, page.get("kvs", [])))
-            if more:
-                # those of the last revision may not be all
-                revision = self.revision(entries[-1].number)
-                entries = [entry for entry in entries if self.revision(entry.number) < revision]
+        """The same by what the keys hold now, where etcd does not tell their past any more; BehindError where they do not hold all of it."""
+        found = await self.etcd.call("/v3/kv/range", {"key": encoded(self.tail), "keys_only": True})
+        head = int(found["header"]["revision"])
+        keys = await self._since(self.entries, self.tail, revision, head, True)
+        batches = await self._since(self.batches, among_end(self.batches), revision, head, False)
+        if await self.trimmed() >= revision:
+            raise BehindError(BEHIND)
+        there = {(key.revision, key.name) for key in keys}
+        for batch in batches:
+            for place, name in enumerate(batch.value.split(b" ")):
+                if self.number(batch.revision, place) > number and (batch.revision, name) not in there:
+                    raise await self._why_gone(revision, self.number(batch.revision, place))
+        count = 8
+        while keys:
+            some, keys = keys[:count], keys[count:]
+            # those of one transaction are ordered by their places
+            while keys and keys[0].revision == some[-1].revision:
+                some.append(keys.pop(0))
+            entries = await self._entries_of(some, revision)
             for entry in entries:
-                if entry.number > number:
-                    number = entry.number
-                    yield entry
-        yield Reached(int(found["header"]["revision"]))
+                yield entry
+            count = min(2 * count, MOST_OPERATIONS) if sum(len(entry.text) for entry in entries) < LARGE else max(count // 2, 1)
+        yield Reached(head)
+
+    async def _since(self, begin: bytes, end: bytes, revision: int, head: int, keys_only: bool) -> list[Key]:
+        """The keys of a range that were made from a revision on, as they are at the head, in the order in which they were made."""
+        ranged = {"range_end": encoded(end), "limit": str(PAGE), "revision": str(head), "keys_only": keys_only}
+        keys, at, more = [], begin, True
+        while more:
+            found = await self.etcd.call("/v3/kv/range", {"key": encoded(at), **ranged})
+            page = [Key(int(one["create_revision"]), decoded(one["key"]), decoded(one.get("value", ""))) for one in found.get("kvs", [])]
+            keys += [Key(key.revision, key.name[len(begin) :], key.value) for key in page if key.revision >= revision]
+            at, more = page[-1].name + b"\0" if page else end, bool(found.get("more"))
+        return sorted(keys)
+
+    async def _entries_of(self, keys: Sequence[Key], revision: int) -> list[Entry]:
+        """Their entries, in order; BehindError where one is not there any more."""
+        entries: list[Entry] = []
+        for place in range(0, len(keys), MOST_OPERATIONS):
+            reads = [{"request_range": {"key": encoded(self.entries + key.name)}} for key in keys[place : place + MOST_OPERATIONS]]
+            found = await self.etcd.call("/v3/kv/txn", {"success": reads})
+            entries += [self._entry(kv) for response in found["responses"] for kv in response["response_range"].get("kvs", [])]
+        for key, entry in itertools.zip_longest(keys, entries):
+            if entry is None or (self.revision(entry.number), entry.name) != (key.revision, key.name):
+                raise await self._why_gone(revision, self.number(key.revision, 0))
+        return sorted(entries)
+
+    async def _why_gone(self, revision: int, number: int) -> BehindError:
+        """Why an entry is not there that came after a revision: the nodes deleted it; or somebody else did."""
+        return BehindError(BEHIND if await self.trimmed() >= revision else GONE.format(number))
 
     # Deleted entries
 
@@ -211,12 +269,11 @@ class Log:
         await self.etcd.call("/v3/kv/put", {"key": encoded(self._skips + b"%d" % number), "value": encoded(b"1")})
 
 
-def put_once(key: str, value: str) -> dict[str, Any]:
-    """An operation that puts a key unless it is there."""
-    return {
-        "request_txn": {
-            "compare": [{"key": key, "target": "CREATE", "result": "EQUAL", "create_revision": "0"}],
-            "success": [{"request_put": {"key": key, "value": value}}],
-            "failure": [{"request_range": {"key": key}}],
-        }
-    }
+def put(key: str, value: bytes) -> dict[str, Any]:
+    """An operation that puts a key."""
+    return {"request_put": {"key": key, "value": encoded(value)}}
+
+
+def is_free(key: str) -> dict[str, Any]:
+    """What a transaction compares that is to do nothing where a key is there."""
+    return {"key": key, "target": "CREATE", "result": "EQUAL", "create_revision": "0"}

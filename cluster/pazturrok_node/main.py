@@ -26,7 +26,7 @@ from .trim import Trimmer
 
 REFUSED = "node: {}. Nothing more is carried out"
 PUT_BACK = "etcd is another one, or was put back to an older state, while this node ran"
-BEHIND = "this store is behind what is left of the log: put a backup of another node's folder in place of this one (pazturrok backup)"
+SEED = "put a backup of another node's folder in place of this one (pazturrok backup)"
 
 ABOUT = """A replica of a store, by a log in etcd.
 
@@ -138,10 +138,12 @@ async def serve(asked: argparse.Namespace, node: Node, name: Name) -> int:
     done, others = await asyncio.wait(tasks, return_when=asyncio.FIRST_COMPLETED)
     server.close()
     await end_all(others, 15)
-    for task in done:
-        task.result()
-    await node.end()
-    await name.let_go()
+    try:
+        for task in done:
+            task.result()
+        await node.end()
+    finally:
+        await name.let_go()
     return 0
 
 
@@ -158,7 +160,7 @@ async def carry_out(asked: argparse.Namespace) -> int:
             return await begin(log, replica, program)
         return await serve(asked, Node(log, replica, program), Name(log, asked.name, replica))
     except (BehindError, RefusedStoreError) as error:
-        print(REFUSED.format(BEHIND if isinstance(error, BehindError) else error), file=sys.stderr)
+        print(REFUSED.format(f"{error}: {SEED}" if isinstance(error, BehindError) else error), file=sys.stderr)
         return 4
     except PutBackError:
         print(f"node: {PUT_BACK}", file=sys.stderr)

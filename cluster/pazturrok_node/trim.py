@@ -97,10 +97,11 @@ class Trimmer:
         if upto <= self._trimmed:
             return
         await self._log.will_trim(upto)
-        while keys := await self._old_keys(upto):
-            for place in range(0, len(keys), AT_ONCE):
-                deletes = [{"request_delete_range": {"key": key}} for key in keys[place : place + AT_ONCE]]
-                await self._etcd.call("/v3/kv/txn", {"success": deletes})
+        for ranged in ({"key": encoded(self._log.entries), "range_end": encoded(self._log.tail)}, among(self._log.batches)):
+            while keys := await self._old_keys(ranged, upto):
+                for place in range(0, len(keys), AT_ONCE):
+                    deletes = [delete_old(key, upto) for key in keys[place : place + AT_ONCE]]
+                    await self._etcd.call("/v3/kv/txn", {"success": deletes})
         self._trimmed = upto
         with contextlib.suppress(CompactedError):
             await self._etcd.call("/v3/kv/compaction", {"revision": str(upto)})
@@ -112,9 +113,8 @@ class Trimmer:
             self._marked = now
             await self._appender.append(uuid.uuid4().hex.encode("ascii"), MARK)
 
-    async def _old_keys(self, upto: int) -> list[str]:
-        ranged = {"key": encoded(self._log.entries), "range_end": encoded(self._log.tail), "keys_only": True}
-        found = await self._etcd.call("/v3/kv/range", {**ranged, "max_create_revision": str(upto), "limit": str(PAGE)})
+    async def _old_keys(self, ranged: dict[str, Any], upto: int) -> list[str]:
+        found = await self._etcd.call("/v3/kv/range", {**ranged, "keys_only": True, "max_create_revision": str(upto), "limit": str(PAGE)})
         return [entry["key"] for entry in found.get("kvs", [])]
 
     def _position_before(self, moment: float) -> int:
@@ -125,3 +125,9 @@ class Trimmer:
         if position:
             self._seen.appendleft((moment, position))
         return position
+
+
+def delete_old(key: str, upto: int) -> dict[str, Any]:
+    """An operation that deletes a key, unless it was made anew after a revision: it may be carried out late, and twice."""
+    compare = {"key": key, "target": "CREATE", "result": "LESS", "create_revision": str(upto + 1)}
+    return {"request_txn": {"compare": [compare], "success": [{"request_delete_range": {"key": key}}]}}
