@@ -36,6 +36,7 @@ def campaign(part, seconds):
 TEXTS = [
     Check("the pages", "checks/docs", "", 3),
     Check("the wrong bodies", "checks/wrong-bodies/run --apply", "rt", 2),
+    Check("the house", "checks/house", "", 2),
 ]
 
 CHECKS = [
