@@ -9,7 +9,7 @@ HEAD = """# The commands
 
 Every command of the program with its options, in the words of its help. `checks/docs --write` makes this page from the sources of the command line (`crates/command_words`). What to do with them is in [operating.md](operating.md), which status a command ends with [there too](operating.md#the-exit-status).
 
-An option that is not given is off. **`--existing`** is an option of every command but `check`: the command refuses a folder that holds no store, and makes nothing. A command that only looks makes nothing in any case. `--help` after a command has its help with an example; `--version` tells the version of the program and of the files that it writes.
+An option that is not given is off. **`--existing`** is an option of every command but `check`: the command refuses a folder that holds no store, and makes nothing. A command that only looks makes nothing in any case. `--help` after a command has its help with an example; `--version` tells the version of the program and of the files that it writes. `PAZTURROK_MEMORY` is the one variable of the environment ([Memory](operating.md#memory)); there is no file of settings.
 """
 
 
