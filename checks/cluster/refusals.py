@@ -189,16 +189,25 @@ def idle(folder, program):
 # ---- an entry that no store can carry out
 
 
-def skipped(folder, program):
-    """All stores end at one entry, until it is skipped."""
+LARGE = b'#999999("0123456789abcdef")'
+"""A form for which a store with little memory has none."""
+
+
+def small_program(folder, program):
+    """The program with little memory."""
     small = os.path.join(folder, "small")
     with open(small, "w", encoding="ascii") as file:
         file.write(f'#!/bin/sh\nulimit -v 200000\nFAKE_MEMORY=refused exec {program} "$@"\n')
     os.chmod(small, 0o755)
-    cluster = begun(folder, small, nodes=2)
+    return small
+
+
+def skipped(folder, program):
+    """All stores end at one entry, until it is skipped."""
+    cluster = begun(folder, small_program(folder, program), nodes=2)
     answers = []
     try:
-        large = threading.Thread(target=lambda: answers.append(Client(cluster.places).request(b"do large", b'#999999("0123456789abcdef")')))
+        large = threading.Thread(target=lambda: answers.append(Client(cluster.places).request(b"do large", LARGE)))
         after = threading.Thread(target=lambda: answers.append(Client(cluster.places[1:]).request(b"do after", ADD)))
         large.start()
         time.sleep(2)

@@ -23,6 +23,9 @@ SKIPPED = b"! 53 SKIPPED"
 NOTHING = b"NIL"
 """What a store is fed in place of such an entry."""
 
+NO_MEMORY = b"! 90 NO-MEMORY"
+"""The answer to a question beside which the store has ended twice: it is not asked again."""
+
 MARK = (
     b"(COMMON-LISP:SETF (COMMON-LISP:GET (COMMON-LISP:QUOTE COMMON-LISP-USER::|position|)"
     b" (COMMON-LISP:QUOTE COMMON-LISP-USER::|position|)) 0)"
@@ -39,6 +42,14 @@ MOST_BYTES = 1_000_000
 """And so many bytes of them, but for one entry alone: etcd takes requests of 1.5 MB."""
 
 
+class Question:
+    """A question of a client, what will have its answer, and how often the store has ended while it was under way."""
+
+    def __init__(self, text: bytes) -> None:
+        self.text, self.ends = text, 0
+        self.answer: asyncio.Future[bytes] = asyncio.get_running_loop().create_future()
+
+
 class Node:
     def __init__(self, log: Log, replica: Replica, words: Sequence[str]) -> None:
         self.log, self._replica, self._words = log, replica, words
@@ -49,25 +60,31 @@ class Node:
         """A number that an opening of the store would tell, or a lower one than that."""
         self.is_admitted = asyncio.Event()
         self._ended_at = (0, 0)
-        """The number of the entry before whose answer the store has ended last, and how often it did."""
+        """The number of the entry before whose answer the store has ended last, with no question under way, and how often it did."""
+        self._suspect = 0
+        """The number of the first entry that was under way as the store ended last: it is fed alone."""
         self._reached = (0, 0)
         """A revision all of whose entries were sent to the store, and the number of the last one."""
         self._child: Child | None = None
         self._skipped: set[int] = set()
         self._last: Entry | None = None
         self._sent: collections.deque[Entry] = collections.deque()
-        self._asked: collections.deque[tuple[bytes, asyncio.Future[bytes]]] = collections.deque()
+        self._unasked: collections.deque[Question] = collections.deque()
+        """Questions that were not sent to the store."""
+        self._asked: collections.deque[Question] = collections.deque()
+        """Those that were, and have no answer."""
+        self._may_ask = False
+        self._are_answered = asyncio.Event()
         self._moved = asyncio.Condition()
 
     # What clients want
 
     async def ask(self, text: bytes) -> bytes:
         """What the store answers to a question, as far as it has come."""
-        future: asyncio.Future[bytes] = asyncio.get_running_loop().create_future()
-        self._asked.append((text, future))
-        if self._child:
-            self._child.send(question(text))
-        return await future
+        one = Question(text)
+        self._unasked.append(one)
+        self._ask_all()
+        return await one.answer
 
     async def read(self, text: bytes) -> bytes:
         """What it answers after all entries that were in the log when this was called."""
@@ -101,8 +118,18 @@ class Node:
             pause = min(2 * pause, LONGEST_PAUSE)
 
     def _count_end(self) -> None:
+        """The store has ended: by a question that was under way, or else by the first entry that was."""
+        asked, was_asked = [one for one in self._asked if not one.answer.done()], bool(self._asked)
+        self._asked.clear()
+        for one in asked:
+            one.ends += 1
+            if one.ends > 1:
+                one.answer.set_result(NO_MEMORY)
+        self._unasked.extendleft(one for one in reversed(asked) if not one.answer.done())
         number = self._sent[0].number if self._sent else 0
-        self._ended_at = (number, self._ended_at[1] + 1 if number == self._ended_at[0] else 1)
+        self._suspect = number or self._suspect
+        if not was_asked:
+            self._ended_at = (number, self._ended_at[1] + 1 if number == self._ended_at[0] else 1)
 
     @property
     def stuck(self) -> int:
@@ -137,20 +164,41 @@ class Node:
 
     async def _serve(self, child: Child) -> None:
         self._child = child
-        for text, _ in self._asked:
-            child.send(question(text))
         tasks = [asyncio.ensure_future(self._feed(child)), asyncio.ensure_future(self._listen(child))]
         try:
             done, _ = await asyncio.wait(tasks, return_when=asyncio.FIRST_COMPLETED)
             for task in done:
                 task.result()
         finally:
-            self._child = None
+            self._child, self._may_ask = None, False
             await end_all(tasks, 1)
+
+    # Feeding it
+
+    async def _ask_alone(self) -> None:
+        """Asks one after the other what was under way as the store ended before: so it is known by which of them it ends."""
+        for one in [one for one in self._unasked if one.ends]:
+            self._unasked.remove(one)
+            self._send_question(one)
+            await self._are_answered.wait()
+        self._may_ask = True
+        self._ask_all()
+
+    def _ask_all(self) -> None:
+        while self._may_ask and self._unasked:
+            self._send_question(self._unasked.popleft())
+
+    def _send_question(self, one: Question) -> None:
+        if self._child and not one.answer.done():
+            self._asked.append(one)
+            self._are_answered.clear()
+            self._child.send(question(one.text))
 
     async def _feed(self, child: Child) -> None:
         last = child.position
+        self._are_answered.set()
         with contextlib.suppress(ConnectionError):
+            await self._ask_alone()
             async for found in self.log.watch(child.position):
                 if isinstance(found, Reached):
                     if last >= self._reached[1]:
@@ -158,20 +206,33 @@ class Node:
                         await self._tell()
                     continue
                 last = found.number
-                self._sent.append(found)
-                if found.number in self._skipped:
-                    self._replica.will_skip(found.number)
-                child.send(message(found.number, NOTHING if found.number in self._skipped else found.text))
+                if last == self._suspect:
+                    await self._feed_alone(child, found)
+                else:
+                    self._send_entry(child, found)
                 await child.drain()
+
+    async def _feed_alone(self, child: Child, entry: Entry) -> None:
+        """Feeds an entry while no question is under way: so it is known whether the store ends by it."""
+        self._may_ask = False
+        await self._are_answered.wait()
+        self._send_entry(child, entry)
+        await self._until(lambda: self.position >= entry.number)
+        self._may_ask = True
+        self._ask_all()
+
+    def _send_entry(self, child: Child, entry: Entry) -> None:
+        self._sent.append(entry)
+        if entry.number in self._skipped:
+            self._replica.will_skip(entry.number)
+        child.send(message(entry.number, NOTHING if entry.number in self._skipped else entry.text))
 
     async def _listen(self, child: Child) -> None:
         with contextlib.suppress(NoFrameError, asyncio.IncompleteReadError):
             while (found := await read_answer(child.answers)) is not None:
                 number, text = found
                 if number is None:
-                    _, future = self._asked.popleft()
-                    if not future.done():
-                        future.set_result(text)
+                    self._answer_question(text)
                     continue
                 self._last = self._sent.popleft()
                 if self._last.number != number:
@@ -180,6 +241,13 @@ class Node:
                     self.lasting = number
                 self.answers.resolve(number, SKIPPED if number in self._skipped else text)
                 await self._move(number)
+
+    def _answer_question(self, text: bytes) -> None:
+        one = self._asked.popleft()
+        if not one.answer.done():
+            one.answer.set_result(text)
+        if not self._asked:
+            self._are_answered.set()
 
     async def _move(self, position: int) -> None:
         self.answers.settled = max(self.answers.settled, position)

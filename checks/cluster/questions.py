@@ -1,0 +1,117 @@
+"""Questions by which a store ends, for which it has no memory: they are answered, and no entry is blamed for them. Each part gives what is
+wrong."""
+import os
+import socket
+import sys
+import threading
+import time
+
+from cluster import LONG, Client
+from refusals import ADD, LARGE, LOOK, begun, small_program, stuck_at, value
+
+sys.path.append(os.path.join(os.path.dirname(os.path.abspath(__file__)), "..", "..", "clients", "python", "src"))
+
+REFUSED = "! 90 NO-MEMORY"
+PATIENCE = 20.0
+
+
+def answer(cluster, place, head, text):
+    """What one node answers in one try, or what became of it."""
+    try:
+        return Client(cluster.places[place : place + 1], patience=PATIENCE).once(head, text)[1]
+    except (OSError, ValueError) as error:
+        return repr(error)
+
+
+def ends(cluster, place):
+    """How often the store of a node has ended."""
+    return cluster.nodes[place].told().count("the store ended")
+
+
+def reports(cluster):
+    """The entries that the nodes blame."""
+    return [int(report.split(b'"stuck": ')[1].rstrip(b"}")) for report in cluster.keys("nodes/").values()]
+
+
+def without_memory(folder, program):
+    """A question for which no store has memory is refused after two of them, by one node, and others are answered meanwhile."""
+    cluster = begun(folder, small_program(folder, program), nodes=3)
+    try:
+        told = answer(cluster, 0, b"ask", LARGE)
+        faults = [] if told == REFUSED and ends(cluster, 0) == 2 else [f"a question without memory: {told}, {ends(cluster, 0)} ends"]
+        for kind in (b"ask", b"read"):
+            other = threading.Thread(target=answer, args=(cluster, 0, kind, LARGE))
+            other.start()
+            told = [answer(cluster, 0, kind, LOOK) for _ in range(5)]
+            other.join()
+            faults += [] if told == ["5"] * 5 else [f"others are answered {told}"]
+        told = by_node_store(cluster)
+        faults += [] if told == 90 else [f"NodeStore gives {told}"]
+        counts = [ends(cluster, place) for place in range(3)]
+        return faults + ([] if counts[0] + counts[1] + counts[2] == 8 else [f"the stores ended {counts} times"])
+    finally:
+        cluster.end()
+
+
+def by_node_store(cluster):
+    """The number with which the client for Python refuses the question."""
+    from pazturrok import NodeStore, RefusedError, StoreError
+
+    try:
+        with NodeStore([f"{host}:{port}" for host, port in reversed(cluster.places)], time_limit=PATIENCE) as store:
+            return store.ask(LARGE.decode())
+    except RefusedError as error:
+        return error.number
+    except StoreError as error:
+        return error
+
+
+def innocent(folder, program):
+    """Clients ask what no store has memory for, and go. The entry that comes next is carried out, and no node blames it."""
+    cluster = begun(folder, small_program(folder, program), nodes=2)
+    try:
+        for host in cluster.places:
+            with socket.create_connection(host) as one:
+                one.sendall(b"ask %d\n%s\n" % (len(LARGE), LARGE) * 2)
+        blamed = threading.Thread(target=lambda: told.append(answer(cluster, 0, b"do pay", ADD)))
+        told, seen, until = [], set(), time.monotonic() + 8
+        blamed.start()
+        while time.monotonic() < until:
+            seen.update(reports(cluster))
+            time.sleep(0.5)
+        blamed.join()
+        faults = [] if seen == {0} else [f"the nodes blame {seen} for a question"]
+        return faults + ([] if told == ["6"] and value(cluster, 1) == "6" else [f"the next entry is answered {told}"])
+    finally:
+        cluster.end()
+
+
+def guilty(folder, program):
+    """An entry for which no store has memory is blamed, and can be skipped, also while clients ask without an end; and those are answered."""
+    cluster = begun(folder, small_program(folder, program), nodes=2)
+    over, seen, answers = threading.Event(), set(), []
+
+    def ask(place):
+        client = Client(cluster.places[place:] + cluster.places[:place], patience=PATIENCE)
+        while not over.is_set():
+            seen.add(client.request(b"ask", LOOK)[1])
+
+    workers = [threading.Thread(target=ask, args=(number % 2,)) for number in range(4)]
+    large = threading.Thread(target=lambda: answers.append(Client(cluster.places, patience=LONG).request(b"do large", LARGE)[1]))
+    try:
+        for worker in [*workers, large]:
+            worker.start()
+        number = stuck_at(cluster)
+        status, told = cluster.order("skip", str(number))
+        large.join(LONG)
+        over.set()
+        for worker in workers:
+            worker.join()
+        faults = [] if status == 0 and answers == ["! 53 SKIPPED"] else [f"skip {number}: {status} {told} {answers}"]
+        return faults + ([] if seen == {"5"} else [f"those who asked were answered {seen}"])
+    finally:
+        over.set()
+        cluster.end()
+
+
+PARTS = {"without memory": without_memory, "innocent": innocent, "guilty": guilty}
