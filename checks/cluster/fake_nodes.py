@@ -13,6 +13,9 @@ import time
 
 ADD = "(INCF (GET 'COUNTER 'KY))"
 
+LOSE = "(LOSE)"
+"""A text by which each node loses the connection."""
+
 
 class FakeNodes:
     """Nodes that carry out each name once, and lose connections by chance, before an answer or within it."""
@@ -39,6 +42,9 @@ class FakeNodes:
                 text = stream.read(int(head[-1]) + 1)[:-1].decode()
                 while self.is_silent[place]:
                     time.sleep(0.02)
+                if text == LOSE:
+                    self.heads.append(head[0].decode())
+                    return
                 kind, answer = self.answer([word.decode() for word in head], text)
                 whole = f"{kind} {len(answer)}\n{answer}\n".encode()
                 if self.chance.random() < self.loses and len(head) > 2:

@@ -42,6 +42,16 @@
                (loop repeat 5 nconc (feed-all feed (make-list 40 :initial-element *add*))))
        (expect "no more" 200 (ask-fresh feed *look*))))))
 
+(define-check a-question-is-not-carried-on-for-ever ()
+  (call-with-standing-nodes
+   "0"
+   (lambda (nodes)
+     (with-nodes (feed nodes :time-limit 20)
+       (expect "no node, before the time is up" '(no-node t)
+               (let ((end (+ (get-internal-real-time) (* 10 internal-time-units-per-second))))
+                 (list (signalled (ask feed "(LOSE)")) (< (get-internal-real-time) end))))
+       (expect "the next one is answered" 1 (feed-form feed *add*))))))
+
 (define-check no-node-at-all ()
   (with-nodes (feed '("127.0.0.1:1" "/no/socket") :time-limit 1/2)
     (expect "no node" 'no-node (signalled (feed-form feed *add*)))))

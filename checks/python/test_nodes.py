@@ -16,7 +16,7 @@ from support import StoreTest
 CHECKS = os.path.join(os.path.dirname(os.path.abspath(__file__)), "..")
 sys.path.insert(0, os.path.join(CHECKS, "cluster"))
 
-from fake_nodes import ADD, FakeNodes  # noqa: E402
+from fake_nodes import ADD, LOSE, FakeNodes  # noqa: E402
 
 LOOK = "(GET 'COUNTER 'KY)"
 
@@ -68,6 +68,16 @@ class Nodes(StoreTest):
             self.assertEqual(2, store.do(ADD))
             self.assertEqual(nodes.names[1], store.node)
             nodes.is_silent[0] = False
+
+    def test_a_question_is_not_carried_on_for_ever(self) -> None:
+        nodes = self.nodes(count=3)
+        with NodeStore(nodes.names, time_limit=20) as store:
+            for kind in (store.ask, store.read):
+                nodes.heads.clear()
+                with self.assertRaisesRegex(NoNodeError, "it was sent 6 times"):
+                    kind(LOSE)
+                self.assertEqual(6, sum(head in ("ask", "read") for head in nodes.heads))
+            self.assertEqual(1, store.do(ADD))
 
     def test_no_node(self) -> None:
         nodes = self.nodes()

@@ -9,6 +9,9 @@
 (defparameter *pause-between-nodes* 1/20
   "How many seconds are between two tries.")
 
+(defparameter *most-tries* 6
+  "How often a question is sent, to one node after the other. By one for which it has no memory each store ends.")
+
 ;;; Connections
 
 #+(or sbcl ecl)
@@ -73,17 +76,22 @@
 
 ;;; Sending
 
-(defun call-with-nodes (feed function)
-  "Calls FUNCTION, which speaks to a node, until it returns; after an error of the connection with the next node."
+(defun call-with-nodes (feed function &optional (tries most-positive-fixnum))
+  "Calls FUNCTION, which speaks to a node, until it returns; after an error of the connection with the next node. It is called
+so many times at most; a try that comes to no connection does not count."
   (when (feed-closed-p feed) (error 'closed))
   (loop with end = (+ (get-internal-real-time) (* (node-feed-time-limit feed) internal-time-units-per-second))
         do (let ((whole-p nil))
              (unwind-protect
-                  (handler-case (return (multiple-value-prog1 (funcall function) (setf whole-p t)))
+                  (handler-case (let ((stream (ready-node feed)))
+                                  (decf tries)
+                                  (return (multiple-value-prog1 (funcall function stream) (setf whole-p t))))
                     (store-error (condition) (error condition))
                     (error (condition)
-                      (when (>= (get-internal-real-time) end)
-                        (error 'no-node :seconds (node-feed-time-limit feed) :reason (princ-to-string condition)))))
+                      (when (or (>= (get-internal-real-time) end) (not (plusp tries)))
+                        (error 'no-node :seconds (node-feed-time-limit feed)
+                                        :reason (format nil "~:[it was sent ~D times; ~;~*~]~A"
+                                                        (plusp tries) *most-tries* condition)))))
                (unless whole-p (leave-node feed))))
            (setf (node-feed-at feed) (mod (1+ (node-feed-at feed)) (length (feed-words feed))))
            (sleep *pause-between-nodes*)))
@@ -95,8 +103,8 @@
          (outcomes '()))
     (call-with-nodes
      feed
-     (lambda ()
-       (let ((stream (ready-node feed)) (done (length outcomes)))
+     (lambda (stream)
+       (let ((done (length outcomes)))
          (loop for name in (nthcdr done names)
                for text in (nthcdr done texts)
                do (format stream "do ~A ~D~%~A~%" name (length text) text))
@@ -116,11 +124,12 @@
 
 (defun ask-nodes (feed kind text)
   "The text of the answer to a question: of one node's store, or, where KIND is \"read\", after all that was answered."
-  (call-with-nodes feed (lambda ()
-                          (let ((stream (ready-node feed)))
-                            (format stream "~A ~D~%~A~%" kind (length text) text)
-                            (finish-output stream)
-                            (nth-value 1 (read-node-answer feed))))))
+  (call-with-nodes feed
+                   (lambda (stream)
+                     (format stream "~A ~D~%~A~%" kind (length text) text)
+                     (finish-output stream)
+                     (nth-value 1 (read-node-answer feed)))
+                   *most-tries*))
 
 ;;; Opening
 

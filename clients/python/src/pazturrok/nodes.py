@@ -3,6 +3,7 @@
 from __future__ import annotations
 
 import contextlib
+import math
 import selectors
 import socket
 import ssl
@@ -29,6 +30,9 @@ from .values import Value
 PIECE = 65536
 PAUSE = 0.05
 """How many seconds are between two tries."""
+
+MOST_TRIES = 6
+"""How often a question is sent, to one node after the other. By one for which it has no memory each store ends."""
 
 OLD_NUMBER = 50
 """The refusal of a message that was carried out before, and whose answer is not kept any more."""
@@ -187,10 +191,10 @@ class NodeStore(Shared):
     @alone
     def _question(self, kind: str, form: Form) -> Value:
         text = text_of(form)
-        return self._naming.value(self._send([f"{kind} {len(text)}\n{text}"])[0][1])
+        return self._naming.value(self._send([f"{kind} {len(text)}\n{text}"], MOST_TRIES)[0][1])
 
-    def _send(self, frames: Sequence[str]) -> list[tuple[str, str]]:
-        """The answers to frames, which are sent until they have one."""
+    def _send(self, frames: Sequence[str], tries: float = math.inf) -> list[tuple[str, str]]:
+        """The answers to frames, which are sent until they have one, and no more than so many times."""
         if self._is_closed:
             raise ClosedStoreError
         answers: list[tuple[str, str]] = []
@@ -198,13 +202,15 @@ class NodeStore(Shared):
         while True:
             seconds = min(self._patience, max(0.01, end - time.monotonic()))
             try:
-                self._connect(seconds).exchange(frames[len(answers) :], answers, seconds)
+                connection = self._connect(seconds)
+                tries -= 1
+                connection.exchange(frames[len(answers) :], answers, seconds)
                 return answers
             except OSError as error:
                 self._leave()
-                reason = f"{self.node}: {error}"
+                reason = f"{self.node}: {error}" if tries > 0 else f"it was sent {MOST_TRIES} times; {self.node}: {error}"
                 self._at = (self._at + 1) % len(self._nodes)
-                if time.monotonic() >= end:
+                if time.monotonic() >= end or tries <= 0:
                     lost = NoNodeError(self._time_limit, reason)
                     lost.outcomes = answers
                     raise lost from None
