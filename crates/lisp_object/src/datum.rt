@@ -1,5 +1,5 @@
 //! Lisp objects as data.
-ghost use Rattle.std.specs.Prelude.{◌≡◌, ◌↔◌, true, IsTrue, IfOk, codes};
+ghost use Rattle.std.specs.Prelude.{◌≡◌, ◌≢◌, ◌↔◌, ℕ, List, Option, true, IsTrue, IfErr, IfOk, codes};
 ghost use Rattle.lisp_object.specs.Object.{is_nil, object_is_list};
 ghost use Rattle.lisp_object.specs.Datum.{object_of, is_proper, is_list};
 
@@ -8,7 +8,7 @@ use std::alloc::{AllocError, Global};
 
 /// A Lisp object. Equal data are the same tree. A datum is proper (`is_proper`) where each list in it has an item and no
 /// list as its tail, and each byte in it is below 128; the empty list is the symbol NIL of COMMON-LISP.
-#[derive(PartialEq, Eq, Debug, Drop)]
+#[derive(PartialEq, Eq, Debug)]
 pub enum Datum {
     /// An integer (standard 2.3.1).
     Integer(i128),
@@ -34,6 +34,25 @@ pub enum Datum {
     Vector(Items<Datum>),
 }
 
+// A call, so that a function that owns a datum does not see each kind of it at each exit.
+impl Drop for Datum {
+    fn drop(self) {
+        match self {
+            Datum::Integer(_) => (),
+            Datum::Rational(_) => (),
+            Datum::Char(_) => (),
+            Datum::Text(_) => (),
+            Datum::Symbol {
+                package: _,
+                name: _,
+            } => (),
+            Datum::Uninterned(_) => (),
+            Datum::List { items: _, tail: _ } => (),
+            Datum::Vector(_) => (),
+        }
+    }
+}
+
 impl Datum {
     /// NIL, the symbol of COMMON-LISP, which is the empty list. Its name takes memory.
     pub fn nil(alloc: Global) -> Result<Datum, AllocError>
@@ -43,6 +62,54 @@ impl Datum {
             package: Bytes::from_slice(alloc, b"COMMON-LISP")?,
             name: Bytes::from_slice(alloc, b"NIL")?,
         })
+    }
+
+    /// The items and the tail of a `List`, moved out; or the same datum, where it is another.
+    pub fn into_list(self) -> Result<(Items<Datum>, Option<Boxed<Datum>>), Datum>
+        ensures list { IfOk result (λ parts. self ≡ Datum.List parts.0 parts.1) }
+        ensures same { IfErr result (λ same. same ≡ self) }
+        ensures other { IfErr result (λ _. (items : List Datum) (tail : Option Datum) → self ≢ Datum.List items tail) }
+    {
+        match self {
+            Datum::List { items, tail } => Ok((items, tail)),
+            other => Err(other),
+        }
+    }
+
+    /// The items of a `Vector`, moved out; or the same datum, where it is another.
+    pub fn into_vector(self) -> Result<Items<Datum>, Datum>
+        ensures vector { IfOk result (λ items. self ≡ Datum.Vector items) }
+        ensures same { IfErr result (λ same. same ≡ self) }
+        ensures other { IfErr result (λ _. (items : List Datum) → self ≢ Datum.Vector items) }
+    {
+        match self {
+            Datum::Vector(items) => Ok(items),
+            other => Err(other),
+        }
+    }
+
+    /// The names of a `Symbol`, its package's and its own, moved out; or the same datum, where it is another.
+    pub fn into_symbol(self) -> Result<(Bytes, Bytes), Datum>
+        ensures symbol { IfOk result (λ names. self ≡ Datum.Symbol names.0 names.1) }
+        ensures same { IfErr result (λ same. same ≡ self) }
+        ensures other { IfErr result (λ _. (home name : List ℕ) → self ≢ Datum.Symbol home name) }
+    {
+        match self {
+            Datum::Symbol { package, name } => Ok((package, name)),
+            other => Err(other),
+        }
+    }
+
+    /// The characters of a `Text`, moved out; or the same datum, where it is another.
+    pub fn into_text(self) -> Result<Bytes, Datum>
+        ensures text { IfOk result (λ characters. self ≡ Datum.Text characters) }
+        ensures same { IfErr result (λ same. same ≡ self) }
+        ensures other { IfErr result (λ _. (characters : List ℕ) → self ≢ Datum.Text characters) }
+    {
+        match self {
+            Datum::Text(characters) => Ok(characters),
+            other => Err(other),
+        }
     }
 
     /// Whether it is NIL, the empty list.

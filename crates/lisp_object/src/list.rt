@@ -67,12 +67,12 @@ fn joined(alloc: Global, items: Items<Datum>, tail: Datum) -> Result<Datum, Allo
         → IfOk result (λ d. d ≡ Datum.List (items ++ more) end) }
     ensures other_tail { is_list tail ≡ false → IfOk result (λ d. d ≡ Datum.List items (Some tail)) }
 {
-    match tail {
-        Datum::List { items: more, tail } => Ok(Datum::List {
+    match tail.into_list() {
+        Ok((more, tail)) => Ok(Datum::List {
             items: items.followed_by(more)?,
             tail,
         }),
-        other => Ok(Datum::List {
+        Err(other) => Ok(Datum::List {
             items,
             tail: Some(Boxed::new(alloc, other)?),
         }),
