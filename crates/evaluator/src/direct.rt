@@ -95,9 +95,9 @@ fn into_items(form: Datum) -> Result<Vec<Datum>, Datum>
         (tail : Option Datum) × (form ≡ Datum.List items.items tail)) }
     ensures same { IfErr result (λ same. same ≡ form) }
 {
-    match form {
-        Datum::List { items, tail: _tail } => Ok(items.into_vec()),
-        other => Err(other),
+    match form.into_list() {
+        Ok((items, _tail)) => Ok(items.into_vec()),
+        Err(other) => Err(other),
     }
 }
 
@@ -184,14 +184,14 @@ fn into_literal(form: Datum) -> Result<Datum, Datum>
     ensures same { IfErr result (λ same. same ≡ form) }
 {
     match form {
-        Datum::Integer(_) => Ok(form),
-        Datum::Rational(_) => Ok(form),
-        Datum::Char(_) => Ok(form),
-        Datum::Text(_) => Ok(form),
-        Datum::Vector(_) => Ok(form),
+        Datum::Integer(..) => Ok(form),
+        Datum::Rational(..) => Ok(form),
+        Datum::Char(..) => Ok(form),
+        Datum::Text(..) => Ok(form),
+        Datum::Vector(..) => Ok(form),
         Datum::List { .. } => into_quoted(form),
         Datum::Symbol { .. } => Err(form),
-        Datum::Uninterned(_) => Err(form),
+        Datum::Uninterned(..) => Err(form),
     }
 }
 

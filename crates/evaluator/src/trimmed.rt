@@ -9,13 +9,15 @@ use std::mem;
 pub(crate) fn trimmed(datum: Datum) -> Datum
     ensures { result ≡ datum }
 {
-    match datum {
-        Datum::List { items, tail } => Datum::List {
+    match datum.into_list() {
+        Ok((items, tail)) => Datum::List {
             items: trimmed_items(items),
             tail,
         },
-        Datum::Vector(items) => Datum::Vector(trimmed_items(items)),
-        other => other,
+        Err(other) => match other.into_vector() {
+            Ok(items) => Datum::Vector(trimmed_items(items)),
+            Err(other) => other,
+        },
     }
 }
 

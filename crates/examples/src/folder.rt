@@ -55,9 +55,9 @@ fn next_on<D: Disk + Drop, M: MacroFunctions + Drop>(
     };
     let outcome = store.execute(Mode::Current, COUNT);
     let _closed = store.close();
-    match outcome {
-        Outcome::Accepted(Datum::Integer(number)) => Ok(number),
-        Outcome::Refused(number) => Err(StoreError::Refused(number)),
+    match &outcome {
+        Outcome::Accepted(Datum::Integer(number)) => Ok(*number),
+        Outcome::Refused(number) => Err(StoreError::Refused(*number)),
         _ => Err(StoreError::NoInteger),
     }
 }

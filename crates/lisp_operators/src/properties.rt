@@ -25,18 +25,9 @@ fn symbol(datum: Datum) -> Result<Symbol, EvaluationError>
     requires { IsProper datum }
     ensures { IsOfKind symbol_of result (a_symbol (object_of datum)) }
 {
-    match datum {
-        Datum::Symbol { package, name } => Ok(Symbol {
-            home: package,
-            name,
-        }),
-        Datum::Integer(_) => Err(Refused(ARGUMENT_KIND)),
-        Datum::Rational(_) => Err(Refused(ARGUMENT_KIND)),
-        Datum::Char(_) => Err(Refused(ARGUMENT_KIND)),
-        Datum::Text(_) => Err(Refused(ARGUMENT_KIND)),
-        Datum::Uninterned(_) => Err(Refused(ARGUMENT_KIND)),
-        Datum::List { .. } => Err(Refused(ARGUMENT_KIND)),
-        Datum::Vector(_) => Err(Refused(ARGUMENT_KIND)),
+    match datum.into_symbol() {
+        Ok((home, name)) => Ok(Symbol { home, name }),
+        Err(_other) => Err(Refused(ARGUMENT_KIND)),
     }
 }
 

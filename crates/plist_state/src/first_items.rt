@@ -29,7 +29,7 @@ pub(crate) fn put_first(list: &mut Datum, first: Datum) -> Result<(), AllocError
     ensures err { OnErr result (object_of list.new ≡ object_of list.old) }
     ensures proper { is_proper list.new ≡ true }
 {
-    let Datum::List { items, tail } = mem::replace(list, Datum::Integer(0)) else {
+    let Ok((items, tail)) = mem::replace(list, Datum::Integer(0)).into_list() else {
         unreachable!()
     };
     let (items, made) = with_first(items, first);
@@ -46,8 +46,8 @@ fn rest_of(list: Datum) -> Option<Datum>
     ensures value { unwrap_or (option_map object_of result) nil ≡ without_first (object_of list) }
     ensures proper { IfSome result (λ d. is_proper d ≡ true) }
 {
-    match list {
-        Datum::List { items, tail } => {
+    match list.into_list() {
+        Ok((items, tail)) => {
             let mut items = items.into_vec();
             let _first = items.remove(0);
             if items.is_empty() {
@@ -58,7 +58,7 @@ fn rest_of(list: Datum) -> Option<Datum>
                 tail,
             })
         }
-        other => Some(other),
+        Err(other) => Some(other),
     }
 }
 
