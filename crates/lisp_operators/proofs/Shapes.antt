@@ -1,13 +1,16 @@
 -- Objects by the data that stand for them, and the kinds of arguments by one another.
 --     pair_at      a list with items is a pair
+--     no_symbol    what is no `Symbol` stands for no symbol
 --     name_by_parts, keyword_by_parts      designators of names, and keywords, by symbols and texts
-use Rattle.std.proofs.Common.{◌≡◌, ℕ, Bool, true, false, ◌&&◌, cond, List, [], ◌∷◌, not, is_some, Option, Some, None, bytes_eq, map, length, refl, sym, ap, ◌∙◌, ◌<◌, ◌-◌, ◌^◌, min, nat_lt, arith}
+use Rattle.std.proofs.Common.{◌≡◌, ◌≢◌, ℕ, Bool, true, false, ◌&&◌, cond, List, [], ◌∷◌, not, is_some, Option, Some, None, bytes_eq, map, length, refl, sym, ap, ◌∙◌, ◌<◌, ◌-◌, ◌^◌, min, nat_lt, arith}
 use Rattle.std.proofs.lemmas.Bool.Decides.{nat_tests}
 use Rattle.std.specs.Option.{option_map_or}
 use Rattle.lisp_object.specs.declared.datum.Datum
-use Rattle.lisp_object.specs.declared.datum.Datum.{Datum}
+use Rattle.lisp_object.specs.declared.datum.Datum.{Datum, roll-Datum, out-Datum, roll-out-Datum, fold-roll-Datum}
+use Rattle.lisp_object.specs.declared.datum.Datum.TheOpen.{Datum-F}
+use Rattle.lisp_object.specs.declared.datum.Datum.TheVariants.{rolls-Symbol, rolls-List}
 use Rattle.lisp_object.specs.Object.{Object, integer, rational, character, text, symbol, uninterned, pair, vector, nil, is_nil, pairs, is_proper_list}
-use Rattle.lisp_object.specs.Datum.{object_of, is_proper, is_list}
+use Rattle.lisp_object.specs.Datum.{object_of, object_step, is_proper, is_list}
 use Rattle.lisp_object.proofs.Objects.{object_of-List, object_of-dotted}
 use Rattle.std.specs.List.{list_all}
 use Rattle.std.proofs.lemmas.Bool.{false≢true, and_parts}
@@ -45,6 +48,24 @@ pair_of f r (a ∷ more) (Some end) some same = same (object_of a) (pairs (map o
 pub pair_at : {A : Type 0} (f : Object → A) (r : A) (d : Datum) (items : List Datum) (tail : Option Datum) → ((a b : Object) → r ≡ f (pair a b)) → d ≡ Datum.List items tail → is_proper d ≡ true → r ≡ f (object_of d)
 pair_at f r d items tail same is proper =
     pair_of f r items tail ((items_of_proper items tail (ap is_proper (sym is) ∙ proper)).0) same ∙ ap (λ x. f (object_of x)) (sym is)
+
+-- what is no `Symbol` stands for no symbol
+no_symbol-layer : (y : Datum-F Datum) → ((home name : List ℕ) → roll-Datum y ≡ Datum.Symbol home name → ⊥) → is_proper (roll-Datum y) ≡ true → None ≡ a_symbol (object_of (roll-Datum y))
+no_symbol-layer (Datum-F.Integer n) _ _ = sym (ap a_symbol (fold-roll-Datum Object object_step (Datum-F.Integer n)))
+no_symbol-layer (Datum-F.Rational r) _ _ = sym (ap a_symbol (fold-roll-Datum Object object_step (Datum-F.Rational r)))
+no_symbol-layer (Datum-F.Char c) _ _ = sym (ap a_symbol (fold-roll-Datum Object object_step (Datum-F.Char c)))
+no_symbol-layer (Datum-F.Text bytes) _ _ = sym (ap a_symbol (fold-roll-Datum Object object_step (Datum-F.Text bytes)))
+no_symbol-layer (Datum-F.Symbol home name) not_symbol _ = absurd (not_symbol home name (rolls-Symbol home name))
+no_symbol-layer (Datum-F.Uninterned name) _ _ = sym (ap a_symbol (fold-roll-Datum Object object_step (Datum-F.Uninterned name)))
+no_symbol-layer (Datum-F.List items tail) _ proper =
+    pair_at a_symbol None (roll-Datum (Datum-F.List items tail)) items tail (λ _ _. refl) (rolls-List items tail) proper
+no_symbol-layer (Datum-F.Vector items) _ _ = sym (ap a_symbol (fold-roll-Datum Object object_step (Datum-F.Vector items)))
+
+pub no_symbol : (d : Datum) → ((home name : List ℕ) → d ≢ Datum.Symbol home name) → is_proper d ≡ true → None ≡ a_symbol (object_of d)
+no_symbol d not_symbol proper =
+    let rolled : roll-Datum (out-Datum d) ≡ d = roll-out-Datum d in
+    no_symbol-layer (out-Datum d) (λ home name e. not_symbol home name (sym rolled ∙ e)) (ap is_proper rolled ∙ proper)
+    ∙ ap (λ x. a_symbol (object_of x)) rolled
 
 -- a count that is cut off at 2^64-1 passes the same tests
 pub depth_test : (d : ℕ) → nat_lt 100 (min d (2 ^ 64 - 1)) ≡ nat_lt 100 d

@@ -1,7 +1,6 @@
-use Rattle.std.proofs.Common.{None, refl}
-use Rattle.lisp_operators.specs.Kinds.{a_symbol}
-use Rattle.lisp_operators.proofs.Shapes.{pair_at}
+use Rattle.std.proofs.Common.{refl}
+use Rattle.lisp_operators.proofs.Shapes.{no_symbol}
 use Rattle.lisp_operators.proofs.properties.symbol.Goals as goal
 
-pub returns-in-List : goal.returns-in-List
-returns-in-List c = (refl, pair_at a_symbol None c.args.datum c.in-List.items c.in-List.tail (λ _ _. refl) c.in-List.is c.requires)
+pub returns-in-Err : goal.returns-in-Err
+returns-in-Err c = (refl, no_symbol c.args.datum c.in-Err.ensures.other c.requires)
