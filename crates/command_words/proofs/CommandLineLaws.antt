@@ -1,41 +1,30 @@
 -- What clap makes of the words of a command.
-use Rattle.std.proofs.Common.{if◌then◌else◌, ◌≡◌, ◌≢◌, ◌==◌, ◌∙◌, ◌⊎◌, ◌<◌, ◌≤◌, ◌++◌, ◌^◌, ◌-◌, ℕ, Bool, List, [], ◌∷◌, None, Some, option_and_then, codes, true, false, refl, rules, ap, sym, subst, inl, inr, arith}
+use Rattle.std.proofs.Common.{◌≡◌, ◌≢◌, ◌==◌, ◌∙◌, ◌⊎◌, ◌<◌, ◌≤◌, ◌++◌, ◌^◌, ◌-◌, ℕ, Bool, List, [], ◌∷◌, None, Some, option_and_then, codes, true, false, refl, rules, ap, sym, subst, inl, inr, arith}
 use Rattle.std.proofs.lemmas.Str.Parse.{digit_from_value}
 use Rattle.std.specs.Str.Parse.{IsNumeral, digits_value, without_leading_plus}
 use Rattle.clap.specs.ValueTests.{is_unsigned_in}
 use Rattle.clap.specs.declared.builder.value_parser.ValueParser.TheVariants.{Unsigned}
 use Rattle.clap.specs.Kinds.{Kinds, or_else}
-use Rattle.clap.specs.declared.builder.value_parser.Reading.TheVariants.{AsWritten}
-use Rattle.clap.specs.declared.parser.matches.ValueSource.{ValueSource}
-use Rattle.clap.specs.declared.parser.matches.ValueSource.TheVariants.{CommandLine, DefaultValue}
-use Rattle.clap.specs.Words.{IsAmong, Row, Text, fault_of, is_simple, is_simple_and_free, subcommand_of}
+use Rattle.clap.specs.declared.parser.matches.ValueSource.TheVariants.{CommandLine}
+use Rattle.clap.specs.Words.{IsAmong, Row, Text, fault_of, is_simple, is_simple_and_free}
 use Rattle.clap.specs.declared.error.kind.ErrorKind.{ErrorKind}
-use Rattle.clap.specs.declared.error.kind.ErrorKind.TheVariants.{MissingRequiredArgument, OutOfMemory, ValueValidation}
+use Rattle.clap.specs.declared.error.kind.ErrorKind.TheVariants.{MissingRequiredArgument, OutOfMemory}
 use Rattle.clap.proofs.OnLiterals.{clap_on_literals}
 use Rattle.clap.proofs.ValueTestLemmas.{Accepts-accepts}
 use Rattle.session_words.specs.declared.mode.Mode.{Mode}
-use Rattle.session_words.specs.declared.mode.Mode.TheVariants.{Current, Rescue}
 use Rattle.session_words.specs.declared.wanted.Wanted.{Wanted}
 use Rattle.session_words.specs.declared.content.Content.{Content}
-use Rattle.session_words.specs.declared.content.Content.TheVariants.{Data, World}
 use Rattle.command_words.specs.declared.words.Task.{Task}
 use Rattle.command_words.specs.declared.words.Report.TheVariants.{Dump, Verify}
 use Rattle.command_words.specs.declared.words.Task.TheVariants.{Export, Run, Snapshot, Tell, Upgrade}
-use Rattle.command_words.specs.CheckLine.{checking_line}
-use Rattle.command_words.specs.LookLine.{looking_line}
-use Rattle.command_words.specs.CommandLine.{AsksFor, IsLine, IsNumber, IsTaken, asked_in, asked_of, command_line, data_for, existing_for, faults_of, flag_for, given_number, group_for, missing_command, strict_for}
+use Rattle.clap.specs.Walk.{Rule}
+use Rattle.command_words.specs.CommandLine.{task_of, AsksFor, IsLine, IsNumber, IsTaken, asked_in, asked_of, command_line, data_for, existing_for, faults_of, flag_for, given_number, group_for, missing_command, strict_for}
+use Rattle.command_words.proofs.WordSteps.{command_is, command_of, faults_are, given, none_fails, rows_read, with_flag, Adds, HasCommand, WantsFolder}
+use Rattle.command_words.proofs.CommandSteps.{adds_bare, adds_content, adds_flags, adds_rescue_counting, asks_bare, asks_counting, asks_export, asks_run, bare_rules, bare_wants, counting, export_rows, export_rules, export_wants, has_dump, has_export, has_run, has_snapshot, has_upgrade, has_verify, most, option_id, option_word, rescue_rows, run_rows, run_rules, run_wants, wanted_is, wanting, with_defaults}
 
 pub simple_line : is_simple command_line ≡ true
 unfolding clap_on_literals
 simple_line = refl
-
-pub simple_looking_line : is_simple looking_line ≡ true
-unfolding clap_on_literals
-simple_looking_line = refl
-
-pub simple_checking_line : is_simple checking_line ≡ true
-unfolding clap_on_literals
-simple_checking_line = refl
 
 pub free_line : is_simple_and_free command_line ≡ true
 unfolding clap_on_literals
@@ -46,235 +35,42 @@ pub record IsRight (words : List Text) (folder : Text) (existing : Bool) (task :
   pub faultless : fault_of command_line words ≡ []
   pub asked : asked_in words ≡ Some (folder, existing, task)
 
--- what is wanted of a session
-abbrev wanting : Mode → ℕ → ℕ → Bool → Bool → Wanted
-wanting mode every ratio strict group = record { mode = mode; snapshot_every = every; snapshot_ratio = ratio; strict = strict; group = group }
+-- ---- words that are written out but for the program's name, the folder and the number
 
-wanted_is : (wanted : Wanted) (every ratio : ℕ) (strict group : Bool) → wanted.snapshot_every ≡ every → wanted.snapshot_ratio ≡ ratio → wanted.strict ≡ strict
-    → wanted.group ≡ group → wanted ≡ wanting wanted.mode every ratio strict group
-wanted_is wanted every ratio strict group every_is ratio_is same together = rw (← every_is, ← ratio_is, ← same, ← together) refl
-
--- the options on snapshots: which of the two
-abbrev option_word : Bool → Text
-option_word false = codes "--snapshot-every"
-option_word true = codes "--snapshot-ratio"
-
-abbrev option_id : Bool → Text
-option_id false = codes "snapshot-every"
-option_id true = codes "snapshot-ratio"
-
-abbrev most : Bool → ℕ
-most false = 1000000
-most true = 18446744073709551615
-
-abbrev counting : Bool → Mode → ℕ → Wanted
-counting false mode n = wanting mode n 0 false false
-counting true mode n = wanting mode 0 n false false
-
--- ---- what is found of a session
-
--- of an option, its value, from the words or by default
-abbrev pub given : Text → Text → ValueSource → Row
-given id value source = record { id = id; values = value ∷ []; count = None; source = Some source; reading = AsWritten }
-
--- of a flag, if it is there, and if it is not
-abbrev pub set_rows : Text → Bool → List Row
-set_rows id false = []
-set_rows id true = given id (codes "true") CommandLine ∷ []
-
-abbrev pub other_rows : Text → Bool → List Row
-other_rows id false = given id (codes "false") DefaultValue ∷ []
-other_rows id true = []
-
-abbrev is_rescue : Mode → Bool
-is_rescue Current = false
-is_rescue Rescue = true
-
--- of its folder and its flags, with these rows of a number
-abbrev run_rows : Text → Mode → Bool → Bool → Bool → List Row → List Row
-run_rows folder mode strict group existing number =
-    given (codes "DIR") folder CommandLine ∷ (set_rows (codes "rescue") (is_rescue mode) ++ (set_rows (codes "strict") strict
-    ++ (set_rows (codes "group") group ++ (set_rows (codes "existing") existing ++ (number ++ (other_rows (codes "existing") existing
-    ++ (other_rows (codes "rescue") (is_rescue mode) ++ (other_rows (codes "strict") strict ++ (other_rows (codes "group") group
-    ++ other_rows (codes "quiet") false)))))))))
-
-asked_of_rows : (folder : Text) (mode : Mode) (strict group existing : Bool)
-    → asked_of (codes "run", run_rows folder mode strict group existing []) ≡ Some (folder, existing, Run (wanting mode 0 0 strict group))
-asked_of_rows folder Current false false false = refl
-asked_of_rows folder Current false false true = refl
-asked_of_rows folder Current false true false = refl
-asked_of_rows folder Current false true true = refl
-asked_of_rows folder Current true false false = refl
-asked_of_rows folder Current true false true = refl
-asked_of_rows folder Current true true false = refl
-asked_of_rows folder Current true true true = refl
-asked_of_rows folder Rescue false false false = refl
-asked_of_rows folder Rescue false false true = refl
-asked_of_rows folder Rescue false true false = refl
-asked_of_rows folder Rescue false true true = refl
-asked_of_rows folder Rescue true false false = refl
-asked_of_rows folder Rescue true false true = refl
-asked_of_rows folder Rescue true true false = refl
-asked_of_rows folder Rescue true true true = refl
-
-asked_of_number : (ratio : Bool) (folder number : Text) (mode : Mode)
-    → asked_of (codes "run", run_rows folder mode false false false (given (option_id ratio) number CommandLine ∷ []))
-    ≡ Some (folder, false, Run (counting ratio mode (given_number (Some number))))
-asked_of_number false folder number Current = refl
-asked_of_number false folder number Rescue = refl
-asked_of_number true folder number Current = refl
-asked_of_number true folder number Rescue = refl
-
--- words that are written out but for the program's name, the folder and the number
 module _ (program : Text) (x : ℕ) (xs : Text) (e : (x == 45) ≡ false) where
-  right_snapshot_any : IsRight (program ∷ codes "snapshot" ∷ (x ∷ xs) ∷ []) (x ∷ xs) false Snapshot
-  unfolding clap_on_literals
-  right_snapshot_any = record { faultless = simp e; asked = simp e }
+  right_words : (name : Text) (rules : List Rule) (words : List Text) (rows : List Row) (existing : Bool) (task : Task) → HasCommand command_line name (command_of name rules)
+      → WantsFolder rules → Adds name rules (x ∷ xs) [] words rows → asked_of (name, with_defaults (x ∷ xs) rows rules) ≡ Some (x ∷ xs, existing, task)
+      → IsRight (program ∷ name ∷ (x ∷ xs) ∷ words) (x ∷ xs) existing task
+  right_words name rules words rows existing task has wants adds asks = record {
+    faultless = faults_are command_line name (command_of name rules) has program ((x ∷ xs) ∷ words) ∙ none_fails name rules wants x xs e words rows adds;
+    asked = ap (option_and_then asked_of) (command_is command_line name (command_of name rules) has program ((x ∷ xs) ∷ words)
+        ∙ ap (λ read. Some read) (rows_read name rules wants x xs e words rows adds)) ∙ asks;
+  }
 
-  right_snapshot_existing : IsRight (program ∷ codes "snapshot" ∷ (x ∷ xs) ∷ codes "--existing" ∷ []) (x ∷ xs) true Snapshot
-  unfolding clap_on_literals
-  right_snapshot_existing = record { faultless = simp e; asked = simp e }
+  right_bare : (name : Text) (task : Task) → HasCommand command_line name (command_of name bare_rules) → ((rows : List Row) → task_of (name, rows) ≡ Some task) → (existing : Bool)
+      → IsRight (program ∷ name ∷ (x ∷ xs) ∷ existing_for existing) (x ∷ xs) existing task
+  right_bare name task has is existing =
+      right_words name bare_rules (existing_for existing) (with_flag (codes "existing") existing []) existing task has bare_wants (adds_bare (x ∷ xs) name existing)
+      (asks_bare name (x ∷ xs) task is existing)
 
-  right_snapshot : (existing : Bool) → IsRight (program ∷ codes "snapshot" ∷ (x ∷ xs) ∷ existing_for existing) (x ∷ xs) existing Snapshot
-  right_snapshot false = right_snapshot_any
-  right_snapshot true = right_snapshot_existing
-
-  right_upgrade_any : IsRight (program ∷ codes "upgrade" ∷ (x ∷ xs) ∷ []) (x ∷ xs) false Upgrade
-  unfolding clap_on_literals
-  right_upgrade_any = record { faultless = simp e; asked = simp e }
-
-  right_upgrade_existing : IsRight (program ∷ codes "upgrade" ∷ (x ∷ xs) ∷ codes "--existing" ∷ []) (x ∷ xs) true Upgrade
-  unfolding clap_on_literals
-  right_upgrade_existing = record { faultless = simp e; asked = simp e }
-
-  right_upgrade : (existing : Bool) → IsRight (program ∷ codes "upgrade" ∷ (x ∷ xs) ∷ existing_for existing) (x ∷ xs) existing Upgrade
-  right_upgrade false = right_upgrade_any
-  right_upgrade true = right_upgrade_existing
-
-  right_export_any : IsRight (program ∷ codes "export" ∷ (x ∷ xs) ∷ []) (x ∷ xs) false (Export World)
-  unfolding clap_on_literals
-  right_export_any = record { faultless = simp e; asked = simp e }
-
-  right_export_existing : IsRight (program ∷ codes "export" ∷ (x ∷ xs) ∷ codes "--existing" ∷ []) (x ∷ xs) true (Export World)
-  unfolding clap_on_literals
-  right_export_existing = record { faultless = simp e; asked = simp e }
-
-  right_data_any : IsRight (program ∷ codes "export" ∷ (x ∷ xs) ∷ codes "--data" ∷ []) (x ∷ xs) false (Export Data)
-  unfolding clap_on_literals
-  right_data_any = record { faultless = simp e; asked = simp e }
-
-  right_data_existing : IsRight (program ∷ codes "export" ∷ (x ∷ xs) ∷ codes "--data" ∷ codes "--existing" ∷ []) (x ∷ xs) true (Export Data)
-  unfolding clap_on_literals
-  right_data_existing = record { faultless = simp e; asked = simp e }
-
-  right_content : (content : Content) (existing : Bool)
+  right_export : (content : Content) (existing : Bool)
       → IsRight (program ∷ codes "export" ∷ (x ∷ xs) ∷ (data_for content ++ existing_for existing)) (x ∷ xs) existing (Export content)
-  right_content World false = right_export_any
-  right_content World true = right_export_existing
-  right_content Data false = right_data_any
-  right_content Data true = right_data_existing
-
-  right_dump_any : IsRight (program ∷ codes "dump" ∷ (x ∷ xs) ∷ []) (x ∷ xs) false (Tell Dump)
-  unfolding clap_on_literals
-  right_dump_any = record { faultless = simp e; asked = simp e }
-
-  right_dump_existing : IsRight (program ∷ codes "dump" ∷ (x ∷ xs) ∷ codes "--existing" ∷ []) (x ∷ xs) true (Tell Dump)
-  unfolding clap_on_literals
-  right_dump_existing = record { faultless = simp e; asked = simp e }
-
-  right_dump : (existing : Bool) → IsRight (program ∷ codes "dump" ∷ (x ∷ xs) ∷ existing_for existing) (x ∷ xs) existing (Tell Dump)
-  right_dump false = right_dump_any
-  right_dump true = right_dump_existing
-
-  right_verify_any : IsRight (program ∷ codes "verify" ∷ (x ∷ xs) ∷ []) (x ∷ xs) false (Tell Verify)
-  unfolding clap_on_literals
-  right_verify_any = record { faultless = simp e; asked = simp e }
-
-  right_verify_existing : IsRight (program ∷ codes "verify" ∷ (x ∷ xs) ∷ codes "--existing" ∷ []) (x ∷ xs) true (Tell Verify)
-  unfolding clap_on_literals
-  right_verify_existing = record { faultless = simp e; asked = simp e }
-
-  right_verify : (existing : Bool) → IsRight (program ∷ codes "verify" ∷ (x ∷ xs) ∷ existing_for existing) (x ∷ xs) existing (Tell Verify)
-  right_verify false = right_verify_any
-  right_verify true = right_verify_existing
-
-  run_faultless : (mode : Mode) (strict group existing : Bool)
-      → fault_of command_line (program ∷ codes "run" ∷ (x ∷ xs) ∷ (flag_for mode ++ (strict_for strict ++ (group_for group ++ existing_for existing)))) ≡ []
-  unfolding clap_on_literals
-  run_faultless Current false false false = rw e (rw e refl)
-  run_faultless Current false false true = rw e (rw e refl)
-  run_faultless Current false true false = rw e (rw e refl)
-  run_faultless Current false true true = rw e (rw e refl)
-  run_faultless Current true false false = rw e (rw e refl)
-  run_faultless Current true false true = rw e (rw e refl)
-  run_faultless Current true true false = rw e (rw e refl)
-  run_faultless Current true true true = rw e (rw e refl)
-  run_faultless Rescue false false false = rw e (rw e refl)
-  run_faultless Rescue false false true = rw e (rw e refl)
-  run_faultless Rescue false true false = rw e (rw e refl)
-  run_faultless Rescue false true true = rw e (rw e refl)
-  run_faultless Rescue true false false = rw e (rw e refl)
-  run_faultless Rescue true false true = rw e (rw e refl)
-  run_faultless Rescue true true false = rw e (rw e refl)
-  run_faultless Rescue true true true = rw e (rw e refl)
-
-  run_found : (mode : Mode) (strict group existing : Bool)
-      → subcommand_of command_line (program ∷ codes "run" ∷ (x ∷ xs) ∷ (flag_for mode ++ (strict_for strict ++ (group_for group ++ existing_for existing))))
-      ≡ Some (codes "run", run_rows (x ∷ xs) mode strict group existing [])
-  unfolding clap_on_literals
-  run_found Current false false false = simp e
-  run_found Current false false true = rw e (rw e refl)
-  run_found Current false true false = rw e (rw e refl)
-  run_found Current false true true = rw e (rw e refl)
-  run_found Current true false false = rw e (rw e refl)
-  run_found Current true false true = rw e (rw e refl)
-  run_found Current true true false = rw e (rw e refl)
-  run_found Current true true true = rw e (rw e refl)
-  run_found Rescue false false false = rw e (rw e refl)
-  run_found Rescue false false true = rw e (rw e refl)
-  run_found Rescue false true false = rw e (rw e refl)
-  run_found Rescue false true true = rw e (rw e refl)
-  run_found Rescue true false false = rw e (rw e refl)
-  run_found Rescue true false true = rw e (rw e refl)
-  run_found Rescue true true false = rw e (rw e refl)
-  run_found Rescue true true true = rw e (rw e refl)
+  right_export content existing =
+      right_words (codes "export") export_rules (data_for content ++ existing_for existing) (export_rows content existing) existing (Export content) has_export export_wants
+      (adds_content (x ∷ xs) content existing) (asks_export (x ∷ xs) content existing)
 
   right_run : (mode : Mode) (strict group existing : Bool)
       → IsRight (program ∷ codes "run" ∷ (x ∷ xs) ∷ (flag_for mode ++ (strict_for strict ++ (group_for group ++ existing_for existing)))) (x ∷ xs) existing (Run (wanting mode 0 0 strict group))
-  right_run mode strict group existing = record {
-    faultless = run_faultless mode strict group existing;
-    asked = ap (option_and_then asked_of) (run_found mode strict group existing) ∙ asked_of_rows (x ∷ xs) mode strict group existing;
-  }
-
-  -- what is left of the next one: the number passes
-  left_kinds : (most : ℕ) (number : Text) → is_unsigned_in 1 most number ≡ true
-      → or_else (or_else (or_else (if is_unsigned_in 1 most number then [] else (ValueValidation ∷ [])) []) []) [] ≡ []
-  left_kinds most number passes = rw passes refl
-
-  number_faultless : (ratio : Bool) (y : ℕ) (ys : Text) → (y == 45) ≡ false → is_unsigned_in 1 (most ratio) (y ∷ ys) ≡ true → (mode : Mode)
-      → fault_of command_line (program ∷ codes "run" ∷ (x ∷ xs) ∷ (flag_for mode ++ option_word ratio ∷ (y ∷ ys) ∷ [])) ≡ []
-  unfolding clap_on_literals
-  number_faultless false y ys d passes Current = simp e (rw (d, d) (left_kinds (most false) (y ∷ ys) passes))
-  number_faultless false y ys d passes Rescue = simp e (rw (d, d) (left_kinds (most false) (y ∷ ys) passes))
-  number_faultless true y ys d passes Current = simp e (rw (d, d) (left_kinds (most true) (y ∷ ys) passes))
-  number_faultless true y ys d passes Rescue = simp e (rw (d, d) (left_kinds (most true) (y ∷ ys) passes))
-
-  number_found : (ratio : Bool) (y : ℕ) (ys : Text) → (y == 45) ≡ false → (mode : Mode)
-      → subcommand_of command_line (program ∷ codes "run" ∷ (x ∷ xs) ∷ (flag_for mode ++ option_word ratio ∷ (y ∷ ys) ∷ []))
-      ≡ Some (codes "run", run_rows (x ∷ xs) mode false false false (given (option_id ratio) (y ∷ ys) CommandLine ∷ []))
-  unfolding clap_on_literals
-  number_found false y ys d Current = simp e (rw (d, d) refl)
-  number_found false y ys d Rescue = simp e (rw (d, d) refl)
-  number_found true y ys d Current = simp e (rw (d, d) refl)
-  number_found true y ys d Rescue = simp e (rw (d, d) refl)
+  right_run mode strict group existing =
+      right_words (codes "run") run_rules (flag_for mode ++ (strict_for strict ++ (group_for group ++ existing_for existing))) (run_rows mode strict group existing) existing
+      (Run (wanting mode 0 0 strict group)) has_run run_wants (adds_flags (x ∷ xs) mode strict group existing) (asks_run (x ∷ xs) mode strict group existing)
 
   right_counting : (ratio : Bool) (y : ℕ) (ys : Text) → (y == 45) ≡ false → is_unsigned_in 1 (most ratio) (y ∷ ys) ≡ true → (mode : Mode)
       → IsRight (program ∷ codes "run" ∷ (x ∷ xs) ∷ (flag_for mode ++ option_word ratio ∷ (y ∷ ys) ∷ [])) (x ∷ xs) false
       (Run (counting ratio mode (given_number (Some (y ∷ ys)))))
-  right_counting ratio y ys d passes mode = record {
-    faultless = number_faultless ratio y ys d passes mode;
-    asked = ap (option_and_then asked_of) (number_found ratio y ys d mode) ∙ asked_of_number ratio (x ∷ xs) (y ∷ ys) mode;
-  }
+  right_counting ratio y ys d passes mode =
+      right_words (codes "run") run_rules (flag_for mode ++ option_word ratio ∷ (y ∷ ys) ∷ []) (rescue_rows mode ++ given (option_id ratio) (y ∷ ys) CommandLine ∷ []) false
+      (Run (counting ratio mode (given_number (Some (y ∷ ys))))) has_run run_wants (adds_rescue_counting (x ∷ xs) ratio y ys d passes mode) (asks_counting ratio (x ∷ xs) (y ∷ ys) mode)
 
 pub differs : (x y : ℕ) → x ≢ y → (x == y) ≡ false
 differs x y apart = search rules
@@ -313,11 +109,11 @@ module _ (program : Text) (x : ℕ) (xs : Text) (e : (x == 45) ≡ false) where
       (right_counting program x xs e ratio y ys (differs y 45 (no_hyphen y ys numeral)) (in_range y ys numeral 1 (most ratio) n is above below (fits ratio n below)) mode)
 
   right_plain : (line : List Text) (existing : Bool) (task : Task) → IsLine line (x ∷ xs) existing task → IsRight (program ∷ line) (x ∷ xs) existing task
-  right_plain line existing Snapshot is = rw is (right_snapshot program x xs e existing)
-  right_plain line existing Upgrade is = rw is (right_upgrade program x xs e existing)
-  right_plain line existing (Export content) is = rw is (right_content program x xs e content existing)
-  right_plain line existing (Tell Dump) is = rw is (right_dump program x xs e existing)
-  right_plain line existing (Tell Verify) is = rw is (right_verify program x xs e existing)
+  right_plain line existing Snapshot is = rw is (right_bare program x xs e (codes "snapshot") Snapshot has_snapshot (λ rows. refl) existing)
+  right_plain line existing Upgrade is = rw is (right_bare program x xs e (codes "upgrade") Upgrade has_upgrade (λ rows. refl) existing)
+  right_plain line existing (Export content) is = rw is (right_export program x xs e content existing)
+  right_plain line existing (Tell Dump) is = rw is (right_bare program x xs e (codes "dump") (Tell Dump) has_dump (λ rows. refl) existing)
+  right_plain line existing (Tell Verify) is = rw is (right_bare program x xs e (codes "verify") (Tell Verify) has_verify (λ rows. refl) existing)
   right_plain line false (Run wanted) (inl ((none, no_ratio), line_is)) =
       rw line_is (subst (λ (w : Wanted). IsRight (program ∷ codes "run" ∷ (x ∷ xs) ∷ (flag_for wanted.mode ++ (strict_for wanted.strict ++ (group_for wanted.group ++ [])))) (x ∷ xs) false (Run w))
       (sym (wanted_is wanted 0 0 wanted.strict wanted.group none no_ratio refl refl)) (right_run program x xs e wanted.mode wanted.strict wanted.group false))

@@ -1,18 +1,21 @@
 -- What clap makes of the words of a session of messages.
-use Rattle.std.proofs.Common.{if◌then◌else◌, ◌≡◌, ◌==◌, ◌∙◌, ◌⊎◌, ◌<◌, ◌^◌, ℕ, Bool, List, [], ◌∷◌, Option, None, Some, option_and_then, option_map, codes, true, false, refl, ap, sym, subst, inl, inr, arith}
+use Rattle.std.proofs.Common.{◌≡◌, ◌==◌, ◌∙◌, ◌⊎◌, ◌<◌, ◌^◌, ℕ, Bool, List, [], ◌∷◌, Option, None, Some, option_and_then, option_map, codes, true, false, refl, ap, sym, subst, inl, inr, arith}
 use Rattle.clap.specs.Kinds.{Kinds, or_else}
 use Rattle.clap.specs.ValueTests.{is_unsigned_in}
-use Rattle.clap.specs.Words.{IsAmong, Row, Text, fault_of, first_value, is_simple, is_simple_and_free, rows_of, subcommand_of}
+use Rattle.clap.specs.Words.{IsAmong, Row, Text, fault_of, first_value, is_simple, is_simple_and_free, rows_of}
 use Rattle.clap.specs.declared.error.kind.ErrorKind.{ErrorKind}
-use Rattle.clap.specs.declared.error.kind.ErrorKind.TheVariants.{MissingRequiredArgument, OutOfMemory, ValueValidation}
+use Rattle.clap.specs.declared.error.kind.ErrorKind.TheVariants.{MissingRequiredArgument, OutOfMemory}
 use Rattle.clap.specs.declared.parser.matches.Found.{Found}
 use Rattle.clap.specs.declared.parser.matches.ValueSource.TheVariants.{CommandLine}
 use Rattle.clap.proofs.OnLiterals.{clap_on_literals}
 use Rattle.clap.proofs.WalkLemmas.{first_value-rows}
 use Rattle.command_words.specs.CommandLine.{IsNumber, existing_for, given_number, number_in}
-use Rattle.command_words.specs.MessageLine.{AsksForMessages, IsMessageLine, Messages, message_faults, messages_in, messages_line, messages_of, missing_folder}
+use Rattle.command_words.specs.MessageLine.{AsksForMessages, IsMessageLine, Messages, message_faults, message_line, messages_in, messages_line, messages_of, missing_folder}
 use Rattle.command_words.specs.Rules.{is_set}
-use Rattle.command_words.proofs.CommandLineLaws.{among_first, differs, given, in_range, no_hyphen, number_is, other_rows, set_rows}
+use Rattle.command_words.proofs.CommandLineLaws.{among_first, differs, in_range, no_hyphen, number_is}
+use Rattle.command_words.proofs.CommandSteps.{adds_existing, is_number, with_defaults}
+use Rattle.command_words.proofs.WordSteps.{adds_both, adds_flag_if, adds_number, built_rules, command_is, command_of, faults_are, given, none_fails, rows_read, with_flag, Adds, HasCommand, IsOptionName, WantsFolder}
+use Rattle.clap.specs.Walk.{Rule}
 
 pub simple_messages_line : is_simple messages_line ≡ true
 unfolding clap_on_literals
@@ -27,61 +30,80 @@ pub record IsRight (words : List Text) (folder : Text) (existing : Bool) (every 
   pub faultless : fault_of messages_line words ≡ []
   pub asked : messages_in words ≡ Some (folder, existing, every)
 
--- what is found of a folder, with these rows more
-abbrev found_rows : Text → List Row → List Row
-found_rows folder more = given (codes "DIR") folder CommandLine ∷ given (codes "messages") (codes "true") CommandLine ∷ more
+-- the rules of the command, as they are built
+message_rules : List Rule
+message_rules = built_rules message_line
 
-messages_of_number : (folder number : Text)
-    → messages_of (codes "run", found_rows folder (given (codes "snapshot-every") number CommandLine ∷ other_rows (codes "existing") false)) ≡ Some (folder, false, given_number (Some number))
-messages_of_number folder number = refl
+message_wants : WantsFolder message_rules
+unfolding message_rules
+message_wants = record { first = refl; named = refl; defaults = refl; wanted = λ folder rows. refl }
 
-messages_of_existing : (folder : Text) → messages_of (codes "run", found_rows folder (set_rows (codes "existing") true)) ≡ Some (folder, true, 0)
-messages_of_existing folder = refl
+has_messages : HasCommand messages_line (codes "run") (command_of (codes "run") message_rules)
+unfolding message_rules clap_on_literals
+has_messages = record { begins = refl; met = refl; found = refl; is_no_help = refl; faultless = refl }
+
+is_messages : IsOptionName (codes "messages")
+is_messages = record { other = refl; word = refl; goes_on = refl; same = refl }
+
+-- what is found of it after the folder, with these rows more
+abbrev message_rows : List Row → List Row
+message_rows more = given (codes "messages") (codes "true") CommandLine ∷ more
+
+module _ (folder : Text) where
+  adds_messages : Adds (codes "run") message_rules folder [] (codes "--messages" ∷ []) (message_rows [])
+  unfolding message_rules
+  adds_messages = adds_flag_if (codes "run") message_rules folder (codes "messages") is_messages [] refl refl true
+
+  adds_more : (words : List Text) (rows : List Row) → Adds (codes "run") message_rules folder (message_rows []) words rows
+      → Adds (codes "run") message_rules folder [] (codes "--messages" ∷ words) rows
+  adds_more words rows more = adds_both (codes "run") message_rules folder [] (message_rows []) rows (codes "--messages" ∷ []) words adds_messages more
+
+  adds_existing_more : (existing : Bool) → Adds (codes "run") message_rules folder [] (codes "--messages" ∷ existing_for existing) (with_flag (codes "existing") existing (message_rows []))
+  unfolding message_rules
+  adds_existing_more existing =
+      adds_more (existing_for existing) (with_flag (codes "existing") existing (message_rows []))
+      (adds_existing (codes "run") message_rules folder (message_rows []) refl refl existing)
+
+  adds_counting : (y : ℕ) (ys : Text) → (y == 45) ≡ false → is_unsigned_in 1 1000000 (y ∷ ys) ≡ true
+      → Adds (codes "run") message_rules folder [] (codes "--messages" ∷ codes "--snapshot-every" ∷ (y ∷ ys) ∷ []) (message_rows (given (codes "snapshot-every") (y ∷ ys) CommandLine ∷ []))
+  unfolding message_rules
+  adds_counting y ys d passes =
+      adds_more (codes "--snapshot-every" ∷ (y ∷ ys) ∷ []) (message_rows (given (codes "snapshot-every") (y ∷ ys) CommandLine ∷ []))
+      (adds_number (codes "run") message_rules folder (codes "snapshot-every") (is_number false) (message_rows []) refl 1000000 refl refl y ys d passes)
+
+asks_number : (folder number : Text)
+    → messages_of (codes "run", with_defaults folder (message_rows (given (codes "snapshot-every") number CommandLine ∷ [])) message_rules) ≡ Some (folder, false, given_number (Some number))
+unfolding message_rules
+asks_number folder number = refl
+
+asks_existing : (folder : Text) (existing : Bool)
+    → messages_of (codes "run", with_defaults folder (with_flag (codes "existing") existing (message_rows [])) message_rules) ≡ Some (folder, existing, 0)
+unfolding message_rules
+asks_existing folder false = refl
+asks_existing folder true = refl
 
 -- words that are written out but for the program's name, the folder and the number
 module _ (program : Text) (x : ℕ) (xs : Text) (e : (x == 45) ≡ false) where
-  right_any : IsRight (program ∷ codes "run" ∷ (x ∷ xs) ∷ codes "--messages" ∷ []) (x ∷ xs) false 0
-  unfolding clap_on_literals
-  right_any = record { faultless = simp e; asked = simp e }
-
-  existing_faultless : fault_of messages_line (program ∷ codes "run" ∷ (x ∷ xs) ∷ codes "--messages" ∷ codes "--existing" ∷ []) ≡ []
-  unfolding clap_on_literals
-  existing_faultless = rw e (rw e refl)
-
-  existing_found : subcommand_of messages_line (program ∷ codes "run" ∷ (x ∷ xs) ∷ codes "--messages" ∷ codes "--existing" ∷ [])
-      ≡ Some (codes "run", found_rows (x ∷ xs) (set_rows (codes "existing") true))
-  unfolding clap_on_literals
-  existing_found = rw e (rw e refl)
-
-  right_plain : (existing : Bool) → IsRight (program ∷ codes "run" ∷ (x ∷ xs) ∷ codes "--messages" ∷ existing_for existing) (x ∷ xs) existing 0
-  right_plain false = right_any
-  right_plain true = record {
-    faultless = existing_faultless;
-    asked = ap (option_and_then messages_of) existing_found ∙ messages_of_existing (x ∷ xs);
+  right_with : (words : List Text) (rows : List Row) (existing : Bool) (every : ℕ) → Adds (codes "run") message_rules (x ∷ xs) [] words rows
+      → messages_of (codes "run", with_defaults (x ∷ xs) rows message_rules) ≡ Some (x ∷ xs, existing, every)
+      → IsRight (program ∷ codes "run" ∷ (x ∷ xs) ∷ words) (x ∷ xs) existing every
+  right_with words rows existing every adds asks = record {
+    faultless = faults_are messages_line (codes "run") (command_of (codes "run") message_rules) has_messages program ((x ∷ xs) ∷ words)
+        ∙ none_fails (codes "run") message_rules message_wants x xs e words rows adds;
+    asked = ap (option_and_then messages_of) (command_is messages_line (codes "run") (command_of (codes "run") message_rules) has_messages program ((x ∷ xs) ∷ words)
+        ∙ ap (λ read. Some read) (rows_read (codes "run") message_rules message_wants x xs e words rows adds)) ∙ asks;
   }
 
-  -- what is left of the next one: the number passes
-  left_kinds : (number : Text) → is_unsigned_in 1 1000000 number ≡ true
-      → or_else (or_else (or_else (if is_unsigned_in 1 1000000 number then [] else (ValueValidation ∷ [])) []) []) [] ≡ []
-  left_kinds number passes = rw passes refl
-
-  number_faultless : (y : ℕ) (ys : Text) → (y == 45) ≡ false → is_unsigned_in 1 1000000 (y ∷ ys) ≡ true
-      → fault_of messages_line (program ∷ codes "run" ∷ (x ∷ xs) ∷ codes "--messages" ∷ codes "--snapshot-every" ∷ (y ∷ ys) ∷ []) ≡ []
-  unfolding clap_on_literals
-  number_faultless y ys d passes = simp e (rw (d, d) (left_kinds (y ∷ ys) passes))
-
-  number_found : (y : ℕ) (ys : Text) → (y == 45) ≡ false
-      → subcommand_of messages_line (program ∷ codes "run" ∷ (x ∷ xs) ∷ codes "--messages" ∷ codes "--snapshot-every" ∷ (y ∷ ys) ∷ [])
-      ≡ Some (codes "run", found_rows (x ∷ xs) (given (codes "snapshot-every") (y ∷ ys) CommandLine ∷ other_rows (codes "existing") false))
-  unfolding clap_on_literals
-  number_found y ys d = simp e (rw (d, d) refl)
+  right_plain : (existing : Bool) → IsRight (program ∷ codes "run" ∷ (x ∷ xs) ∷ codes "--messages" ∷ existing_for existing) (x ∷ xs) existing 0
+  right_plain existing =
+      right_with (codes "--messages" ∷ existing_for existing) (with_flag (codes "existing") existing (message_rows [])) existing 0 (adds_existing_more (x ∷ xs) existing)
+      (asks_existing (x ∷ xs) existing)
 
   right_counting : (y : ℕ) (ys : Text) → (y == 45) ≡ false → is_unsigned_in 1 1000000 (y ∷ ys) ≡ true
       → IsRight (program ∷ codes "run" ∷ (x ∷ xs) ∷ codes "--messages" ∷ codes "--snapshot-every" ∷ (y ∷ ys) ∷ []) (x ∷ xs) false (given_number (Some (y ∷ ys)))
-  right_counting y ys d passes = record {
-    faultless = number_faultless y ys d passes;
-    asked = ap (option_and_then messages_of) (number_found y ys d) ∙ messages_of_number (x ∷ xs) (y ∷ ys);
-  }
+  right_counting y ys d passes =
+      right_with (codes "--messages" ∷ codes "--snapshot-every" ∷ (y ∷ ys) ∷ []) (message_rows (given (codes "snapshot-every") (y ∷ ys) CommandLine ∷ [])) false
+      (given_number (Some (y ∷ ys))) (adds_counting (x ∷ xs) y ys d passes) (asks_number (x ∷ xs) (y ∷ ys))
 
   right_number : (number : Text) (every : ℕ) → IsNumber 1000000 every number
       → IsRight (program ∷ codes "run" ∷ (x ∷ xs) ∷ codes "--messages" ∷ codes "--snapshot-every" ∷ number ∷ []) (x ∷ xs) false every

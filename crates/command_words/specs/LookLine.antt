@@ -16,10 +16,12 @@ use Rattle.command_words.specs.declared.looks.Shown.{Shown}
 
 -- ---- the commands
 
+-- with two of its options
+abbrev pub rows_line : App
+rows_line = with_rule (with_rule (folder_line (codes "show")) (option_rule (codes "package"))) (option_rule (codes "indicator"))
+
 abbrev pub show_line : App
-show_line =
-    with_rule (with_rule (with_rule (with_rule (folder_line (codes "show")) (option_rule (codes "package"))) (option_rule (codes "indicator")))
-    (option_rule (codes "like"))) (flag_rule (codes "forms"))
+show_line = with_rule (with_rule rows_line (option_rule (codes "like"))) (flag_rule (codes "forms"))
 
 abbrev pub log_line : App
 log_line = with_rule (with_rule (folder_line (codes "log")) (option_rule (codes "from"))) (flag_rule (codes "places"))

@@ -1,12 +1,12 @@
 // The words of the command that looks for forms which cannot be read: `check [FILE] [--store DIR]`.
 ghost use Rattle.std.specs.Prelude.{◌≡◌, codes, false, map, option_map, IfOk, IfSome, Some};
-ghost use Rattle.clap.specs.Words.{app_of, first_of, found_of, rows_of, subcommand_rows_of};
+ghost use Rattle.clap.specs.Words.{app_of, first_of, found_of, rows_of, rule_of, subcommand_rows_of};
 ghost use Rattle.clap.specs.declared.builder.command.Command.TheViews.{out-Command as fields_of};
-ghost use Rattle.command_words.specs.CheckLine.{check_line, checking_line, file_given, AsksToCheck, Finds};
+ghost use Rattle.command_words.specs.CheckLine.{check_line, checking_line, file_given, file_rule, AsksToCheck, Finds};
 
 use crate::help::{CHECK_HELP, CHECK_USAGE};
 use crate::look_lines::bare_command;
-use crate::rules::option;
+use crate::rules::{Help, new_command, with_arg, with_option};
 use clap::error::ErrorKind;
 use clap::{Arg, ArgAction, ArgMatches, Command, Error};
 use std::alloc::{AllocError, Global};
@@ -35,11 +35,21 @@ pub struct Check<'a> {
 pub fn checked_in<'a, S: AsStr>(alloc: Global, words: &'a [S]) -> Result<Check<'a>, Error>
     ensures { IfOk result (AsksToCheck (map S.text words.entry.now)) }
 {
-    let mut command = checking_command(alloc)?;
-    match command.try_get_matches_from_mut(words) {
+    match checking_command(alloc) {
+        Ok(mut line) => checked_by_line(&mut line, words),
+        Err(memory) => Err(Error::from(memory)),
+    }
+}
+
+// The same by the line of this command.
+fn checked_by_line<'a, S: AsStr>(line: &mut Command<'a>, words: &'a [S]) -> Result<Check<'a>, Error>
+    requires { app_of line.old ≡ checking_line }
+    ensures { IfOk result (AsksToCheck (map S.text words.entry.now)) }
+{
+    match line.try_get_matches_from_mut(words) {
         Ok(matches) => match check_by(&matches) {
             Some(check) => Ok(check),
-            None => Err(nothing_asked(&mut command)),
+            None => Err(nothing_asked(line)),
         },
         Err(error) => Err(error),
     }
@@ -84,16 +94,22 @@ fn check_command<'a>(alloc: Global) -> Result<Command<'a>, AllocError>
     ensures line { IfOk result (λ command. app_of command ≡ check_line) }
     ensures local { IfOk result (λ command. (fields_of command).has_globals ≡ false) }
 {
-    let file = Arg::new(alloc, FILE)
-        .help("The file; without it, or for -, standard input")
-        .action(ArgAction::Set);
-    let command = Command::new(alloc, CHECK)
-        .about("Tells which forms of a file cannot be read")
-        .override_usage(CHECK_USAGE)
-        .after_help(CHECK_HELP)
-        .arg(file)?;
+    let help = Help {
+        about: "Tells which forms of a file cannot be read",
+        usage: CHECK_USAGE,
+        end: CHECK_HELP,
+    };
+    let command = with_arg(new_command(alloc, CHECK, help), file_place(alloc))?;
     let help = "Read under the packages and the readtable of this store";
-    command.arg(option(alloc, STORE, "DIR", help))
+    with_option(command, alloc, STORE, "DIR", help)
+}
+
+fn file_place<'a>(alloc: Global) -> Arg<'a>
+    ensures { (rule_of result ≡ file_rule) × (result.global ≡ false) }
+{
+    Arg::new(alloc, FILE)
+        .help("The file; without it, or for -, standard input")
+        .action(ArgAction::Set)
 }
 
 // The program with this command alone.

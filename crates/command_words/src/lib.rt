@@ -11,6 +11,10 @@
 //!
 //! - proofs/CommandLineLaws.antt, proofs/FoundWords.antt: what clap makes of the words, and from its getters to
 //!   what they ask for.
+//!
+//! proofs/WordSteps.antt goes over the words of a command one after the other: a flag, or an option with its number, takes the walk of
+//! clap from the rows that were found to those with its own. proofs/CommandSteps.antt has each command's words so. A new option is a step
+//! more there, and clap's parser is never evaluated over whole lines.
 #![tactic(auto)]
 
 mod check;

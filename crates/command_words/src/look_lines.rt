@@ -2,7 +2,7 @@
 ghost use Rattle.std.specs.Prelude.{◌≡◌, false, IfOk};
 ghost use Rattle.clap.specs.Words.{app_of};
 ghost use Rattle.clap.specs.declared.builder.command.Command.TheViews.{out-Command as fields_of};
-ghost use Rattle.command_words.specs.LookLine.{backup_line, dump_line, log_line, looking_line, show_line, telling_line};
+ghost use Rattle.command_words.specs.LookLine.{backup_line, dump_line, log_line, looking_line, rows_line, show_line, telling_line};
 ghost use Rattle.command_words.specs.Rules.{bare_line, folder_line};
 
 use crate::help::{
@@ -12,7 +12,7 @@ use crate::help::{
 use crate::looks::{
     AT, BACKUP, DESTINATION, FORMS, FROM, INDICATOR, INFO, LIKE, LOG, PACKAGE, PLACES, SHOW,
 };
-use crate::rules::{Help, PROGRAM, flag, folder_command, option, place};
+use crate::rules::{Help, PROGRAM, folder_command, place, with_arg, with_flag, with_option};
 use crate::words::DUMP;
 use clap::Command;
 use std::alloc::{AllocError, Global};
@@ -77,6 +77,17 @@ fn show_command<'a>(alloc: Global) -> Result<Command<'a>, AllocError>
     ensures line { IfOk result (λ command. app_of command ≡ show_line) }
     ensures local { IfOk result (λ command. (fields_of command).has_globals ≡ false) }
 {
+    let command = rows_command(alloc)?;
+    let help = "Those of symbols whose names have this text";
+    let command = with_option(command, alloc, LIKE, "NAME", help)?;
+    with_flag(command, alloc, FORMS, "Write the forms that set them")
+}
+
+// The same with the names of a package and of an indicator alone.
+fn rows_command<'a>(alloc: Global) -> Result<Command<'a>, AllocError>
+    ensures line { IfOk result (λ command. app_of command ≡ rows_line) }
+    ensures local { IfOk result (λ command. (fields_of command).has_globals ≡ false) }
+{
     let help = Help {
         about: "Shows properties of a store, as lines or as forms",
         usage: SHOW_USAGE,
@@ -84,12 +95,9 @@ fn show_command<'a>(alloc: Global) -> Result<Command<'a>, AllocError>
     };
     let command = store_command(alloc, SHOW, help)?;
     let help = "Those of the symbols of this package";
-    let command = command.arg(option(alloc, PACKAGE, "NAME", help))?;
+    let command = with_option(command, alloc, PACKAGE, "NAME", help)?;
     let help = "Those with an indicator of this name";
-    let command = command.arg(option(alloc, INDICATOR, "NAME", help))?;
-    let help = "Those of symbols whose names have this text";
-    let command = command.arg(option(alloc, LIKE, "NAME", help))?;
-    command.arg(flag(alloc, FORMS, "Write the forms that set them"))
+    with_option(command, alloc, INDICATOR, "NAME", help)
 }
 
 fn log_command<'a>(alloc: Global) -> Result<Command<'a>, AllocError>
@@ -103,9 +111,9 @@ fn log_command<'a>(alloc: Global) -> Result<Command<'a>, AllocError>
     };
     let command = store_command(alloc, LOG, help)?;
     let help = "From this record on, counted from 1; G.N is that of generation G";
-    let command = command.arg(option(alloc, FROM, "N", help))?;
+    let command = with_option(command, alloc, FROM, "N", help)?;
     let help = "Write each number with the generation of the half before it, as G.N";
-    command.arg(flag(alloc, PLACES, help))
+    with_flag(command, alloc, PLACES, help)
 }
 
 fn backup_command<'a>(alloc: Global) -> Result<Command<'a>, AllocError>
@@ -119,7 +127,7 @@ fn backup_command<'a>(alloc: Global) -> Result<Command<'a>, AllocError>
     };
     let command = store_command(alloc, BACKUP, help)?;
     let help = "The folder of the new store, which must not be there";
-    command.arg(place(alloc, DESTINATION, help))
+    with_arg(command, place(alloc, DESTINATION, help))
 }
 
 fn dump_command<'a>(alloc: Global) -> Result<Command<'a>, AllocError>
@@ -134,5 +142,5 @@ fn dump_command<'a>(alloc: Global) -> Result<Command<'a>, AllocError>
     let command = store_command(alloc, DUMP, help)?;
     let help =
         "The world after the first N records of the half in use; G.N of that of generation G";
-    command.arg(option(alloc, AT, "N", help))
+    with_option(command, alloc, AT, "N", help)
 }

@@ -2,8 +2,8 @@
 ghost use Rattle.std.specs.Prelude.{◌≡◌, map, IfOk, Some};
 ghost use Rattle.std.specs.Char.{is_ascii_digit};
 ghost use Rattle.std.specs.List.{list_all};
-ghost use Rattle.clap.specs.Words.{first_of, found_of, rows_of, subcommand_rows_of};
-ghost use Rattle.command_words.specs.LookLine.{digits_of, place_given, place_of, number_of, AreRecords, AsksToLook, Finds, IsLook, IsLooked, IsShown};
+ghost use Rattle.clap.specs.Words.{app_of, first_of, found_of, rows_of, subcommand_rows_of};
+ghost use Rattle.command_words.specs.LookLine.{digits_of, looking_line, place_given, place_of, number_of, AreRecords, AsksToLook, Finds, IsLook, IsLooked, IsShown};
 
 use crate::look_lines::looking_command;
 use crate::rules::{DIRECTORY, flag_is_set};
@@ -153,11 +153,25 @@ pub struct Looked<'a> {
 pub fn looked_in<'a, S: AsStr>(alloc: Global, words: &'a [S]) -> Result<Looked<'a>, Error>
     ensures { IfOk result (λ looked. AsksToLook (map S.text words.entry.now) looked.folder.now looked.look) }
 {
-    let mut command = looking_command(alloc)?;
-    match command.try_get_matches_from_mut(words) {
+    match looking_command(alloc) {
+        Ok(mut line) => looked_by_line(alloc, &mut line, words),
+        Err(memory) => Err(Error::from(memory)),
+    }
+}
+
+// The same by the line of these commands.
+fn looked_by_line<'a, S: AsStr>(
+    alloc: Global,
+    line: &mut Command<'a>,
+    words: &'a [S],
+) -> Result<Looked<'a>, Error>
+    requires { app_of line.old ≡ looking_line }
+    ensures { IfOk result (λ looked. AsksToLook (map S.text words.entry.now) looked.folder.now looked.look) }
+{
+    match line.try_get_matches_from_mut(words) {
         Ok(matches) => match looked_by(&matches) {
             Ok(looked) => Ok(looked),
-            Err(mistake) => Err(error_of(alloc, &mut command, mistake)),
+            Err(mistake) => Err(error_of(alloc, line, mistake)),
         },
         Err(error) => Err(error),
     }

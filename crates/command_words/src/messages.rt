@@ -7,7 +7,7 @@ ghost use Rattle.command_words.specs.MessageLine.{message_faults, message_line, 
 
 use crate::help::{MESSAGES_HELP, MESSAGES_USAGE};
 use crate::look_lines::bare_command;
-use crate::rules::{DIRECTORY, EXISTING, Help, flag, flag_is_set, folder_command};
+use crate::rules::{DIRECTORY, EXISTING, Help, flag_is_set, folder_command, with_arg, with_flag};
 use crate::words::{EVERY, RUN, every_option, nothing_asked, number_in};
 use clap::{ArgMatches, Command, Error};
 use std::alloc::{AllocError, Global};
@@ -40,11 +40,30 @@ pub fn messages_in<'a, S: AsStr>(alloc: Global, words: &'a [S]) -> Result<Messag
         → IfErr result (λ e. kind_of e ≡ OutOfMemory) }
     ensures faults { FailsBy (message_faults (map S.text words.entry.now)) result }
 {
-    let mut command = messages_command(alloc)?;
-    match command.try_get_matches_from_mut(words) {
+    match messages_command(alloc) {
+        Ok(mut line) => messages_by_line(&mut line, words),
+        Err(memory) => Err(Error::from(memory)),
+    }
+}
+
+// The same by the line of this command.
+fn messages_by_line<'a, S: AsStr>(
+    line: &mut Command<'a>,
+    words: &'a [S],
+) -> Result<Messages<'a>, Error>
+    requires { app_of line.old ≡ messages_line }
+    ensures asked { IfOk result (λ messages.
+        messages_in (map S.text words.entry.now)
+        ≡ Some (messages.folder.now, messages.existing, messages.snapshot_every)) }
+    ensures taken { (folder : Text) (existing : Bool) (every : ℕ)
+        → AsksForMessages (map S.text words.entry.now) folder existing every
+        → IfErr result (λ e. kind_of e ≡ OutOfMemory) }
+    ensures faults { FailsBy (message_faults (map S.text words.entry.now)) result }
+{
+    match line.try_get_matches_from_mut(words) {
         Ok(matches) => match messages_by(&matches) {
             Some(messages) => Ok(messages),
-            None => Err(nothing_asked(&mut command)),
+            None => Err(nothing_asked(line)),
         },
         Err(error) => Err(error),
     }
@@ -80,8 +99,8 @@ fn message_command<'a>(alloc: Global) -> Result<Command<'a>, AllocError>
         "Refuse a folder that holds no store, and make nothing",
     )?;
     let help = "Serve frames in place of forms";
-    let command = command.arg(flag(alloc, MESSAGES, help))?;
-    command.arg(every_option(alloc))
+    let command = with_flag(command, alloc, MESSAGES, help)?;
+    with_arg(command, every_option(alloc))
 }
 
 // The program with this command alone.

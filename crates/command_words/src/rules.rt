@@ -1,6 +1,6 @@
 // What the command lines are made of.
 ghost use Rattle.std.specs.Prelude.{◌≡◌, false, option_map, IfOk};
-ghost use Rattle.clap.specs.Words.{app_of, rule_of};
+ghost use Rattle.clap.specs.Words.{app_of, new_app, rule_of, with_rule};
 ghost use Rattle.clap.specs.declared.builder.command.Command.TheViews.{out-Command as fields_of};
 ghost use Rattle.command_words.specs.Rules.{flag_rule, folder_line, is_set, option_rule, place_rule};
 
@@ -54,6 +54,55 @@ pub(crate) fn option<'a>(alloc: Global, name: &'a str, value: &'a str, help: &'a
         .action(ArgAction::Set)
 }
 
+/// A command without arguments, of which the help says this.
+pub(crate) fn new_command<'a>(alloc: Global, name: &'a str, help: Help<'a>) -> Command<'a>
+    ensures line { app_of result ≡ new_app name.entry.now }
+    ensures local { (fields_of result).has_globals ≡ false }
+{
+    Command::new(alloc, name)
+        .about(help.about)
+        .override_usage(help.usage)
+        .after_help(help.end)
+}
+
+/// The command with one more argument.
+pub(crate) fn with_arg<'a>(command: Command<'a>, arg: Arg<'a>) -> Result<Command<'a>, AllocError>
+    requires { (arg.global ≡ false) × ((fields_of command).has_globals ≡ false) }
+    ensures line { IfOk result (λ new. app_of new ≡ with_rule (app_of command.entry) (rule_of arg.entry)) }
+    ensures local { IfOk result (λ new. (fields_of new).has_globals ≡ false) }
+{
+    command.arg(arg)
+}
+
+/// The command with one more flag.
+pub(crate) fn with_flag<'a>(
+    command: Command<'a>,
+    alloc: Global,
+    name: &'a str,
+    help: &'a str,
+) -> Result<Command<'a>, AllocError>
+    requires { (fields_of command).has_globals ≡ false }
+    ensures line { IfOk result (λ new. app_of new ≡ with_rule (app_of command.entry) (flag_rule name.entry.now)) }
+    ensures local { IfOk result (λ new. (fields_of new).has_globals ≡ false) }
+{
+    with_arg(command, flag(alloc, name, help))
+}
+
+/// The command with one more option of one value, which the help calls so.
+pub(crate) fn with_option<'a>(
+    command: Command<'a>,
+    alloc: Global,
+    name: &'a str,
+    value: &'a str,
+    help: &'a str,
+) -> Result<Command<'a>, AllocError>
+    requires { (fields_of command).has_globals ≡ false }
+    ensures line { IfOk result (λ new. app_of new ≡ with_rule (app_of command.entry) (option_rule name.entry.now)) }
+    ensures local { IfOk result (λ new. (fields_of new).has_globals ≡ false) }
+{
+    with_arg(command, option(alloc, name, value, help))
+}
+
 /// A command with its folder and `--existing`, of which the help says this.
 pub(crate) fn folder_command<'a>(
     alloc: Global,
@@ -65,12 +114,9 @@ pub(crate) fn folder_command<'a>(
     ensures line { IfOk result (λ command. app_of command ≡ folder_line name.entry.now) }
     ensures local { IfOk result (λ command. (fields_of command).has_globals ≡ false) }
 {
-    let command = Command::new(alloc, name)
-        .about(help.about)
-        .override_usage(help.usage)
-        .after_help(help.end)
-        .arg(place(alloc, DIRECTORY, folder))?;
-    command.arg(flag(alloc, EXISTING, existing))
+    let command = new_command(alloc, name, help);
+    let command = with_arg(command, place(alloc, DIRECTORY, folder))?;
+    with_flag(command, alloc, EXISTING, existing)
 }
 
 /// Whether a flag is there, by its value.

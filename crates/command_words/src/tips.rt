@@ -35,8 +35,17 @@ pub(crate) fn with_tip<S: AsStr>(alloc: Global, words: &[S], error: Error) -> Er
 fn unknown_name<S: AsStr>(alloc: Global, words: &[S]) -> Option<Error>
     ensures { IfSome result (λ error. kind_of error ≡ InvalidSubcommand) }
 {
-    let mut command = command_of_names(alloc).ok()?;
-    match command.try_get_matches_from_mut(words) {
+    match command_of_names(alloc) {
+        Ok(mut line) => unknown_to(&mut line, words),
+        Err(_) => None,
+    }
+}
+
+// What this command line says of it.
+fn unknown_to<'a, S: AsStr>(line: &mut Command<'a>, words: &'a [S]) -> Option<Error>
+    ensures { IfSome result (λ error. kind_of error ≡ InvalidSubcommand) }
+{
+    match line.try_get_matches_from_mut(words) {
         Err(error) => match error.kind() {
             ErrorKind::InvalidSubcommand => Some(error),
             _ => None,

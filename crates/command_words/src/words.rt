@@ -11,7 +11,9 @@ use crate::help::{
     DUMP_HELP, DUMP_USAGE, EXPORT_HELP, EXPORT_USAGE, PROGRAM_HELP, RUN_HELP, RUN_USAGE,
     SNAPSHOT_HELP, SNAPSHOT_USAGE, UPGRADE_HELP, UPGRADE_USAGE, USAGE, VERIFY_HELP, VERIFY_USAGE,
 };
-use crate::rules::{DIRECTORY, EXISTING, Help, PROGRAM, flag, flag_is_set, folder_command, option};
+use crate::rules::{
+    DIRECTORY, EXISTING, Help, PROGRAM, flag_is_set, folder_command, option, with_arg, with_flag,
+};
 use crate::tips::with_tip;
 use clap::builder::ValueParser;
 use clap::error::ErrorKind;
@@ -129,7 +131,7 @@ fn export_command<'a>(alloc: Global) -> Result<Command<'a>, AllocError>
     };
     let command = store_command(alloc, EXPORT, help)?;
     let help = "Leave the readtables out, so that another Lisp can load the forms";
-    command.arg(flag(alloc, DATA, help))
+    with_flag(command, alloc, DATA, help)
 }
 
 // A session, with its flags.
@@ -144,11 +146,11 @@ fn flags_command<'a>(alloc: Global) -> Result<Command<'a>, AllocError>
     };
     let command = store_command(alloc, RUN, help)?;
     let help = "Read each form under the standard readtable in COMMON-LISP-USER";
-    let command = command.arg(flag(alloc, RESCUE, help))?;
+    let command = with_flag(command, alloc, RESCUE, help)?;
     let help = "End at the first form that is refused, with status 1";
-    let command = command.arg(flag(alloc, STRICT, help))?;
+    let command = with_flag(command, alloc, STRICT, help)?;
     let help = "Log the forms that are whole in what was read together, then answer them";
-    command.arg(flag(alloc, GROUP, help))
+    with_flag(command, alloc, GROUP, help)
 }
 
 // The same with all that is wanted of it.
@@ -157,8 +159,8 @@ fn session_command<'a>(alloc: Global) -> Result<Command<'a>, AllocError>
     ensures local { IfOk result (λ command. (fields_of command).has_globals ≡ false) }
 {
     let command = flags_command(alloc)?;
-    let command = command.arg(every_option(alloc))?;
-    command.arg(ratio_option(alloc))
+    let command = with_arg(command, every_option(alloc))?;
+    with_arg(command, ratio_option(alloc))
 }
 
 fn run_command<'a>(alloc: Global) -> Result<Command<'a>, AllocError>
@@ -167,7 +169,7 @@ fn run_command<'a>(alloc: Global) -> Result<Command<'a>, AllocError>
 {
     let command = session_command(alloc)?;
     let help = "Write the refusals alone, and at the end a count to standard error";
-    command.arg(flag(alloc, QUIET, help))
+    with_flag(command, alloc, QUIET, help)
 }
 
 // The program without its commands.
@@ -329,11 +331,31 @@ pub fn asked_in<'a, S: AsStr>(alloc: Global, words: &'a [S]) -> Result<Asked<'a>
         → IfErr result (λ e. kind_of e ≡ OutOfMemory) }
     ensures faults { FailsBy (faults_of (map S.text words.entry.now)) result }
 {
-    let mut command = whole_command(alloc)?;
-    match command.try_get_matches_from_mut(words) {
+    match whole_command(alloc) {
+        Ok(mut line) => asked_by_line(alloc, &mut line, words),
+        Err(memory) => Err(Error::from(memory)),
+    }
+}
+
+// The same by the line of these commands.
+fn asked_by_line<'a, S: AsStr>(
+    alloc: Global,
+    line: &mut Command<'a>,
+    words: &'a [S],
+) -> Result<Asked<'a>, Error>
+    requires { app_of line.old ≡ command_line }
+    ensures asked { IfOk result (λ asked.
+        asked_in (map S.text words.entry.now)
+        ≡ Some (asked.folder.now, asked.existing, asked.task)) }
+    ensures taken { (folder : Text) (existing : Bool) (task : Task)
+        → AsksFor (map S.text words.entry.now) folder existing task
+        → IfErr result (λ e. kind_of e ≡ OutOfMemory) }
+    ensures faults { FailsBy (faults_of (map S.text words.entry.now)) result }
+{
+    match line.try_get_matches_from_mut(words) {
         Ok(matches) => match asked_by(&matches) {
             Some(asked) => Ok(asked),
-            None => Err(nothing_asked(&mut command)),
+            None => Err(nothing_asked(line)),
         },
         Err(error) => Err(with_tip(alloc, words, error)),
     }
