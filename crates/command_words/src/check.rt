@@ -7,6 +7,7 @@ ghost use Rattle.command_words.specs.CheckLine.{check_line, checking_line, file_
 use crate::help::{CHECK_HELP, CHECK_USAGE};
 use crate::look_lines::bare_command;
 use crate::rules::{Help, new_command, with_arg, with_option};
+use crate::tips::with_tip;
 use clap::error::ErrorKind;
 use clap::{Arg, ArgAction, ArgMatches, Command, Error};
 use std::alloc::{AllocError, Global};
@@ -36,13 +37,17 @@ pub fn checked_in<'a, S: AsStr>(alloc: Global, words: &'a [S]) -> Result<Check<'
     ensures { IfOk result (AsksToCheck (map S.text words.entry.now)) }
 {
     match checking_command(alloc) {
-        Ok(mut line) => checked_by_line(&mut line, words),
+        Ok(mut line) => checked_by_line(alloc, &mut line, words),
         Err(memory) => Err(Error::from(memory)),
     }
 }
 
 // The same by the line of this command.
-fn checked_by_line<'a, S: AsStr>(line: &mut Command<'a>, words: &'a [S]) -> Result<Check<'a>, Error>
+fn checked_by_line<'a, S: AsStr>(
+    alloc: Global,
+    line: &mut Command<'a>,
+    words: &'a [S],
+) -> Result<Check<'a>, Error>
     requires { app_of line.old ≡ checking_line }
     ensures { IfOk result (AsksToCheck (map S.text words.entry.now)) }
 {
@@ -51,7 +56,7 @@ fn checked_by_line<'a, S: AsStr>(line: &mut Command<'a>, words: &'a [S]) -> Resu
             Some(check) => Ok(check),
             None => Err(nothing_asked(line)),
         },
-        Err(error) => Err(error),
+        Err(error) => Err(with_tip(alloc, words, error)),
     }
 }
 

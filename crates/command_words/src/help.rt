@@ -4,6 +4,10 @@
 pub const USAGE: &str =
     "./pazturrok run DIR [--existing] [--rescue] [--strict] [--group] [--snapshot-every N] [--snapshot-ratio R] [--quiet]\n       ./pazturrok run DIR --messages [--existing] [--snapshot-every N]\n       ./pazturrok snapshot DIR [--existing]\n       ./pazturrok upgrade DIR [--existing]\n       ./pazturrok export DIR [--existing] [--data]\n       ./pazturrok dump DIR [--existing] [--at N]\n       ./pazturrok verify DIR [--existing]\n       ./pazturrok show DIR [--package NAME] [--indicator NAME] [--like NAME] [--forms]\n       ./pazturrok info DIR\n       ./pazturrok log DIR [--from N] [--places]\n       ./pazturrok backup DIR DEST\n       ./pazturrok check [FILE] [--store DIR]";
 
+/// How the program is called where its command is not known.
+pub const COMMAND_USAGE: &str =
+    "./pazturrok COMMAND, with the folder of a store and options. The commands:\n       run snapshot upgrade export dump verify show info log backup check help";
+
 /// How each command is called.
 pub const RUN_USAGE: &str =
     "./pazturrok run DIR [--existing] [--rescue] [--strict] [--group] [--snapshot-every N] [--snapshot-ratio R] [--quiet]\n       ./pazturrok run DIR --messages [--existing] [--snapshot-every N]";

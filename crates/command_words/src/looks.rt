@@ -7,6 +7,7 @@ ghost use Rattle.command_words.specs.LookLine.{digits_of, looking_line, place_gi
 
 use crate::look_lines::looking_command;
 use crate::rules::{DIRECTORY, flag_is_set};
+use crate::tips::with_tip;
 use crate::words::DUMP;
 use clap::error::ErrorKind;
 use clap::{ArgMatches, Command, Error};
@@ -173,7 +174,7 @@ fn looked_by_line<'a, S: AsStr>(
             Ok(looked) => Ok(looked),
             Err(mistake) => Err(error_of(alloc, line, mistake)),
         },
-        Err(error) => Err(error),
+        Err(error) => Err(with_tip(alloc, words, error)),
     }
 }
 

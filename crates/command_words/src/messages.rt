@@ -8,6 +8,7 @@ ghost use Rattle.command_words.specs.MessageLine.{message_faults, message_line, 
 use crate::help::{MESSAGES_HELP, MESSAGES_USAGE};
 use crate::look_lines::bare_command;
 use crate::rules::{DIRECTORY, EXISTING, Help, flag_is_set, folder_command, with_arg, with_flag};
+use crate::tips::with_tip;
 use crate::words::{EVERY, RUN, every_option, nothing_asked, number_in};
 use clap::{ArgMatches, Command, Error};
 use std::alloc::{AllocError, Global};
@@ -41,13 +42,14 @@ pub fn messages_in<'a, S: AsStr>(alloc: Global, words: &'a [S]) -> Result<Messag
     ensures faults { FailsBy (message_faults (map S.text words.entry.now)) result }
 {
     match messages_command(alloc) {
-        Ok(mut line) => messages_by_line(&mut line, words),
+        Ok(mut line) => messages_by_line(alloc, &mut line, words),
         Err(memory) => Err(Error::from(memory)),
     }
 }
 
 // The same by the line of this command.
 fn messages_by_line<'a, S: AsStr>(
+    alloc: Global,
     line: &mut Command<'a>,
     words: &'a [S],
 ) -> Result<Messages<'a>, Error>
@@ -65,7 +67,7 @@ fn messages_by_line<'a, S: AsStr>(
             Some(messages) => Ok(messages),
             None => Err(nothing_asked(line)),
         },
-        Err(error) => Err(error),
+        Err(error) => Err(with_tip(alloc, words, error)),
     }
 }
 

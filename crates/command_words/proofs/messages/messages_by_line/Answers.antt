@@ -1,7 +1,8 @@
 use Rattle.std.proofs.Common.{rules, ◌≡◌, ◌⊎◌, ◌∙◌, ap, sym, subst, map, Option, None, Some, option_and_then}
 use Rattle.clap.specs.Words.{App, IsAmong, fault_of, is_simple, is_simple_and_free, kind_of, subcommand_of, subcommand_rows_of}
+use Rattle.clap.specs.declared.error.kind.ErrorKind.{ErrorKind}
 use Rattle.clap.specs.declared.error.kind.ErrorKind.TheVariants.{OutOfMemory}
-use Rattle.command_words.specs.MessageLine.{Messages, messages_line, messages_of}
+use Rattle.command_words.specs.MessageLine.{Messages, message_faults, messages_line, messages_of}
 use Rattle.command_words.proofs.MessageLaws.{fault_of_messages, fault_of_no_folder, free_messages_line, messages_or_memory, no_message_faults, right_messages, simple_messages_line}
 use Rattle.command_words.proofs.messages.messages_by_line.Goals as goal
 
@@ -41,13 +42,14 @@ returns-in-Ok-clause-taken g c = λ folder existing every asks.
 pub returns-clause-taken : goal.returns-clause-taken
 returns-clause-taken g c = λ folder existing every asks.
     let words = map g.S.AsStr.text c.args.words.now in
-    messages_or_memory words (kind_of c.in-Err.error) (right_messages words folder existing every asks).faultless
+    c.with_tip.ensures ∙ messages_or_memory words (kind_of c.in-Err.error) (right_messages words folder existing every asks).faultless
     (subst (λ (a : App). (kind_of c.in-Err.error ≡ OutOfMemory) ⊎ IsAmong (kind_of c.in-Err.error) (fault_of a words)) c.requires
     (c.in-Err.ensures.kinds (ap is_simple_and_free c.requires ∙ free_messages_line)))
 
 pub returns-clause-faults : goal.returns-clause-faults
 returns-clause-faults g c =
     let words = map g.S.AsStr.text c.args.words.now in
-    fault_of_messages words (kind_of c.in-Err.error)
+    let told = fault_of_messages words (kind_of c.in-Err.error)
     (subst (λ (a : App). (kind_of c.in-Err.error ≡ OutOfMemory) ⊎ IsAmong (kind_of c.in-Err.error) (fault_of a words)) c.requires
-    (c.in-Err.ensures.kinds (ap is_simple_and_free c.requires ∙ free_messages_line)))
+    (c.in-Err.ensures.kinds (ap is_simple_and_free c.requires ∙ free_messages_line))) in
+    subst (λ (k : ErrorKind). (k ≡ OutOfMemory) ⊎ IsAmong k (message_faults words)) (sym c.with_tip.ensures) told
