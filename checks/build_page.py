@@ -23,7 +23,6 @@ def rows_of(lanes):
         if kind == "proof":
             minutes = [usage.minutes(crate, it) for it in ("proof", "tests", "edits")]
             cells = [f"{it:.1f}" if it else "" for it in minutes]
-            cells[0] = cells[0] or "kept"
             name = f"**`{crate}`**" if crate in chain else f"`{crate}`"
             yield f"| {name} | {' | '.join(cells)} | {begun:.1f} | {ended:.1f} |"
 
