@@ -16,14 +16,17 @@ def may():
 
 
 class Apart:
-    def __init__(self, count):
+    """`net` is how the addresses of the places begin, which end with 1, 2, .."""
+
+    def __init__(self, count, net="10.99.0."):
+        self.net = net
         self.hub = f"pz{os.getpid()}"
         self.names = [f"{self.hub}-{place}" for place in range(count)]
         for name in [self.hub, *self.names]:
             ip("netns", "add", name)
             ip("-n", name, "link", "set", "lo", "up")
         ip("-n", self.hub, "link", "add", "hub", "type", "bridge")
-        ip("-n", self.hub, "addr", "add", "10.99.0.100/24", "dev", "hub")
+        ip("-n", self.hub, "addr", "add", f"{net}100/24", "dev", "hub")
         ip("-n", self.hub, "link", "set", "hub", "up")
         for place, name in enumerate(self.names):
             ip("-n", self.hub, "link", "add", f"p{place}", "type", "veth", "peer", "name", "out", "netns", name)
@@ -38,9 +41,8 @@ class Apart:
         if ctypes.CDLL(None, use_errno=True).setns(namespace, CLONE_NEWNET):
             raise OSError(ctypes.get_errno(), "setns")
 
-    @staticmethod
-    def host(place):
-        return f"10.99.0.{place + 1}"
+    def host(self, place):
+        return f"{self.net}{place + 1}"
 
     def words(self, place):
         return ["ip", "netns", "exec", self.names[place]]

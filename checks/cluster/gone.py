@@ -145,4 +145,5 @@ def repeated(folder, program):
             relay.close()
 
 
+LONG_ONES = ("repeated",)
 PARTS = {"late delete": late_delete, "gone": gone, "repeated": repeated}

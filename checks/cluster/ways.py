@@ -114,6 +114,7 @@ WRONG_WORDS = [
     ["--etcd", "10.0.0.1:2379"], ["--etcd", "member"], ["--etcd", "http://127.0.0.1:2379,"], ["--etcd", "unix:///run/etcd"],
     ["--etcd-ca", "ca", "--etcd", "http://127.0.0.1:2379"], ["--etcd-cert", "both"], ["--client-ca", "ca"], ["--name", "a/b"], ["--log", ""],
     ["--listen", "7411"], ["--listen", "localhost:http"], ["--listen", "0.0.0.0:7411"], ["begin"], ["skip", "-1"], [],
+    ["--monitor", "9100"], ["--monitor", "0.0.0.0:9100"], ["--most-clients", "0"],
 ]  # fmt: skip
 
 

@@ -3,10 +3,12 @@
 from __future__ import annotations
 
 import asyncio
-import sys
+import logging
 from collections.abc import Sequence
 
 from .frames import POSITION
+
+logger = logging.getLogger(__name__)
 
 LIMIT = 1 << 24
 """How many bytes of an answer are held at most."""
@@ -29,7 +31,7 @@ class Child:
         if told:
             return cls(process, int(told[1]))
         await process.wait()
-        print(f"node: the store ended with status {process.returncode} as it was opened", file=sys.stderr)
+        logger.error("the store ended with status %s as it was opened", process.returncode)
         return None
 
     @property

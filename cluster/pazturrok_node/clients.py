@@ -3,7 +3,10 @@
 from __future__ import annotations
 
 import asyncio
+import collections
 import contextlib
+import logging
+import socket
 import uuid
 from collections.abc import Awaitable, Coroutine
 from typing import Any
@@ -11,6 +14,8 @@ from typing import Any
 from .etcd import EtcdError, PutBackError
 from .frames import LIMIT, NoFrameError, answer, read_request
 from .node import Appender, Node
+
+logger = logging.getLogger(__name__)
 
 AT_ONCE = 1000
 """How many requests of one client may be under way."""
@@ -25,28 +30,85 @@ BUFFER = LIMIT + 1024
 """How many bytes of a request are held at most."""
 
 
+MOST_CLIENTS = 10_000
+"""How many may be connected."""
+
+PROBES = ((socket.TCP_KEEPIDLE, 60), (socket.TCP_KEEPINTVL, 20), (socket.TCP_KEEPCNT, 3))
+"""After so many seconds of silence a machine is looked for, as often and so far apart."""
+
+
 class Clients:
-    def __init__(self, node: Node, appender: Appender) -> None:
-        self._node, self._appender = node, appender
+    def __init__(self, node: Node, appender: Appender, most: int = MOST_CLIENTS) -> None:
+        self._node, self._appender, self._most = node, appender, most
+        self._connected: collections.OrderedDict[Client, None] = collections.OrderedDict()
+        """Those that are connected, by their last request."""
+        self.requests: collections.Counter[str] = collections.Counter()
+
+    @property
+    def count(self) -> int:
+        return len(self._connected)
 
     async def serve(self, reader: asyncio.StreamReader, writer: asyncio.StreamWriter) -> None:
         """Answers the requests of a client, until it goes or sends what is no frame."""
-        client = Client(self._node, self._appender, reader, writer)
+        client = Client(self, self._node, self._appender, reader, writer)
+        if not self._make_room():
+            writer.close()
+            return
+        self._connected[client] = None
+        keep_alive(writer)
         taker = asyncio.ensure_future(client.take())
         try:
             with contextlib.suppress(ConnectionError, asyncio.CancelledError, EtcdError, PutBackError):
                 await client.send()
         finally:
+            self._connected.pop(client, None)
             taker.cancel()
             client.forget()
             writer.close()
 
+    def _make_room(self) -> bool:
+        """Where as many are connected as may be, the one goes that has asked nothing for longest. False where all wait for answers."""
+        while len(self._connected) >= self._most:
+            idle = next((client for client in self._connected if client.is_idle), None)
+            if idle is None:
+                logger.warning("%d clients wait for answers: another one is refused", len(self._connected))
+                return False
+            logger.warning("%d clients are connected: one that has asked nothing for longest is let go", len(self._connected))
+            self._connected.pop(idle)
+            idle.let_go()
+        return True
+
+    def heed(self, client: Client, kind: str) -> None:
+        """A client has sent a request."""
+        self.requests[kind] += 1
+        if client in self._connected:
+            self._connected.move_to_end(client)
+
+
+def keep_alive(writer: asyncio.StreamWriter) -> None:
+    """Has the system look whether the machine of a client is still there: one that is gone is let go after two minutes."""
+    one = writer.get_extra_info("socket")
+    if one is not None and one.family in (socket.AF_INET, socket.AF_INET6):
+        one.setsockopt(socket.SOL_SOCKET, socket.SO_KEEPALIVE, 1)
+        for option, value in PROBES:
+            one.setsockopt(socket.IPPROTO_TCP, option, value)
+
 
 class Client:
-    def __init__(self, node: Node, appender: Appender, reader: asyncio.StreamReader, writer: asyncio.StreamWriter) -> None:
-        self._node, self._appender, self._reader, self._writer = node, appender, reader, writer
+    def __init__(
+        self, clients: Clients, node: Node, appender: Appender, reader: asyncio.StreamReader, writer: asyncio.StreamWriter
+    ) -> None:
+        self._clients, self._node, self._appender, self._reader, self._writer = clients, node, appender, reader, writer
         self.pending: asyncio.Queue[asyncio.Task[bytes] | None] = asyncio.Queue(AT_ONCE)
-        self._unread = self._unplaced = 0
+        self._unread = self._unplaced = self._unanswered = 0
+
+    @property
+    def is_idle(self) -> bool:
+        """Whether it waits for no answer."""
+        return self._unanswered == 0
+
+    def let_go(self) -> None:
+        self._writer.close()
 
     async def take(self) -> None:
         """Takes requests, until the client sends no more, or what is no frame."""
@@ -58,6 +120,8 @@ class Client:
         before: asyncio.Task[bytes] | None = None
         while (request := await read_request(self._reader)) is not None:
             kind, name, text = request
+            self._unanswered += 1
+            self._clients.heed(self, kind)
             if kind == "do":
                 work = await self._append((name or uuid.uuid4().hex).encode("ascii"), text)
             else:
@@ -101,6 +165,7 @@ class Client:
             self._writer.write(text)
             await self._writer.drain()
             self._unread -= len(text)
+            self._unanswered -= 1
 
     def forget(self) -> None:
         """Nobody waits for the answers any more. What is to be carried out will be."""

@@ -4,13 +4,17 @@ from __future__ import annotations
 
 import asyncio
 import base64
+import contextlib
 import json
+import logging
+import socket
 import ssl
-import sys
 import time
 import urllib.parse
 from collections.abc import AsyncIterator
 from typing import Any
+
+logger = logging.getLogger(__name__)
 
 TIMEOUT = 5.0
 """Seconds that a call may take, before another member is asked."""
@@ -95,10 +99,10 @@ class Connection:
 
 
 class Etcd:
-    """The members of a cluster: a call goes to one of them, and to the next where it does not answer."""
+    """The members of a cluster: a call goes to one of them, first of this machine, and to the next where it does not answer."""
 
     def __init__(self, urls: list[str], context: ssl.SSLContext | None = None) -> None:
-        self._urls, self._context = urls, context
+        self._urls, self._context = sorted(urls, key=is_elsewhere), context
         self._at = self._watched = 0
         self._silent_since: float | None = None
         self._told = SILENCE
@@ -151,8 +155,19 @@ class Etcd:
         silent = now - self._silent_since
         if silent > self._told:
             why = str(error) or type(error).__name__
-            print(f"node: no member of etcd answers for {silent:.0f} s; {self._urls[at]}: {why}", file=sys.stderr, flush=True)
+            logger.warning("no member of etcd answers for %.0f s; %s: %s", silent, self._urls[at], why)
             self._told = 2 * silent
+
+    @property
+    def silent_seconds(self) -> float:
+        """For how long no member has answered what was asked."""
+        return 0.0 if self._silent_since is None else time.monotonic() - self._silent_since
+
+    async def look_at_members(self) -> None:
+        """Tells an operator where etcd has more members than this node was given."""
+        count = len((await self.call("/v3/cluster/member/list", {})).get("members", []))
+        if count > len(self._urls):
+            logger.warning("--etcd names %d of %d members: where they stop, this node answers nothing", len(self._urls), count)
 
     def _take(self) -> tuple[int, Connection]:
         while self._free:
@@ -188,6 +203,16 @@ class Etcd:
             connection.close()
         self._watched = (self._watched + 1) % len(self._urls)
         await asyncio.sleep(PAUSE)
+
+
+def is_elsewhere(url: str) -> bool:
+    """Whether a member is on another machine: nobody can listen at its address here."""
+    with contextlib.suppress(OSError):
+        for family, kind, protocol, _, address in socket.getaddrinfo(urllib.parse.urlsplit(url).hostname, 0, type=socket.SOCK_DGRAM):
+            with contextlib.suppress(OSError), socket.socket(family, kind, protocol) as one:
+                one.bind(address)
+                return False
+    return True
 
 
 def watched(found: dict[str, Any]) -> dict[str, Any]:

@@ -6,17 +6,20 @@ import argparse
 import asyncio
 import contextlib
 import ipaddress
+import logging
 import os
 import re
 import resource
 import signal
 import socket
 import ssl
-import sys
+from collections.abc import Awaitable, Callable
 
-from .clients import BUFFER, Clients
+from . import VERSION
+from .clients import BUFFER, MOST_CLIENTS, Clients
 from .etcd import Etcd, EtcdError, PutBackError
 from .log import BehindError, Log
+from .monitor import MOST_BYTES, Monitor
 from .names import Name, TakenNameError
 from .node import Appender, Node
 from .orders import begin, skip
@@ -24,9 +27,14 @@ from .replica import RefusedStoreError, Replica
 from .tasks import end_all
 from .trim import Trimmer
 
-REFUSED = "node: {}. Nothing more is carried out"
+logger = logging.getLogger(__name__)
+
+REFUSED = "%s. Nothing more is carried out"
 PUT_BACK = "etcd is another one, or was put back to an older state, while this node ran"
 SEED = "put a backup of another node's folder in place of this one (pazturrok backup)"
+
+SPARE = 100
+"""So many descriptors are for etcd, the store and the files beside it, and not for clients."""
 
 ABOUT = """A replica of a store, by a log in etcd.
 
@@ -35,7 +43,10 @@ ABOUT = """A replica of a store, by a log in etcd.
   pazturrok-node skip NUMBER     has all nodes skip the entry before which their stores end again and again"""
 
 
-def words() -> argparse.Namespace:
+Serve = Callable[[asyncio.StreamReader, asyncio.StreamWriter], Awaitable[None]]
+
+
+def parser_of_words() -> argparse.ArgumentParser:
     parser = argparse.ArgumentParser(prog="pazturrok-node", description=ABOUT, formatter_class=argparse.RawDescriptionHelpFormatter)
     parser.add_argument("order", nargs="*", metavar="FOLDER")
     parser.add_argument("--etcd", default="http://127.0.0.1:2379", help="the members, with commas between them")
@@ -50,6 +61,14 @@ def words() -> argparse.Namespace:
     parser.add_argument("--program", default="pazturrok", help="the program of the store")
     parser.add_argument("--snapshot-every", metavar="N", help="as the program has it")
     parser.add_argument("--keep", type=float, default=600, metavar="SECONDS", help="an entry stays so long at least, 600")
+    parser.add_argument("--most-clients", type=int, default=MOST_CLIENTS, metavar="N", help=f"so many may be connected, {MOST_CLIENTS}")
+    parser.add_argument("--monitor", metavar="PLACE", help="HOST:PORT, or the path of a socket, for GET /health and GET /metrics")
+    parser.add_argument("--version", action="version", version=f"pazturrok-node {VERSION}")
+    return parser
+
+
+def words() -> argparse.Namespace:
+    parser = parser_of_words()
     asked = parser.parse_args()
     if len(asked.order) == 1 and asked.order[0] not in ("begin", "skip"):
         asked.order.insert(0, "serve")
@@ -61,13 +80,22 @@ def words() -> argparse.Namespace:
         if not re.fullmatch(r"[A-Za-z0-9._-]{1,100}", word):
             parser.error(f"{word!r} is no name")
     look_at_members(parser, asked)
-    if "/" not in asked.listen and not re.fullmatch(r".*:[0-9]{1,5}", asked.listen):
-        parser.error(f"{asked.listen!r} is no HOST:PORT, and no path with a slash")
+    if asked.most_clients < 1:
+        parser.error("--most-clients is 1 or more")
+    look_at_places(parser, asked)
+    return asked
+
+
+def look_at_places(parser: argparse.ArgumentParser, asked: argparse.Namespace) -> None:
+    for place in [place for place in (asked.listen, asked.monitor) if place]:
+        if "/" not in place and not re.fullmatch(r".*:[0-9]{1,5}", place):
+            parser.error(f"{place!r} is no HOST:PORT, and no path with a slash")
     if asked.client_ca and not asked.cert:
         parser.error("--client-ca wants --cert")
     if "/" not in asked.listen and not asked.cert and not asked.open and not is_loopback(asked.listen):
         parser.error(f"{asked.listen} is beyond this machine: give --cert, or --open where the network is your own")
-    return asked
+    if asked.monitor and "/" not in asked.monitor and not asked.open and not is_loopback(asked.monitor):
+        parser.error(f"{asked.monitor} is beyond this machine: give --open where the network is your own")
 
 
 def look_at_members(parser: argparse.ArgumentParser, asked: argparse.Namespace) -> None:
@@ -94,20 +122,25 @@ def context_for_etcd(asked: argparse.Namespace) -> ssl.SSLContext | None:
     return context
 
 
-async def listen(asked: argparse.Namespace, clients: Clients) -> asyncio.AbstractServer:
-    if "/" in asked.listen:
+async def listen(place: str, serve_one: Serve, limit: int, context: ssl.SSLContext | None = None) -> asyncio.AbstractServer:
+    """Listens at HOST:PORT, or at the path of a socket."""
+    if "/" in place:
         with contextlib.suppress(FileNotFoundError):
-            os.unlink(asked.listen)
-        return await asyncio.start_unix_server(clients.serve, asked.listen, limit=BUFFER, backlog=1024)
-    context = None
-    if asked.cert:
-        context = ssl.SSLContext(ssl.PROTOCOL_TLS_SERVER)
-        context.load_cert_chain(asked.cert)
-        if asked.client_ca:
-            context.load_verify_locations(asked.client_ca)
-            context.verify_mode = ssl.CERT_REQUIRED
-    host, _, port = asked.listen.rpartition(":")
-    return await asyncio.start_server(clients.serve, host.strip("[]"), int(port), ssl=context, limit=BUFFER, backlog=1024)
+            os.unlink(place)
+        return await asyncio.start_unix_server(serve_one, place, limit=limit, backlog=1024)
+    host, _, port = place.rpartition(":")
+    return await asyncio.start_server(serve_one, host.strip("[]"), int(port), ssl=context, limit=limit, backlog=1024)
+
+
+def context_for_clients(asked: argparse.Namespace) -> ssl.SSLContext | None:
+    if not asked.cert:
+        return None
+    context = ssl.SSLContext(ssl.PROTOCOL_TLS_SERVER)
+    context.load_cert_chain(asked.cert)
+    if asked.client_ca:
+        context.load_verify_locations(asked.client_ca)
+        context.verify_mode = ssl.CERT_REQUIRED
+    return context
 
 
 async def has_name(name: Name, stop: asyncio.Task[bool]) -> bool:
@@ -121,10 +154,15 @@ async def has_name(name: Name, stop: asyncio.Task[bool]) -> bool:
     return True
 
 
-async def serve(asked: argparse.Namespace, node: Node, name: Name) -> int:
-    """Serves until a signal asks for the end, or the store or the name is refused."""
+def descriptors() -> int:
+    """Takes as many as this process may have, and gives how many clients that leaves room for."""
     most = resource.getrlimit(resource.RLIMIT_NOFILE)[1]
     resource.setrlimit(resource.RLIMIT_NOFILE, (most, most))
+    return MOST_CLIENTS if most == resource.RLIM_INFINITY else max(most - SPARE, 1)
+
+
+async def serve(asked: argparse.Namespace, node: Node, name: Name) -> int:
+    """Serves until a signal asks for the end, or the store or the name is refused."""
     ended = asyncio.Event()
     for number in (signal.SIGTERM, signal.SIGINT):
         asyncio.get_running_loop().add_signal_handler(number, ended.set)
@@ -133,11 +171,16 @@ async def serve(asked: argparse.Namespace, node: Node, name: Name) -> int:
         return 0
     appender = Appender(node)
     trimmer = Trimmer(name, node, appender, asked.keep)
-    server = await listen(asked, Clients(node, appender))
+    clients = Clients(node, appender, min(asked.most_clients, descriptors()))
+    servers = [await listen(asked.listen, clients.serve, BUFFER, context_for_clients(asked))]
+    if asked.monitor:
+        servers.append(await listen(asked.monitor, Monitor(name.text, node, clients).serve, MOST_BYTES))
+    ready = asyncio.ensure_future(tell_ready(asked, node))
     tasks = [stop, *(asyncio.ensure_future(work) for work in (node.run(), appender.run(), trimmer.run()))]
     done, others = await asyncio.wait(tasks, return_when=asyncio.FIRST_COMPLETED)
-    server.close()
-    await end_all(others, 15)
+    for server in servers:
+        server.close()
+    await end_all([*others, ready], 15)
     try:
         for task in done:
             task.result()
@@ -145,6 +188,14 @@ async def serve(asked: argparse.Namespace, node: Node, name: Name) -> int:
     finally:
         await name.let_go()
     return 0
+
+
+async def tell_ready(asked: argparse.Namespace, node: Node) -> None:
+    """Tells that clients are answered from now on."""
+    await node.is_admitted.wait()
+    logger.info("ready: the store is at %d, and clients are heard at %s", node.position, asked.listen)
+    with contextlib.suppress(EtcdError):
+        await node.log.etcd.look_at_members()
 
 
 async def carry_out(asked: argparse.Namespace) -> int:
@@ -159,23 +210,27 @@ async def carry_out(asked: argparse.Namespace) -> int:
         if order == "begin":
             return await begin(log, replica, program)
         return await serve(asked, Node(log, replica, program), Name(log, asked.name, replica))
-    except (BehindError, RefusedStoreError) as error:
-        print(REFUSED.format(f"{error}: {SEED}" if isinstance(error, BehindError) else error), file=sys.stderr)
+    except BehindError as error:
+        logger.error(REFUSED, f"{error}: {SEED}")
+        return 4
+    except RefusedStoreError as error:
+        logger.error(REFUSED, error)
         return 4
     except PutBackError:
-        print(f"node: {PUT_BACK}", file=sys.stderr)
+        logger.error(REFUSED, PUT_BACK)
         return 4
     except TakenNameError as error:
-        print(f"node: {error}", file=sys.stderr)
+        logger.error("%s", error)
         return 4
     except EtcdError as error:
-        print(f"pazturrok-node: etcd: {error}", file=sys.stderr)
+        logger.error("etcd: %s", error)
         return 3
     except OSError as error:
         # as where there is no such program, or another one listens at this place
-        print(f"pazturrok-node: {error}", file=sys.stderr)
+        logger.error("%s", error)
         return 3
 
 
 def main() -> int:
+    logging.basicConfig(level=logging.INFO, format="%(asctime)s %(levelname)s %(message)s", datefmt="%Y-%m-%dT%H:%M:%S%z")
     return asyncio.run(carry_out(words()))

@@ -4,12 +4,14 @@ from __future__ import annotations
 
 import asyncio
 import contextlib
-import sys
+import logging
 from typing import Any
 
 from .etcd import EtcdError, decoded, encoded
 from .log import Log
 from .replica import Replica
+
+logger = logging.getLogger(__name__)
 
 LEASE = 15
 """After so many seconds without a beat a node is none any more: its name is free, and nothing is kept for it."""
@@ -45,7 +47,7 @@ class Name:
                 await self.let_go()
                 raise TakenNameError(TAKEN.format(self.text))
             if not is_told:
-                print(f"node: another node has the name {self.text}, or had it until now: waiting", file=sys.stderr, flush=True)
+                logger.warning("another node has the name %s, or had it until now: waiting", self.text)
                 is_told = True
             await asyncio.sleep(1)
             await self._keep()

@@ -5,7 +5,7 @@ from __future__ import annotations
 import asyncio
 import collections
 import contextlib
-import sys
+import logging
 from collections.abc import Callable, Sequence
 from typing import NamedTuple
 
@@ -16,6 +16,8 @@ from .frames import NoFrameError, message, question, read_answer
 from .log import Entry, Log, Reached
 from .replica import Replica
 from .tasks import end_all
+
+logger = logging.getLogger(__name__)
 
 SKIPPED = b"! 53 SKIPPED"
 """The answer to an entry that all stores skip."""
@@ -59,6 +61,8 @@ class Node:
         self.lasting = 0
         """A number that an opening of the store would tell, or a lower one than that."""
         self.is_admitted = asyncio.Event()
+        self.count_of_entries = self.count_of_ends = 0
+        """How many entries the store has answered, and how often it has ended, while this node ran."""
         self._ended_at = (0, 0)
         """The number of the entry before whose answer the store has ended last, with no question under way, and how often it did."""
         self._suspect = 0
@@ -111,7 +115,7 @@ class Node:
                     await self._serve(child)
                 finally:
                     status = await child.end()
-                print(f"node: the store ended with status {status}, at {self.position}", file=sys.stderr, flush=True)
+                logger.error("the store ended with status %s, at %d", status, self.position)
                 self._count_end()
                 pause = 0.05 if self.position > before else pause
             await asyncio.sleep(pause)
@@ -121,6 +125,7 @@ class Node:
         """The store has ended: by a question that was under way, or else by the first entry that was."""
         asked, was_asked = [one for one in self._asked if not one.answer.done()], bool(self._asked)
         self._asked.clear()
+        self.count_of_ends += 1
         for one in asked:
             one.ends += 1
             if one.ends > 1:
@@ -130,6 +135,15 @@ class Node:
         self._suspect = number or self._suspect
         if not was_asked:
             self._ended_at = (number, self._ended_at[1] + 1 if number == self._ended_at[0] else 1)
+
+    @property
+    def is_running(self) -> bool:
+        return self._child is not None
+
+    @property
+    def under_way(self) -> int:
+        """How many entries the store has not answered that were sent to it."""
+        return len(self._sent)
 
     @property
     def stuck(self) -> int:
@@ -235,6 +249,7 @@ class Node:
                     self._answer_question(text)
                     continue
                 self._last = self._sent.popleft()
+                self.count_of_entries += 1
                 if self._last.number != number:
                     raise NoFrameError(f"an answer to {number}, and not to {self._last.number}")
                 if self._last.text == MARK and text == b"0":
@@ -313,7 +328,7 @@ class Appender:
         for one in some:
             if one not in stay:
                 one.placed.cancel()
-        print(f"node: {len(some) - len(stay)} requests waited for longer than entries are kept, and are left", file=sys.stderr, flush=True)
+        logger.warning("%d requests waited for longer than entries are kept, and are left", len(some) - len(stay))
         return stay
 
     async def _put(self, some: Sequence[Unplaced]) -> list[int] | None:
@@ -323,7 +338,7 @@ class Appender:
                 return await self._node.log.append([(one.name, one.text) for one in some], floor)
             except EtcdError as error:
                 # as where it is full: they wait until an operator has made room
-                print(f"node: etcd takes no entries: {error}", file=sys.stderr, flush=True)
+                logger.error("etcd takes no entries: %s", error)
                 await asyncio.sleep(1)
 
     def _take(self) -> list[Unplaced]:

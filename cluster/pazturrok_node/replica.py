@@ -6,13 +6,15 @@ import asyncio
 import contextlib
 import hashlib
 import json
+import logging
 import os
 import random
-import sys
 from collections.abc import AsyncIterator
 from typing import Any
 
 from .log import EPOCH, LAST_EPOCH, Entry, Identity, Log
+
+logger = logging.getLogger(__name__)
 
 NOTES = "replica"
 """The file beside the halves in which a node writes down what it knows of the store."""
@@ -111,7 +113,7 @@ class Replica:
 
     def will_skip(self, number: int) -> None:
         """The store is about to skip an entry."""
-        print(f"node: entry {number} is skipped, as an operator said", file=sys.stderr, flush=True)
+        logger.warning("entry %d is skipped, as an operator said", number)
         self._write(skipped=sorted({*self._noted.get("skipped", ()), number}))
 
     def saw(self, entry: Entry) -> None:

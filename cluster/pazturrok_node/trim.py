@@ -6,7 +6,7 @@ import asyncio
 import collections
 import contextlib
 import json
-import sys
+import logging
 import time
 import uuid
 from typing import Any
@@ -15,6 +15,8 @@ from .etcd import CompactedError, EtcdError, among, decoded, encoded
 from .log import Log
 from .names import Name
 from .node import MARK, Appender, Node
+
+logger = logging.getLogger(__name__)
 
 BEAT = 3.0
 """Seconds between two reports of a node."""
@@ -69,7 +71,7 @@ class Trimmer:
                 if await self._is_holder():
                     await self._trim()
             except EtcdError as error:
-                print(f"node: {error}", file=sys.stderr, flush=True)
+                logger.error("etcd: %s", error)
             await asyncio.sleep(BEAT)
 
     async def _report(self) -> None:

@@ -1,0 +1,137 @@
+"""The commands of cluster/README.md, on three places with the addresses that stand there; and members that stop. Each part gives what is
+wrong."""
+import os
+import re
+import shutil
+import signal
+import subprocess
+import time
+
+import apart
+from cluster import HERE, LONG, Client
+from refusals import ADD, begun, value
+
+TOP = os.path.join(HERE, "..", "..")
+PAGE = os.path.join(TOP, "cluster", "README.md")
+NET = "10.0.0."
+NETCAT = """nc() { python3 -c '
+import socket, sys
+one = socket.create_connection((sys.argv[2], int(sys.argv[3])))
+one.sendall(sys.stdin.buffer.read())
+one.shutdown(socket.SHUT_WR)
+while piece := one.recv(65536):
+    sys.stdout.buffer.write(piece)' "$@"; }"""
+"""What stands in for `nc -N HOST PORT` where there is none."""
+
+
+def commands():
+    """The commands of each machine, and those for two clients, as the page has them; without the one that installs packages."""
+    with open(PAGE, encoding="utf-8") as page:
+        blocks = re.findall(r"(?m)(?:^    .*\n)+", page.read())
+    machine = [line.strip() for line in blocks[0].splitlines() if "apt-get" not in line]
+    return machine, [line.strip() for line in blocks[1].splitlines()]
+
+
+def words_of_machine(lines, place, room, program):
+    """What a shell is told on a machine. The folders are those of this check, and so is the program."""
+    text = "\n".join(lines).replace("NAME=a; IP=10.0.0.1", f"NAME={'abc'[place]}; IP={NET}{place + 1}")
+    text = re.sub(r"PROGRAM=\S+;", f"PROGRAM={program};", text)
+    return text.replace("/var/lib/pazturrok", f"{room}/{place}").replace("/var/log", f"{room}/{place}")
+
+
+class Machines:
+    """Three places on which the commands of the page were carried out."""
+
+    def __init__(self, room, program):
+        self.net = apart.Apart(3, NET)
+        lines, self.clients = commands()
+        self.shells = []
+        for place in range(3):
+            shell = [*self.net.words(place), "bash", "-c", words_of_machine(lines, place, room, program) + "\nwait"]
+            with open(os.path.join(room, f"shell-{place}"), "wb") as log:
+                self.shells.append(subprocess.Popen(shell, cwd=TOP, stdin=subprocess.DEVNULL, stderr=log, start_new_session=True))
+
+    def etcd(self, place):
+        """The process of etcd on a place."""
+        told = subprocess.run(["pgrep", "-P", str(self.shells[place].pid), "-x", "etcd"], capture_output=True, text=True)
+        return int(told.stdout)
+
+    def answer(self, place, command):
+        words = [*self.net.words(place), "bash", "-c", command if shutil.which("nc") else f"{NETCAT}\n{command}"]
+        return subprocess.run(words, capture_output=True, text=True, timeout=LONG).stdout
+
+    def end(self):
+        for shell in self.shells:
+            os.killpg(shell.pid, signal.SIGKILL)
+            shell.wait()
+        self.net.end()
+
+
+def documented(folder, program):
+    """The commands of the page do what it says. Then the member of one machine is killed: its node goes on by the others."""
+    if not apart.may():
+        print("cluster: no namespaces of the network may be made here: the commands of cluster/README.md were not tried", flush=True)
+        return []
+    machines = Machines(folder, program)
+    try:
+        faults = []
+        for place in range(3):
+            started = machines.net.words(place) + ["python3", "-c", AGAIN]
+            subprocess.run(started, timeout=2 * LONG, check=True)
+        told = [machines.answer(place, command) for place, command in enumerate(machines.clients)]
+        if not re.fullmatch(r"\d+ 5\n\(1 2\)\n", told[0]) or told[1] != "ask 5\n(1 2)\n":
+            faults.append(f"the commands of the page answer {told}")
+        os.kill(machines.etcd(0), signal.SIGKILL)
+        began = time.monotonic()
+        told = machines.answer(0, machines.clients[1])
+        took = time.monotonic() - began
+        return faults + ([] if told == "ask 5\n(1 2)\n" and took < 20 else [f"without its own member a node answers {told!r} after {took:.0f} s"])
+    finally:
+        machines.end()
+
+
+AGAIN = """
+import socket, time
+until = time.monotonic() + 60
+while True:
+    try:
+        one = socket.create_connection(("127.0.0.1", 7411), 3)
+        one.sendall(b"ask 8\\n(LIST 1)\\n")
+        if one.recv(100):
+            break
+    except OSError:
+        pass
+    assert time.monotonic() < until
+    time.sleep(0.2)
+"""
+"""What asks a node until it answers."""
+
+
+def own_member(folder, program):
+    """The member that a node asks first stops, or is killed: the node goes on by the others. A node that is given one of three says so."""
+    faults, cluster = [], begun(folder, program, members=3, nodes=1)
+    try:
+        member = cluster.members[0]
+        for is_killed in (False, True):
+            member.signal(signal.SIGKILL if is_killed else signal.SIGSTOP)
+            began = time.monotonic()
+            Client(cluster.places, patience=LONG).request(b"do", ADD)
+            took = time.monotonic() - began
+            faults += [] if took < 20 else [f"without the member that it asks first a node takes {took:.0f} s"]
+            member.signal(signal.SIGCONT)
+        faults += [] if value(cluster, 0) == "7" else ["another value"]
+        faults += [] if "of 3 members" not in cluster.nodes[0].told() else ["a node that is given all members asks for more"]
+        member.child.wait()
+        member.start()
+        cluster.nodes[0].finish()
+        words = cluster.nodes[0].words
+        words[words.index("--etcd") + 1] = cluster.urls[1]
+        cluster.nodes[0].start()
+        faults += [] if value(cluster, 0) == "7" else ["another value"]
+        return faults + ([] if "--etcd names 1 of 3 members" in cluster.nodes[0].told() else ["a node that knows one member says nothing"])
+    finally:
+        cluster.end()
+
+
+LONG_ONES = ("own member",)
+PARTS = {"documented": documented, "own member": own_member}

@@ -1,0 +1,118 @@
+"""What is seen of a node from outside: its health, its figures, its lines; and how many clients may be connected. Each part gives what is
+wrong."""
+import http.client
+import json
+import os
+import re
+import signal
+import socket
+import subprocess
+import sys
+import time
+
+from cluster import LONG, NODE, Client
+from refusals import LOOK, begun, value
+
+LINE = re.compile(r"[0-9]{4}-[0-9]{2}-[0-9]{2}T[0-9]{2}:[0-9]{2}:[0-9]{2}[+-][0-9]{4} (INFO|WARNING|ERROR) .+")
+FIGURE = re.compile(r'(pazturrok_node_[a-z_]+)((?:\{[a-z]+="[^"]*"(?:,[a-z]+="[^"]*")*\})?) ([0-9.e+-]+)')
+
+
+class Monitored(http.client.HTTPConnection):
+    """A connection to the socket on which a node tells how it is."""
+
+    def __init__(self, path):
+        super().__init__("node", timeout=LONG)
+        self.path = path
+
+    def connect(self):
+        self.sock = socket.socket(socket.AF_UNIX)
+        self.sock.settimeout(LONG)
+        self.sock.connect(self.path)
+
+
+def got(path, *words, **further):
+    """The status and the text of a response."""
+    one = Monitored(path)
+    try:
+        one.request(*words, **further)
+        response = one.getresponse()
+        return response.status, response.read().decode()
+    finally:
+        one.close()
+
+
+def figures(path):
+    """The figures of a node, by their names and labels; AssertionError where a line is none."""
+    status, text = got(path, "GET", "/metrics")
+    assert status == 200 and text.endswith("\n"), text
+    lines = [line for line in text.splitlines() if not line.startswith(("# HELP ", "# TYPE "))]
+    assert all(FIGURE.fullmatch(line) for line in lines), text
+    return {found[1] + found[2]: float(found[3]) for found in map(FIGURE.fullmatch, lines)}
+
+
+def until_health(path, status):
+    """What a node tells of its health, once that has this status."""
+    deadline = time.monotonic() + LONG
+    while (told := got(path, "GET", "/health"))[0] != status and time.monotonic() < deadline:
+        time.sleep(0.3)
+    return told[0], json.loads(told[1])
+
+
+def monitored(folder, program):
+    """A node tells that it is well, and when it is not; its figures; and its lines have a time and a level."""
+    path = os.path.join(folder, "monitor")
+    cluster = begun(folder, program, nodes=1, options=("--monitor", path))
+    try:
+        faults = [] if until_health(path, 200) == (200, {"healthy": True, "troubles": []}) else ["a node that is well says otherwise"]
+        told = figures(path)
+        wanted = {'requests_total{kind="do"}': 6, 'requests_total{kind="read"}': 1, "entries_total": 6, "store_up": 1, "store_ends_total": 0, "stuck": 0}
+        faults += [f"{name}: {told.get('pazturrok_node_' + name)}" for name, count in wanted.items() if told.get("pazturrok_node_" + name) != count]
+        os.kill(cluster.store_process(0), signal.SIGKILL)
+        faults += [] if value(cluster, 0) == "5" and figures(path)["pazturrok_node_store_ends_total"] == 1 else ["an end of the store is not counted"]
+        cluster.members[0].signal(signal.SIGSTOP)
+        status, told = until_health(path, 503)
+        faults += [] if status == 503 and "no member of etcd answers" in told["troubles"][0] else [f"without etcd: {status} {told}"]
+        cluster.members[0].signal(signal.SIGCONT)
+        faults += [] if until_health(path, 200)[0] == 200 else ["a node is not well again"]
+        statuses = [got(path, *words)[0] for words in (("POST", "/health"), ("GET", "/"), ("GET", "/" + "x" * 10_000))]
+        faults += [] if statuses == [405, 404, 400] else [f"what is no request is answered {statuses}"]
+        return faults + lines_of(cluster)
+    finally:
+        cluster.end()
+
+
+def lines_of(cluster):
+    lines = cluster.nodes[0].told().splitlines()
+    odd = [line for line in lines if not LINE.fullmatch(line)]
+    faults = [f"a line without time and level: {odd[0]}"] if odd else []
+    if sum("INFO ready: the store is at " in line for line in lines) != 1:
+        faults.append("a node does not say once that it is ready")
+    told = subprocess.run([sys.executable, NODE, "--version"], capture_output=True, text=True)
+    return faults + ([] if re.fullmatch(r"pazturrok-node \d+\.\d+\.\d+\n", told.stdout) else [f"version: {told}"])
+
+
+def idle_clients(folder, program):
+    """As many clients as may be are connected and say nothing: the oldest ones go where others come. Who waits for an answer stays."""
+    path = os.path.join(folder, "monitor")
+    cluster = begun(folder, program, nodes=1, options=("--monitor", path, "--most-clients", "20"))
+    store = cluster.store_process(0)
+    try:
+        os.kill(store, signal.SIGSTOP)
+        waits = socket.create_connection(cluster.places[0], LONG)
+        waits.sendall(b"ask %d\n%s\n" % (len(LOOK), LOOK))
+        time.sleep(0.5)
+        silent = [socket.create_connection(cluster.places[0], LONG) for _ in range(60)]
+        time.sleep(1)
+        count = figures(path)["pazturrok_node_clients"]
+        faults = [] if count == 20 else [f"{count} clients are connected"]
+        os.kill(store, signal.SIGCONT)
+        faults += [] if waits.recv(100) == b"ask 1\n5\n" else ["who waited for an answer has none"]
+        faults += [] if value(cluster, 0) == "5" else ["another client has no answer"]
+        silent[0].settimeout(LONG)
+        return faults + ([] if silent[0].recv(1) == b"" else ["one that is let go is not told"])
+    finally:
+        os.kill(store, signal.SIGCONT)
+        cluster.end()
+
+
+PARTS = {"monitored": monitored, "idle clients": idle_clients}

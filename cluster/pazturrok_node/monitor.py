@@ -1,0 +1,98 @@
+"""What a monitoring system asks of a node, by HTTP on a place of its own: GET /health and GET /metrics."""
+
+from __future__ import annotations
+
+import asyncio
+import contextlib
+import json
+
+from . import VERSION
+from .clients import Clients
+from .node import Node
+
+PATIENCE = 10.0
+"""Seconds in which a request has to come."""
+
+MOST_BYTES = 8192
+"""And how many bytes it may have."""
+
+SILENCE = 5.0
+"""A node is not well where no member of etcd answers for so many seconds."""
+
+REASONS = {200: "OK", 400: "Bad Request", 404: "Not Found", 405: "Method Not Allowed", 503: "Service Unavailable"}
+
+Sample = tuple[str, float]
+"""The labels of a figure, in braces, and its value."""
+
+
+class Monitor:
+    def __init__(self, name: str, node: Node, clients: Clients) -> None:
+        self._name, self._node, self._clients = name, node, clients
+
+    async def serve(self, reader: asyncio.StreamReader, writer: asyncio.StreamWriter) -> None:
+        """Answers one request, and closes the connection."""
+        with contextlib.suppress(ConnectionError, asyncio.TimeoutError, asyncio.IncompleteReadError):
+            status, kind, text = await self._answer(reader)
+            head = f"HTTP/1.1 {status} {REASONS[status]}\r\nContent-Type: {kind}\r\nContent-Length: {len(text)}\r\nConnection: close\r\n\r\n"
+            writer.write(head.encode("ascii") + text)
+            await writer.drain()
+        writer.close()
+
+    async def _answer(self, reader: asyncio.StreamReader) -> tuple[int, str, bytes]:
+        try:
+            head = await asyncio.wait_for(reader.readuntil(b"\r\n\r\n"), PATIENCE)
+        except asyncio.LimitOverrunError:
+            return 400, "text/plain", b"a request has at most 8192 bytes\n"
+        method, _, rest = head.partition(b" ")
+        path = rest.split(b" ")[0].partition(b"?")[0]
+        if path not in (b"/health", b"/metrics"):
+            return 404, "text/plain", b"there are /health and /metrics\n"
+        if method != b"GET":
+            return 405, "text/plain", b"GET alone\n"
+        if path == b"/metrics":
+            return 200, "text/plain; version=0.0.4", self.metrics().encode("ascii")
+        troubles = self.troubles()
+        text = json.dumps({"healthy": not troubles, "troubles": troubles}) + "\n"
+        return 503 if troubles else 200, "application/json", text.encode("ascii")
+
+    def troubles(self) -> list[str]:
+        """Why this node does not answer now; nothing where it is well."""
+        found, silent = [], self._node.log.etcd.silent_seconds
+        if not self._node.is_admitted.is_set():
+            found.append("the store was not opened yet")
+        elif not self._node.is_running:
+            found.append("the store has ended, and is started again")
+        if self._node.stuck:
+            found.append(f"the store ends at entry {self._node.stuck} again and again")
+        if silent > SILENCE:
+            found.append(f"no member of etcd answers for {silent:.0f} s")
+        return found
+
+    def metrics(self) -> str:
+        """The figures, as Prometheus reads them."""
+        return "".join(figure(*one) for one in self._figures())
+
+    def _figures(self) -> list[tuple[str, str, str, list[Sample]]]:
+        node, log = self._node, self._node.log
+        is_known = node.is_admitted.is_set()
+        about = f'{{name="{self._name}",version="{VERSION}"}}'
+        requests: list[Sample] = [(f'{{kind="{kind}"}}', self._clients.requests[kind]) for kind in ("do", "ask", "read")]
+        return [
+            ("info", "gauge", "Which node this is.", [(about, 1)]),
+            ("revision", "gauge", "The revision of the last entry that the store has answered.", [("", log.revision(node.position) if is_known else 0)]),
+            ("lasting_revision", "gauge", "A revision that an opening of the store would tell.", [("", log.revision(node.lasting) if is_known else 0)]),
+            ("entries_total", "counter", "Entries that the store has answered.", [("", node.count_of_entries)]),
+            ("entries_under_way", "gauge", "Entries that were sent to the store and have no answer.", [("", node.under_way)]),
+            ("requests_total", "counter", "Requests of clients.", requests),
+            ("clients", "gauge", "Clients that are connected.", [("", self._clients.count)]),
+            ("store_up", "gauge", "Whether the store runs.", [("", node.is_running)]),
+            ("store_ends_total", "counter", "How often the store has ended by itself.", [("", node.count_of_ends)]),
+            ("stuck", "gauge", "Whether the store ends at one entry again and again.", [("", node.stuck > 0)]),
+            ("etcd_silent_seconds", "gauge", "For how long no member of etcd has answered.", [("", log.etcd.silent_seconds)]),
+        ]
+
+
+def figure(name: str, kind: str, about: str, samples: list[Sample]) -> str:
+    lines = [f"# HELP pazturrok_node_{name} {about}", f"# TYPE pazturrok_node_{name} {kind}"]
+    lines += [f"pazturrok_node_{name}{labels} {float(value):.15g}" for labels, value in samples]
+    return "".join(line + "\n" for line in lines)
