@@ -8,7 +8,7 @@ from pages import PAGES, without_blocks
 LONGEST = 40
 
 # The pages that have longer ones. The list only gets shorter: a page that has none any more may not stand here.
-LONGER = "clients/lisp/README.md cluster/README.md".split()
+LONGER = "clients/lisp/README.md".split()
 
 
 def pieces_of(text):

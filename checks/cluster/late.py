@@ -239,9 +239,11 @@ def leavers(_folder, _program):
     """Clients that ask much, read nothing and go leave no task behind."""
     from pazturrok_node.clients import Clients
 
+    from pazturrok_node.node import Told
+
     class Slow:
-        async def ask(self, text):
-            return text * 10_000
+        async def ask(self, text, _number):
+            return Told(1, text * 10_000)
 
     async def left():
         server = await asyncio.start_server(Clients(Slow(), None).serve, "127.0.0.1", 0)

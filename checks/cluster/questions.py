@@ -114,4 +114,35 @@ def guilty(folder, program):
         cluster.end()
 
 
-PARTS = {"without memory": without_memory, "innocent": innocent, "guilty": guilty}
+def exchange(place, *requests, patience=PATIENCE):
+    """The heads and texts of the answers to requests on one connection to a node."""
+    with socket.create_connection(place, patience) as one, one.makefile("rwb") as stream:
+        for head, text in requests:
+            stream.write(b"%s %d\n%s\n" % (head, len(text), text))
+        stream.flush()
+        heads_and_texts = []
+        for _ in requests:
+            head = stream.readline().split()
+            heads_and_texts.append((head, stream.read(int(head[-1]) + 1)[:-1]))
+        return heads_and_texts
+
+
+def positions(folder, program):
+    """A question with a number is answered by a store that has come so far, and tells how far that is; without one as ever."""
+    cluster, faults = begun(folder, program, nodes=2), []
+    try:
+        for turn in range(20):
+            number, told = Client(cluster.places[turn % 2 :]).request(b"do", ADD)
+            ((kind, position, _), answer_), (plain, _) = exchange(cluster.places[1 - turn % 2], (b"ask %d" % number, LOOK), (b"ask", LOOK))
+            if kind != b"ask" or int(position) < number or answer_.decode() != told or len(plain) != 2:
+                faults.append(f"after {number} {told}: {kind} {position} {answer_} {plain}")
+        try:
+            faults.append(f"a node answers before it has come so far: {exchange(cluster.places[0], (b'ask %d' % (number + 1), LOOK), patience=1)}")
+        except TimeoutError:
+            pass
+        return faults
+    finally:
+        cluster.end()
+
+
+PARTS = {"positions": positions, "without memory": without_memory, "innocent": innocent, "guilty": guilty}

@@ -12,7 +12,7 @@ from collections.abc import Awaitable, Coroutine
 from typing import Any
 
 from .etcd import EtcdError, PutBackError
-from .frames import LIMIT, NoFrameError, answer, read_request
+from .frames import LIMIT, NoFrameError, Request, answer, answer_at, read_request
 from .node import Appender, Node
 
 logger = logging.getLogger(__name__)
@@ -119,13 +119,12 @@ class Client:
     async def _take_all(self) -> None:
         before: asyncio.Task[bytes] | None = None
         while (request := await read_request(self._reader)) is not None:
-            kind, name, text = request
             self._unanswered += 1
-            self._clients.heed(self, kind)
-            if kind == "do":
-                work = await self._append((name or uuid.uuid4().hex).encode("ascii"), text)
+            self._clients.heed(self, request.kind)
+            if request.kind == "do":
+                work = await self._append((request.name or uuid.uuid4().hex).encode("ascii"), request.text)
             else:
-                work = self._ask(kind, text, before)
+                work = self._ask(request, before)
             before = asyncio.ensure_future(work)
             await self.pending.put(before)
 
@@ -145,12 +144,14 @@ class Client:
         number = await placed
         return self._held(answer(number, await self._node.answers.answer_to(number)))
 
-    async def _ask(self, kind: str, text: bytes, before: Awaitable[bytes] | None) -> bytes:
+    async def _ask(self, request: Request, before: Awaitable[bytes] | None) -> bytes:
         # it sees what the same client has sent before
         if before is not None:
             await asyncio.wait([asyncio.ensure_future(before)])
-        asked = self._node.read(text) if kind == "read" else self._node.ask(text)
-        return self._held(answer(None, await asked))
+        if request.kind == "read":
+            return self._held(answer(None, (await self._node.read(request.text)).text))
+        told = await self._node.ask(request.text, request.number or 0)
+        return self._held(answer(None, told.text) if request.number is None else answer_at(told.position, told.text))
 
     def _held(self, text: bytes) -> bytes:
         self._unread += len(text)

@@ -4,19 +4,29 @@ from __future__ import annotations
 
 import asyncio
 import re
+from typing import NamedTuple
 
 LIMIT = 1_048_576
 """The greatest length of a text."""
 
 NUMBER = r"(0|[1-9][0-9]{0,18})"
 NAME = r"([A-Za-z0-9._-]{1,100})"
-REQUEST = re.compile(rf"(?:do(?: {NAME})?|(ask|read)) {NUMBER}\n".encode())
+REQUEST = re.compile(rf"(?:do(?: {NAME})?|(ask|read)|ask {NUMBER}) {NUMBER}\n".encode())
 ANSWER = re.compile(rf"(?:{NUMBER}|ask) {NUMBER}\n".encode())
 POSITION = re.compile(rf"at {NUMBER}\n".encode())
 
 
 class NoFrameError(Exception):
     """These bytes are no frame."""
+
+
+class Request(NamedTuple):
+    """A request of a client: `do`, with a name, if it has one; `ask`, with a number, if it has one; or `read`."""
+
+    kind: str
+    name: str | None
+    number: int | None
+    text: bytes
 
 
 async def sized(reader: asyncio.StreamReader, size: int) -> bytes:
@@ -27,16 +37,17 @@ async def sized(reader: asyncio.StreamReader, size: int) -> bytes:
     return text[:-1]
 
 
-async def read_request(reader: asyncio.StreamReader) -> tuple[str, str | None, bytes] | None:
-    """A request of a client: its kind, `do`, `ask` or `read`, its name, if it has one, and its text. None at the end."""
+async def read_request(reader: asyncio.StreamReader) -> Request | None:
+    """The next request of a client. None at the end."""
     line = await reader.readline()
     if not line:
         return None
     head = REQUEST.fullmatch(line)
-    if not head or int(head[3]) > LIMIT:
+    if not head or int(head[4]) > LIMIT:
         raise NoFrameError(repr(line[:80]))
-    kind = head[2].decode() if head[2] else "do"
-    return kind, head[1].decode() if head[1] else None, await sized(reader, int(head[3]))
+    name, kind, number = (part.decode() if part else None for part in head.groups()[:3])
+    text = await sized(reader, int(head[4]))
+    return Request(kind or ("ask" if number else "do"), name, int(number) if number else None, text)
 
 
 async def read_answer(reader: asyncio.StreamReader) -> tuple[int | None, bytes] | None:
@@ -56,6 +67,10 @@ def message(number: int, text: bytes) -> bytes:
 
 def question(text: bytes) -> bytes:
     return b"ask %d\n%s\n" % (len(text), text)
+
+
+def answer_at(position: int, text: bytes) -> bytes:
+    return b"ask %d %d\n%s\n" % (position, len(text), text)
 
 
 def answer(number: int | None, text: bytes) -> bytes:

@@ -44,12 +44,19 @@ MOST_BYTES = 1_000_000
 """And so many bytes of them, but for one entry alone: etcd takes requests of 1.5 MB."""
 
 
+class Told(NamedTuple):
+    """What a store answers to a question, and its position then."""
+
+    position: int
+    text: bytes
+
+
 class Question:
     """A question of a client, what will have its answer, and how often the store has ended while it was under way."""
 
     def __init__(self, text: bytes) -> None:
         self.text, self.ends = text, 0
-        self.answer: asyncio.Future[bytes] = asyncio.get_running_loop().create_future()
+        self.answer: asyncio.Future[Told] = asyncio.get_running_loop().create_future()
 
 
 class Node:
@@ -83,14 +90,16 @@ class Node:
 
     # What clients want
 
-    async def ask(self, text: bytes) -> bytes:
-        """What the store answers to a question, as far as it has come."""
+    async def ask(self, text: bytes, number: int = 0) -> Told:
+        """What the store answers to a question, as far as it has come, which is to this number at least."""
+        if number > self.position:
+            await self._until(lambda: self.position >= number)
         one = Question(text)
         self._unasked.append(one)
         self._ask_all()
         return await one.answer
 
-    async def read(self, text: bytes) -> bytes:
+    async def read(self, text: bytes) -> Told:
         """What it answers after all entries that were in the log when this was called."""
         last = await self.log.last()
         await self._until(lambda: self._reached[0] >= last)
@@ -129,7 +138,7 @@ class Node:
         for one in asked:
             one.ends += 1
             if one.ends > 1:
-                one.answer.set_result(NO_MEMORY)
+                one.answer.set_result(Told(self.position, NO_MEMORY))
         self._unasked.extendleft(one for one in reversed(asked) if not one.answer.done())
         number = self._sent[0].number if self._sent else 0
         self._suspect = number or self._suspect
@@ -260,7 +269,7 @@ class Node:
     def _answer_question(self, text: bytes) -> None:
         one = self._asked.popleft()
         if not one.answer.done():
-            one.answer.set_result(text)
+            one.answer.set_result(Told(self.position, text))
         if not self._asked:
             self._are_answered.set()
 
