@@ -5,7 +5,6 @@ import os
 import re
 import shutil
 import subprocess
-import sys
 import time
 
 TOP = os.path.dirname(os.path.dirname(os.path.abspath(__file__)))
@@ -124,7 +123,7 @@ class Run:
         for line in why:
             self.say(f"{check.name}: {line}")
         if failed:
-            said = [it for it in lines if it.strip()][-LAST_LINES:]
+            said = [it for it in lines if it.strip() and not verdict_of(it)][-LAST_LINES:]
             self.notes.append(f"{self.who}: {check.name} FAILED; its last lines:")
             self.notes += [f"    {it}" for it in [*said, *more[-LAST_LINES:], *why]]
         return passed, failed
@@ -143,9 +142,9 @@ class Run:
     def whole(self, check):
         """Runs a check, and returns it, how it ended, and in how many seconds."""
         began = time.monotonic()
-        how = {"cwd": TOP, "stdin": subprocess.DEVNULL, "text": True, "errors": "replace", "check": False}
+        how = {"cwd": TOP, "stdin": subprocess.DEVNULL, "capture_output": True, "text": True, "errors": "replace"}
         try:
-            ended = subprocess.run(self.command(check), capture_output=True, **how)
+            ended = subprocess.run(self.command(check), check=False, **how)
         except OSError as error:
             ended = subprocess.CompletedProcess(check.words, 127, "", f"it does not start: {error}\n")
         return check, ended, time.monotonic() - began
@@ -167,10 +166,7 @@ class Run:
     def show(self, check, ended, seconds, number):
         lines, more = ended.stdout.splitlines(), ended.stderr.splitlines()
         self.say(check.name)
-        for line in [it for it in lines if not verdict_of(it)]:
-            print(line)
-        for line in more:
-            print(line, file=sys.stderr)
+        print(*[it for it in lines if not verdict_of(it)], *more, sep="\n")
         passed, failed = self.count(check, ended.returncode, lines, more)
         self.say(f"{check.name}: {passed} passed, {failed} failed in {seconds:.0f} s, {self.ended} of {number} checks")
 
