@@ -7,7 +7,13 @@ _pazturrok() {
     case ${COMP_WORDS[1]} in
         help) words='run snapshot upgrade export dump verify show info log backup check help' kind= ;;
         build) words=--anew kind= ;;
-        run) words='--existing --rescue --strict --group --snapshot-every --snapshot-ratio --quiet --help --messages' ;;
+        run | try)
+            words='--existing --rescue --strict --group --snapshot-every --snapshot-ratio --quiet --help --messages'
+            case " ${COMP_WORDS[*]} " in
+                *' --messages '*) words='--existing --messages --snapshot-every --help' ;;
+                *' --rescue '* | *' --strict '* | *' --group '* | *' --snapshot-ratio '* | *' --quiet '*) words='--existing --rescue --strict --group --snapshot-every --snapshot-ratio --quiet --help' ;;
+            esac
+            ;;
         snapshot) words='--existing --help' ;;
         upgrade) words='--existing --help' ;;
         export) words='--existing --data --help' ;;
@@ -18,7 +24,6 @@ _pazturrok() {
         log) words='--existing --from --places --help' ;;
         backup) words='--existing --help' ;;
         check) words='--store --help' kind=-f ;;
-        try) words='--existing --rescue --strict --group --snapshot-every --snapshot-ratio --quiet --help --messages' ;;
     esac
     if [ "$COMP_CWORD" -eq 1 ]; then
         words='run snapshot upgrade export dump verify show info log backup check help try build install --help --version'
