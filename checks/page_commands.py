@@ -25,7 +25,7 @@ def texts(code):
 def options(code):
     """The options by their names: what their value is called, if they have one, and what they do."""
     known, found, said = texts(code), {}, ""
-    words = r'let help\s*=\s*"([^"]*)"|\b(?:flag|option)\(\s*alloc,\s*(\w+),\s*(?:"(\w+)",\s*)?(?:help|"([^"]*)")\s*,?\s*\)|Arg::new\(alloc, (\w+)\)'
+    words = r'let help\s*=\s*"([^"]*)"|\b(?:with_)?(?:flag|option)\(\s*(?:command,\s*)?alloc,\s*(\w+),\s*(?:"(\w+)",\s*)?(?:help|"([^"]*)")\s*,?\s*\)|Arg::new\(alloc, (\w+)\)'
     for text, name, value, own, _ in re.findall(words, code):
         if text:
             said = text
