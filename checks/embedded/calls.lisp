@@ -4,25 +4,17 @@
 (require :asdf)
 (let ((*standard-output* (make-broadcast-stream)) (*error-output* (make-broadcast-stream)))
   (asdf:load-asd (merge-pathnames "../../clients/lisp/pazturrok-client.asd" *load-truename*))
-  (asdf:load-system "pazturrok-client"))
+  (asdf:load-system "pazturrok-client")
+  (dolist (name '("harness" "interrupts"))
+    (load (merge-pathnames (format nil "../lisp/~A.lisp" name) *load-truename*))))
 
-(defpackage "EMBEDDED-CHECK" (:use "COMMON-LISP" "PAZTURROK-CLIENT"))
+(defpackage "EMBEDDED-CHECK"
+  (:use "COMMON-LISP" "PAZTURROK-CLIENT")
+  (:import-from "PAZTURROK-CHECK" "EXPECT" "SIGNALLED" "*PASSED*" "*FAILED*"))
 (in-package "EMBEDDED-CHECK")
-
-(defvar *passed* 0)
-(defvar *failed* 0)
 
 (defun folder (name)
   (concatenate 'string (string-right-trim "/" (uiop:getenv "PAZTURROK_FOLDER")) "/" name "/"))
-
-(defun expect (what wanted got)
-  (if (equalp wanted got)
-      (incf *passed*)
-      (progn (incf *failed*) (format t "lisp: ~A: wanted ~S, got ~S~%" what wanted got))))
-
-(defmacro signalled (&body body)
-  "The name of the condition that BODY signals, and the condition; or :NOTHING."
-  `(handler-case (progn ,@body :nothing) (store-error (condition) (values (type-of condition) condition))))
 
 (defun elsewhere ()
   (multiple-value-bind (name condition) (signalled (open-store :library (folder "store")))
@@ -122,6 +114,13 @@
       (expect "the store goes on" 1 (send store 1)))))
 
 #+sb-thread
+(defun interrupts ()
+  (with-store (store :library (folder "interrupted")) (pazturrok-check::check-interrupted-store store))
+  (with-feed (feed :library (folder "interrupted feed"))
+    (feed-form feed "(SETF (GET 'N 'N) 0)")
+    (pazturrok-check::check-interrupted-feed feed "(INCF (GET 'N 'N))" "(GET 'N 'N)")))
+
+#+sb-thread
 (defun other-threads ()
   (with-store (store :library (folder "threads"))
     (expect "deep lists in a thread of the usual stack" 97
@@ -149,7 +148,7 @@
 (handler-case
     #-sbcl (elsewhere)
     #+sbcl (progn (values-come-back) (ten-thousand-forms) (conditions-and-restarts) (packages) (messages)
-                  #+sb-thread (unwindings) #+sb-thread (other-threads)
+                  #+sb-thread (unwindings) #+sb-thread (interrupts) #+sb-thread (other-threads)
                   (a-store-that-is-let-go-is-closed))
   (error (condition) (incf *failed*) (format t "lisp: ~A~%" condition)))
 (format t "~D passed, ~D failed~%" *passed* *failed*)

@@ -16,7 +16,7 @@ from fractions import Fraction
 from typing import Any
 from unittest import mock
 
-from interrupts import interrupting
+from interrupts import interrupting, is_enough
 from pazturrok import (
     BrokenStoreError,
     Character,
@@ -217,7 +217,7 @@ class Embedded(unittest.TestCase):
     def test_a_handler_within_a_call_is_refused(self) -> None:
         store, feed = self.store(), self.feed()
         with interrupting(lambda: store.execute("(LIST 2222)")) as counts:
-            while counts["refused"] < 200:
+            while not is_enough(counts):
                 self.assertEqual(store.execute("(LIST 1111)"), [1111])
                 self.assertEqual(store.answer("(LIST 3333)"), "(3333)")
                 self.assertEqual(store.execute_all(["1", "2"]), [1, 2])
@@ -225,7 +225,7 @@ class Embedded(unittest.TestCase):
         feed.do_all(["(SETF (GET 'N 'IN) 0)", "(SETF (GET 'N 'OUT) 0)"])
         out = 0
         with interrupting(lambda: feed.do("(PROGN (INCF (GET 'N 'IN)) T)")) as counts:
-            while counts["refused"] < 200:
+            while not is_enough(counts):
                 out += 2
                 self.assertEqual(feed.do_all(["(INCF (GET 'N 'OUT))"] * 2), [out - 1, out])
         inside = sum(counts.values()) - counts["refused"]

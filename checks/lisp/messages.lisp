@@ -43,3 +43,9 @@
   (multiple-value-bind (name condition) (signalled (open-feed "/bin/false" (subfolder "none")))
     (expect "is not started again" 'stopped name)
     (expect "its status" 1 (stopped-status condition))))
+
+#+sb-thread
+(define-check interrupts-within-messages ()
+  (with-feed (feed *serving* (subfolder "interrupted feed"))
+    (feed-form feed "(SETF (GET 'NT 'KY) 0)")
+    (check-interrupted-feed feed "(INCF (GET 'NT 'KY))" "(GET 'NT 'KY)")))

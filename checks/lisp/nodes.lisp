@@ -55,3 +55,7 @@
 (define-check no-node-at-all ()
   (with-nodes (feed '("127.0.0.1:1" "/no/socket") :time-limit 1/2)
     (expect "no node" 'no-node (signalled (feed-form feed *add*)))))
+
+#+sb-thread
+(define-check interrupts-within-requests ()
+  (call-with-standing-nodes "0" (lambda (nodes) (with-nodes (feed nodes) (check-interrupted-feed feed *add* *look*)))))

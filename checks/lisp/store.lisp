@@ -186,3 +186,16 @@
     (expect "the first goes on" 1 (send store 1)))
   (with-new-store (store "locked")
     (expect "it can be opened after it" 1 (send store 1))))
+
+#+sb-thread
+(define-check interrupts-within-calls ()
+  (with-new-store (store "interrupted") (check-interrupted-store store)))
+
+(define-check handlers-may-call-the-store ()
+  (with-new-store (store "handled")
+    (expect "a handler makes what was missing" 7
+            (handler-bind ((refused (lambda (condition)
+                                      (declare (ignore condition))
+                                      (send store '(make-package "LATER"))
+                                      (invoke-restart 'retry-form))))
+              (send-text store "(setf (get 'later::a 'b) 7)")))))

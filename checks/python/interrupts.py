@@ -11,6 +11,14 @@ from pazturrok import NestedCallError
 
 EVERY = 0.0003
 """How many seconds are between two of its calls."""
+ENOUGH = 100
+"""How often it has to come within a call."""
+
+
+def is_enough(counts: collections.Counter[str]) -> bool:
+    """Whether it came within a call so often. It fails where it comes, and is never refused."""
+    assert sum(counts.values()) < 200 * ENOUGH, counts
+    return counts["refused"] >= ENOUGH
 
 
 @contextlib.contextmanager

@@ -9,7 +9,7 @@ from collections.abc import Callable
 from typing import Any
 from unittest import mock
 
-from interrupts import interrupting
+from interrupts import interrupting, is_enough
 from pazturrok import MessageStore, NestedCallError, NodeStore, Store, Symbol
 from pazturrok.store import State
 from support import LONG, PROGRAM, StoreTest
@@ -18,20 +18,18 @@ sys.path.insert(0, os.path.join(os.path.dirname(os.path.abspath(__file__)), ".."
 
 from fake_nodes import ADD, FakeNodes  # noqa: E402
 
-ENOUGH = 100
-
 
 class Interrupts(StoreTest):
     def count_in_turn(self, outer: Callable[[], Any], inner: Callable[[], Any]) -> int:
         """Both increment one counter. Gives how often it was done; each value has to be that of its own call."""
-        last = refused = 0
+        last = 0
         found: list[int] = []
         with interrupting(lambda: found.append(inner())) as counts:
-            while refused < ENOUGH:
+            while not is_enough(counts):
                 value = outer()
                 self.assertGreater(value, last)
                 self.assertNotIn(value, found)
-                last, refused = value, counts["refused"]
+                last = value
                 found.append(value)
         self.assertEqual(list(range(1, len(found) + 1)), sorted(found))
         return len(found)
@@ -39,7 +37,7 @@ class Interrupts(StoreTest):
     def test_a_store_over_a_program(self) -> None:
         store = self.store(time_limit=LONG)
         with interrupting(lambda: store.execute("(LIST 2222)")) as counts:
-            while counts["refused"] < ENOUGH:
+            while not is_enough(counts):
                 self.assertEqual([1111], store.execute("(LIST 1111)"))
         self.assertLessEqual(set(counts), {"[2222]", "refused"})
         store.execute("(SETF (GET 'N 'N) 0)")

@@ -68,6 +68,16 @@ known, and the store is broken."))
    "An earlier form was left within its answer, by an error, a time limit or any other unwinding. What
 the program still has to say would be taken for the answer of another form, so nothing is sent."))
 
+(define-condition nested-call (broken) ()
+  (:report "this thread is within another call on the store, which goes on")
+  (:documentation
+   "An interrupt or a finalizer called within another call of its thread on the store, which goes on. Nothing was
+sent, and there is nothing to open again."))
+
+(deftype own-error ()
+  "What a call signals of the store itself; a nested call is an interrupt's, which came between."
+  '(and store-error (not nested-call)))
+
 (define-condition fault (store-error)
   ((number :initarg :number :reader fault-number)
    (name :initarg :name :reader fault-name)

@@ -110,9 +110,9 @@ one thread at a time."
 
 (defun call-feed-library (feed function &rest arguments)
   "What a call of the library gives. After a fault the next one opens the store again."
-  (handler-bind (((or fault broken) (lambda (condition)
-                                      (declare (ignore condition))
-                                      (leave feed))))
+  (handler-bind (((and own-error (or fault broken)) (lambda (condition)
+                                                      (declare (ignore condition))
+                                                      (leave feed))))
     (apply function (feed-program feed) arguments)))
 
 (defun killed-p (condition)
@@ -163,8 +163,9 @@ and EXISTING are those of OPEN-STORE. One feed at a time may be open on a store.
 
 (defun close-feed (feed)
   "Ends the program, and gives its status; or leaves the nodes. What was answered is in the store."
-  (setf (feed-closed-p feed) t)
-  (if (node-feed-p feed) (leave-node feed) (values (leave feed))))
+  (alone (feed)
+    (setf (feed-closed-p feed) t)
+    (if (node-feed-p feed) (leave-node feed) (values (leave feed)))))
 
 (defmacro with-feed ((feed program folder &rest options) &body body)
   "Evaluates BODY with FEED bound to what OPEN-FEED gives, and closes it."
@@ -270,8 +271,9 @@ and EXISTING are those of OPEN-STORE. One feed at a time may be open on a store.
     (loop while texts
           nconc (let ((some (subseq texts 0 (first-texts texts (if (embedded-p feed) +library-room+ +pipe-room+)))))
                   (setf texts (nthcdr (length some) texts))
-                  (prog1 (send-messages feed some)
-                    (when (changes-naming-p (first (last some))) (ask-feed-naming feed)))))))
+                  (alone (feed)
+                    (prog1 (send-messages feed some)
+                      (when (changes-naming-p (first (last some))) (ask-feed-naming feed))))))))
 
 (defun feed-form (feed form)
   "Has one form carried out, once, and gives its value."
@@ -289,8 +291,9 @@ and EXISTING are those of OPEN-STORE. One feed at a time may be open on a store.
 (defun feed-snapshot (feed)
   "Takes a snapshot of a store in this process, as SNAPSHOT."
   (unless (embedded-p feed) (error "the store is a program, and no library in this process"))
-  (make-feed-ready feed)
-  (let ((line (call-feed-library feed #'library-snapshot)))
+  (let ((line (alone (feed)
+                (make-feed-ready feed)
+                (call-feed-library feed #'library-snapshot))))
     (when line
       (multiple-value-bind (number name) (refusal-of line)
         (error 'refused :number number :name name)))))
@@ -298,5 +301,6 @@ and EXISTING are those of OPEN-STORE. One feed at a time may be open on a store.
 (defun ask (feed form)
   "Asks for the value of a form, which may change nothing; of nodes one is asked, as far as its store has come."
   (let* ((text (feed-text feed form))
-         (outcome (feed-outcome feed (if (node-feed-p feed) (ask-nodes feed "ask" text) (ask-program feed text)))))
+         (outcome (alone (feed)
+                    (feed-outcome feed (if (node-feed-p feed) (ask-nodes feed "ask" text) (ask-program feed text))))))
     (if (typep outcome 'store-error) (error outcome) outcome)))

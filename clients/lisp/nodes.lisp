@@ -147,10 +147,10 @@ PACKAGE and INTERN are those of OPEN-STORE."
 
 (defun send-named (feed name form)
   "Has a form carried out under a name of one's own, once with all that is sent under it, and gives its value."
-  (let ((outcome (first (send-to-nodes feed (list (feed-text feed form)) name))))
+  (let ((outcome (alone (feed) (first (send-to-nodes feed (list (feed-text feed form)) name)))))
     (if (typep outcome 'store-error) (error outcome) outcome)))
 
 (defun ask-fresh (feed form)
   "Asks after all that was answered before, by any node, to anybody."
-  (let ((outcome (feed-outcome feed (ask-nodes feed "read" (feed-text feed form)))))
+  (let ((outcome (alone (feed) (feed-outcome feed (ask-nodes feed "read" (feed-text feed form))))))
     (if (typep outcome 'store-error) (error outcome) outcome)))

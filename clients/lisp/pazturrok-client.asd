@@ -9,6 +9,7 @@
                (:file "printer")
                (:file "answers")
                (:file "texts")
+               (:file "calls")
                (:file "process")
                (:file "library")
                (:file "store")
@@ -24,6 +25,7 @@
                                                (uiop:pathname-parent-directory-pathname *load-truename*)))
   :serial t
   :components ((:file "harness")
+               (:file "interrupts")
                (:file "texts")
                (:file "store")
                (:file "messages")

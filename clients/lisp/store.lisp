@@ -60,13 +60,17 @@ session."
       (exchange-in-process store texts receive seconds)
       (exchange-by-pipe store texts receive seconds)))
 
+(defmacro breaking-on-fault ((store) &body body)
+  "What BODY gives, which calls the library. After a fault the store is broken."
+  `(handler-bind (((and own-error (or fault broken)) (lambda (condition)
+                                                       (declare (ignore condition))
+                                                       (setf (store-state ,store) :broken))))
+     ,@body))
+
 (defun exchange-in-process (store texts receive seconds)
   "No answer is left unread here, so only a fault breaks the store."
   (when seconds (error "a store in this process has no time limits"))
-  (handler-bind (((or fault broken) (lambda (condition)
-                                      (declare (ignore condition))
-                                      (setf (store-state store) :broken))))
-    (mapc receive (library-answers (store-program store) texts)))
+  (breaking-on-fault (store) (mapc receive (library-answers (store-program store) texts)))
   (incf (store-round-trips store))
   (setf (store-state store) :good))
 
@@ -179,22 +183,24 @@ OPTIONS are further words of the command line, as (\"--snapshot-every\" \"1000\"
 
 (defun call-library (store function)
   (unless (in-process-p store) (error "the store is a program, and no library in this process"))
-  (make-ready store)
-  (handler-bind (((or fault broken) (lambda (condition)
-                                      (declare (ignore condition))
-                                      (setf (store-state store) :broken))))
-    (funcall function (store-program store))))
+  (alone (store)
+    (make-ready store)
+    (breaking-on-fault (store) (funcall function (store-program store)))))
 
 (defun close-store (store)
   "Ends the session, and gives the status of the program. What was answered is in the store. It waits ten
 seconds at most for the program, and then kills it."
+  (alone (store) (close-program store)))
+
+(defun close-program (store)
   (when (store-program store)
     (values (end-session store :closed))))
 
 (defun reopen-store (store)
   "Ends the program if it still runs, and opens the store again."
-  (close-store store)
-  (open-program store)
+  (alone (store)
+    (close-program store)
+    (open-program store))
   store)
 
 (defmacro with-store ((store program folder &rest options) &body body)
@@ -208,10 +214,11 @@ BODY was read, if the options have none."
 (defun check-homes (store homes form seconds)
   "Signals that FORM cannot be sent if it names a package that the store has not."
   (dolist (home (set-difference homes (store-homes store) :test #'string=))
-    (make-ready store)
-    (when (refusal-of (answer-to store (format nil "(IMPORT NIL ~A)" (string-text home)) seconds))
-      (cannot-send form "the store has no package ~S" home))
-    (push home (store-homes store))))
+    (alone (store)
+      (make-ready store)
+      (when (refusal-of (answer-to store (format nil "(IMPORT NIL ~A)" (string-text home)) seconds))
+        (cannot-send form "the store has no package ~S" home))
+      (push home (store-homes store)))))
 
 (defun sendable-text (store form seconds)
   "The text of a form that is an object."
@@ -256,12 +263,13 @@ BODY was read, if the options have none."
 (defun carry-out (store texts seconds)
   "Sends the texts of forms at once. Gives the outcomes of those that were answered, which are the first
 ones, and the condition that kept it from going on, or NIL."
-  (let ((answers '()) (hindrance nil))
-    (handler-case
-        (progn (make-ready store)
-               (exchange store texts (lambda (answer) (push answer answers)) seconds))
-      (store-error (condition) (setf hindrance condition)))
-    (values (and answers (outcomes store texts (nreverse answers) seconds)) hindrance)))
+  (alone (store)
+    (let ((answers '()) (hindrance nil))
+      (handler-case
+          (progn (make-ready store)
+                 (exchange store texts (lambda (answer) (push answer answers)) seconds))
+        (own-error (condition) (setf hindrance condition)))
+      (values (and answers (outcomes store texts (nreverse answers) seconds)) hindrance))))
 
 (defconstant +pipe-room+ 4000
   "How many characters are sent before their answers are read: as many as any pipe takes. So no pipe is ever

@@ -1,0 +1,19 @@
+;;;; Calls on a store: one at a time in a thread.
+
+(in-package "PAZTURROK-CLIENT")
+
+(defvar *calls-under-way* '() "The stores and feeds of which this thread is within a call.")
+
+(defun call-alone (store function)
+  "What FUNCTION gives, within which no other call on STORE, or feed, begins in this thread: one of an interrupt or a
+finalizer is refused, as each would take what is answered for its own. What is signalled of the store is signalled
+after it, so a handler may call the store."
+  (when (member store *calls-under-way* :test #'eq) (error 'nested-call))
+  (error (block call
+           (handler-case (return-from call-alone
+                           (let ((*calls-under-way* (cons store *calls-under-way*))) (funcall function)))
+             (own-error (condition) (return-from call condition))))))
+
+(defmacro alone ((store) &body body)
+  "What BODY gives, which is alone on STORE, or a feed."
+  `(call-alone ,store (lambda () ,@body)))
