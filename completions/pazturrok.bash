@@ -6,14 +6,17 @@ _pazturrok() {
     COMPREPLY=()
     case ${COMP_WORDS[1]} in
         help) words='run snapshot upgrade export dump verify show info log backup check help' kind= ;;
+        compile) kind= ;;
         build) words=--anew kind= ;;
-        run | try)
+        run)
             words='--existing --rescue --strict --group --snapshot-every --snapshot-ratio --quiet --help --messages'
             case " ${COMP_WORDS[*]} " in
                 *' --messages '*) words='--existing --messages --snapshot-every --help' ;;
                 *' --rescue '* | *' --strict '* | *' --group '* | *' --snapshot-ratio '* | *' --quiet '*) words='--existing --rescue --strict --group --snapshot-every --snapshot-ratio --quiet --help' ;;
             esac
             ;;
+        install) words=--all ;;
+        release) kind=-f ;;
         snapshot) words='--existing --help' ;;
         upgrade) words='--existing --help' ;;
         export) words='--existing --data --help' ;;
@@ -26,7 +29,7 @@ _pazturrok() {
         check) words='--store --help' kind=-f ;;
     esac
     if [ "$COMP_CWORD" -eq 1 ]; then
-        words='run snapshot upgrade export dump verify show info log backup check help try build install --help --version'
+        words='run snapshot upgrade export dump verify show info log backup check help compile build install release --help --version'
         kind=
     fi
     case ${COMP_WORDS[COMP_CWORD - 1]} in

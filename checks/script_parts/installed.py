@@ -1,0 +1,85 @@
+"""An installed program, with all or without, and a release."""
+import hashlib
+import os
+import re
+import shutil
+import subprocess
+import tarfile
+
+from calls import PLAIN, called, check, is_refused
+
+
+def completed(text, *words):
+    """What bash completes a line of words to."""
+    line = ". \"$0\"; COMP_WORDS=(\"$@\") COMP_CWORD=$(($# - 1)); _pazturrok; echo \"${COMPREPLY[*]}\""
+    done = subprocess.run(["bash", "-c", line, text, *words], capture_output=True, text=True, check=False)
+    return done.stdout.split(), done.stderr
+
+
+def text_of(*path):
+    with open(os.path.join(*path), encoding="utf-8") as file:
+        return file.read()
+
+
+def check_proved(script, room):
+    """A proved program below a prefix, which is then moved."""
+    for words in (["install"], ["install", ""], ["install", "a", "b"], ["install", "--all"], ["install", "a", "--more"], ["build", "more"]):
+        is_refused("words", script, *words, says="takes")
+    prefix = os.path.join(room, "prefix")
+    done = called(script, "install", prefix)
+    check("install", (done[0], done[1].count(prefix.encode()), done[2]), (0, 5, b""))
+    moved = os.path.join(room, "moved")
+    os.rename(prefix, moved)
+    there = os.path.join(moved, "bin", "pazturrok")
+    check("what is installed runs", called(there, "run", os.path.join(room, "store"), stdin=b"(LIST 1)"), (0, b"(1)\n", b""))
+    is_refused("installed", there, "run", os.path.join(room, "store"), says="write a number", PAZTURROK_MEMORY="abc")
+    for word in ("compile", "build", "install", "release"):
+        is_refused("installed", there, word, room, says="is installed")
+    origin = text_of(moved, "share", "doc", "pazturrok", "ORIGIN")
+    check("it is told what is installed", ("commit: 0123abc\n" in origin, "sha256 of store_program: " in origin, "not proved" in origin), (True, True, False))
+    if shutil.which("bash"):
+        check("completions are installed", completed(os.path.join(moved, "share", "bash-completion", "completions", "pazturrok"), "pazturrok", "in"), (["info"], ""))
+    helps = [called(there, *words)[1].decode() for words in (["--help"], ["help"], ["run", "--help"], ["help", "show"])]
+    check("its help has its name", [("./pazturrok" in text, "pazturrok " in text) for text in helps], [(False, True)] * 4)
+    check("its help with wrong words", called(there, "run", "--bogus", "--help")[0], 2)
+    page = os.path.join(moved, "share", "man", "man1", "pazturrok.1")
+    manual, usage = text_of(page), helps[2].splitlines()[0]
+    check("the manual page has the help", (usage.replace("-", "\\-") in manual, manual.count(".SS ") > 5, ".SS run \\-\\-messages\n" in manual), (True, True, True))
+    if shutil.which("groff"):
+        linted = subprocess.run(["groff", "-man", "-ww", "-Tascii", "-z", page], capture_output=True, check=False)
+        check("the manual page is well formed", (linted.returncode, linted.stderr), (0, b""))
+
+
+# What `install --all` puts there beside the program.
+ALL = ("bin/pazturrok-node", "lib/pazturrok/cluster/pazturrok_node/main.py", "lib/systemd/system/pazturrok-node.service", "share/pazturrok/pazturrok.env",
+       "share/pazturrok/python/src/pazturrok/__init__.py", "share/common-lisp/source/pazturrok-client/pazturrok-client.asd")
+
+
+def check_compiled(kit, room):
+    """A program that is compiled and not proved, with all that goes with it, below a prefix and as a release."""
+    prefix, store = os.path.join(room, "all"), os.path.join(room, "of-all")
+    status, _, err = kit.called("install", "--all", prefix)
+    check("install --all", (status, [os.path.exists(os.path.join(prefix, name)) for name in ALL], b"will say so at each start" in err, b"the library for C is left out" in err),
+          (0, [True] * len(ALL), True, True))
+    there = os.path.join(prefix, "bin", "pazturrok")
+    check("it says what it is", called(there, "run", store, stdin=b"(LIST 1)"), (0, b"(1)\n", b"pazturrok: compiled, not proved\n"))
+    check("its origin", "compiled, not proved: compiled with a kit in the place of the kit\n" in text_of(prefix, "share", "doc", "pazturrok", "ORIGIN"), True)
+    check("the node starts", (called(os.path.join(prefix, "bin", "pazturrok-node"), "--help")[0],
+                              f"ExecStart={prefix}/lib/pazturrok/cluster/pazturrok-node " in text_of(prefix, "lib", "systemd", "system", "pazturrok-node.service")), (0, True))
+    files = [os.path.join(room, name) for name in ("one.tar.gz", "two.tar.gz")]
+    told = [kit.called("release", file) for file in files]
+    check("a release", [(status, out[64:]) for status, out, _ in told], [(0, f"  {file}\n".encode()) for file in files])
+    if told[0][0]:
+        print(told[0][2].decode())
+        return
+    with open(files[0], "rb") as file:
+        check("the same is packed as the same", [out[:64].decode() for _, out, _ in told], [hashlib.sha256(file.read()).hexdigest()] * 2)
+    with tarfile.open(files[0]) as packed:
+        names = packed.getnames()
+        packed.extractall(os.path.join(room, "unpacked"))
+    folder = os.path.join(room, "unpacked", names[0])
+    check("its name says what it is", re.fullmatch(r"pazturrok-[\d.]+-.*-not-proved", names[0]) is not None, True)
+    summed = subprocess.run(["sha256sum", "--quiet", "-c", "SHA256SUMS"], cwd=folder, capture_output=True, check=False)
+    check("its sums", (summed.returncode, summed.stdout, len(text_of(folder, "SHA256SUMS").splitlines()) > 50), (0, b"", True))
+    check("it runs where it lies", called(os.path.join(folder, "bin", "pazturrok"), "run", store, stdin=b"(LIST 1)", PATH=PLAIN),
+          (0, b"(1)\n", b"pazturrok: compiled, not proved\n"))

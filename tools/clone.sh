@@ -1,0 +1,300 @@
+# shellcheck shell=sh disable=SC2034,SC2154
+# What `pazturrok` does in a clone of the repository, where it also makes the program. It is a part of that script, and no command.
+
+crate=$top/crates/store_program
+# The proved program, and beside it the one that is compiled without proof. Of each, what it was made from: a sum of the sources, and the commit
+# that they are of.
+proved=$crate/out/store_program
+built_from=$crate/out/built_from
+compiled=$crate/out/compiled_program
+compiled_from=$crate/out/compiled_from
+texts=$top/crates/command_words/src/help.rt
+
+OTHER_SOURCES="the program was built from other sources than those of this clone; ./pazturrok build proves and builds it anew, ./pazturrok compile compiles it without proof"
+
+# ---- rooms, and turns
+
+# Makes a folder that goes when the script ends, however it ends, and sets `room`.
+make_room() {
+    room=$(mktemp -d "${TMPDIR:-/tmp}/pazturrok-XXXXXX") || refuse "no folder can be made in ${TMPDIR:-/tmp}"
+    trap 'rm -rf "$room" || true' EXIT
+    trap 'exit 129' HUP
+    trap 'exit 130' INT
+    trap 'exit 143' TERM
+}
+
+leave_room() {
+    rm -rf "$room"
+    trap - EXIT HUP INT TERM
+}
+
+# How many megabytes are free where a folder stands.
+megabytes_free() {
+    df -Pk "$1" | awk 'NR == 2 { print int($4 / 1024) }'
+}
+
+# Waits until no other call of this clone does the same, which the first word names.
+take_turn() {
+    if ! { mkdir -p "$crate/out" && : >>"$crate/out/$1"; } 2>/dev/null; then
+        refuse "$crate/out cannot be written, and the program is kept there"
+    fi
+    exec 9>>"$crate/out/$1"
+    if ! flock -n 9; then
+        say "another call is $1 in this clone: waiting for it"
+        flock 9
+    fi
+}
+
+leave_turn() {
+    exec 9>&-
+}
+
+require_rt() {
+    command -v rt >/dev/null || refuse "rt, the command that compiles and proves, is not found: CONTRIBUTING.md says how to set up"
+}
+
+# ---- the sources
+
+# The crates that a crate stands on, and it, each after those that it uses.
+crates_of() {
+    awk -F: -v wanted="$1" '
+        /^[a-z]/ { split($1, head, " "); libraries[head[1]] = $2 }
+        function visit(name,    uses, count, at) {
+            if (name in seen || !(name in libraries))
+                return
+            seen[name] = 1
+            count = split(libraries[name], uses, " ")
+            for (at = 1; at <= count; at++)
+                visit(uses[at])
+            print name
+        }
+        END { visit(wanted) }' "$top/crates.txt"
+}
+
+# The folders of all that the program is compiled from, below the clone.
+sources() {
+    crates_of store_program | sed 's|.*|crates/&/src|'
+}
+
+# A sum of what is in them.
+sum_of_sources() {
+    # shellcheck disable=SC2046 # a folder each
+    (cd "$top" && find $(sources) -type f 2>/dev/null | LC_ALL=C sort | xargs sha256sum | sha256sum | cut -d ' ' -f 1)
+}
+
+# Whether something in them was changed after a file.
+are_sources_newer() {
+    # shellcheck disable=SC2046 # a folder each
+    [ -n "$(cd "$top" && find $(sources) -newer "$1" 2>/dev/null | head -n 1)" ]
+}
+
+# The commit of the clone, with `-dirty` behind it where a file of it differs.
+commit_of_sources() {
+    git -C "$top" describe --always --dirty --abbrev=40 --exclude '*' 2>/dev/null || echo unknown
+}
+
+# Keeps in a file what a program was made from: the sum of the sources, and their commit.
+keep_sources() {
+    printf 'sources: %s\ncommit: %s\n' "$2" "$3" >"$1"
+}
+
+# Whether the word on what a program was made from is of this program, and not of an older one.
+knows_sources() {
+    [ -f "$2" ] && [ -z "$(find "$1" -newer "$2")" ]
+}
+
+# Whether a program is that of the sources, as far as is known: without a word beside it, as `rt ci` leaves it, it is if none of them is newer.
+is_of_sources() {
+    [ -x "$1" ] || return 1
+    if knows_sources "$1" "$2"; then
+        ! are_sources_newer "$2" || [ "$(sed -n 's/^sources: //p' "$2")" = "$(sum_of_sources)" ]
+    else
+        ! are_sources_newer "$1"
+    fi
+}
+
+# ---- which program
+
+# Sets `program`, what it was made from, and whether it is proved: that of the sources, the proved one before the other, or else an older proved
+# one. With neither `program` is empty.
+choose_program() {
+    program=$proved made_from=$built_from is_proved=1 is_older=
+    if ! is_of_sources "$proved" "$built_from"; then
+        if is_of_sources "$compiled" "$compiled_from"; then
+            program=$compiled made_from=$compiled_from is_proved=
+        elif [ -x "$proved" ]; then
+            is_older=1
+        else
+            program='' is_proved=
+        fi
+    fi
+}
+
+# Compiles the program, unless a call that went before has done so.
+compile_program() {
+    require_rt
+    take_turn compiling
+    if ! is_of_sources "$compiled" "$compiled_from"; then
+        sum=$(sum_of_sources) commit=$(commit_of_sources)
+        "$top/tools/compile" "$compiled" &
+        attend $!
+        [ "$status" -eq 0 ] || exit "$status"
+        keep_sources "$compiled_from" "$sum" "$commit"
+    fi
+    leave_turn
+}
+
+# ---- before there is a program
+
+# A text of the help, by its name in the sources.
+text_of() {
+    awk -v name="$1" '
+        index($0, "pub const " name ": ") == 1 { is_in = 1 }
+        is_in { text = text $0 }
+        is_in && /";$/ {
+            sub(/^[^"]*"/, "", text)
+            sub(/";$/, "", text)
+            gsub(/\\n/, "\n", text)
+            gsub(/\\"/, "\"", text)
+            print text
+            exit
+        }' "$texts"
+}
+
+# The commands of the program, as its help has them.
+commands() {
+    text_of PROGRAM_HELP | sed -n '/^Commands:/,/^$/ s/^  \([a-z][a-z-]*\) .*/\1/p'
+}
+
+# Whether a word is a command of the program.
+is_command() {
+    [ "$(commands | grep -Fx -e "$1")" = "$1" ]
+}
+
+# The help of a command: what it does, how it is called, and the end of its help, by their name in the sources. What its options are, the program
+# itself tells.
+help_of_command() {
+    name=$(echo "${2:-$1}" | tr '[:lower:]' '[:upper:]')
+    text_of PROGRAM_HELP | sed -n "s/^  $1  *//p"
+    printf '\nUsage: %s\n\n' "$(text_of "${name}_USAGE")"
+    text_of "${name}_HELP"
+}
+
+# Answers words that ask for help or the version from the texts of the sources, and ends.
+answer_from_texts() {
+    case $1 in
+        -V | --version)
+            sed -n 's/^const PROGRAM_VERSION: .*"\(.*\)";/pazturrok \1/p' "$top/crates/command_words/src/words.rt"
+            echo "of the sources: no program of them is compiled or proved yet"
+            exit
+            ;;
+        help) command=${2:-} ;;
+        -*) command= ;;
+        *) command=$1 ;;
+    esac
+    case $command in
+        '' | help | -*) text_of PROGRAM_HELP && words_of_clone && exit ;;
+    esac
+    is_command "$command" || refuse "there is no command '$command'; those of the program are $(commands | paste -sd ' ' -)"
+    texts_of=$command
+    case " $* " in *' --messages '*) texts_of=messages ;; esac
+    help_of_command "$command" "$texts_of"
+    exit
+}
+
+# The words of `run` after DIR, as the texts of its help have them: [--strict] [--snapshot-every N], say. With --messages they are others.
+words_of_run() {
+    name=RUN_USAGE
+    case " $* " in *' --messages '*) name=MESSAGES_USAGE ;; esac
+    text_of "$name" | sed -n '1s/.* DIR //p' | sed 's/^--messages/[&]/'
+}
+
+# Refuses what `run` would refuse, before anything is compiled for it, and sets `folder` and which word it is. Numbers are left to the program.
+look_at_words() {
+    shift
+    known=" $(words_of_run "$@") " folder='' is_value='' count=0
+    for word in "$@"; do
+        count=$((count + 1))
+        case $is_value$word in
+            value*) is_value= ;;
+            --*)
+                case $known in
+                    *" [$word]"* | *" [${word%%=*} "*) ;;
+                    *) refuse "run knows no $word; its words are DIR$known" ;;
+                esac
+                case $known in *" [$word "*) is_value=value ;; esac
+                ;;
+            -*) refuse "run knows no $word; its words are DIR$known" ;;
+            *)
+                [ -z "$folder" ] || refuse "run takes one folder, and not $folder and $word"
+                folder=$word
+                ;;
+        esac
+    done
+    [ -n "$folder" ] || refuse "run takes a folder, as in ./pazturrok run DIR < FORMS"
+    [ -z "$is_value" ] || refuse "a number is missing after $word"
+}
+
+# Before there is a program: help and the version are told, and what is no command, or no word of `run`, is refused.
+look_at_command() {
+    [ $# -gt 0 ] || refuse "no command was given; ./pazturrok --help tells which there are"
+    case ,$1,$*, in
+        ,-h,* | ,--help,* | ,help,* | ,-V,* | ,--version,* | *' --help'[\ ,]* | *' -h'[\ ,]*) answer_from_texts "$@" ;;
+    esac
+    is_command "$1" || refuse "there is no command '$1'; those of the program are $(commands | paste -sd ' ' -)"
+    [ "$1" != run ] || look_at_words "$@"
+}
+
+# ---- the words
+
+words_of_clone() {
+    printf '\nIn a clone of the repository:\n'
+    sed -n '/^#   .\/pazturrok compile/,/^#$/ s/^# //p' "$top/pazturrok"
+}
+
+# Carries out a word of a clone, and ends; what is a command of the program is started.
+carry_out() {
+    case ${1:-},${2:-} in
+        compile,-h | compile,--help | build,-h | build,--help | install,-h | install,--help | release,-h | release,--help)
+            sed -n '2,/^set -eu/ s/^# \{0,1\}//p' "$top/pazturrok"
+            exit
+            ;;
+        compile,)
+            compile_program
+            exit
+            ;;
+        compile,*) refuse "compile takes no word" ;;
+        build,*)
+            shift
+            # shellcheck source=tools/build.sh
+            . "$top/tools/build.sh"
+            build "$@"
+            exit
+            ;;
+        install,* | release,*)
+            # shellcheck source=tools/install.sh
+            . "$top/tools/install.sh"
+            word=$1
+            shift
+            "$word" "$@"
+            exit
+            ;;
+    esac
+    choose_program
+    if [ -z "$program" ]; then
+        look_at_command "$@"
+        read_memory
+        compile_program
+        choose_program
+    elif [ -n "$is_older" ]; then
+        say "$OTHER_SOURCES"
+    fi
+    case $#,${1:-} in
+        1,help | 1,--help | 1,-h)
+            tell_help "$@"
+            words_of_clone
+            exit
+            ;;
+    esac
+    start "$@"
+}
