@@ -6,8 +6,10 @@ _pazturrok() {
     COMPREPLY=()
     case ${COMP_WORDS[1]} in
         help) words='run snapshot upgrade export dump verify show info log backup check help' kind= ;;
-        compile) kind= ;;
-        build) words=--anew kind= ;;
+        compile) words=--library kind= ;;
+        build) words='--anew --library' kind= ;;
+        install) words=--all ;;
+        release) kind=-f ;;
         run)
             words='--existing --rescue --strict --group --snapshot-every --snapshot-ratio --quiet --help --messages'
             case " ${COMP_WORDS[*]} " in
@@ -15,8 +17,6 @@ _pazturrok() {
                 *' --rescue '* | *' --strict '* | *' --group '* | *' --snapshot-ratio '* | *' --quiet '*) words='--existing --rescue --strict --group --snapshot-every --snapshot-ratio --quiet --help' ;;
             esac
             ;;
-        install) words=--all ;;
-        release) kind=-f ;;
         snapshot) words='--existing --help' ;;
         upgrade) words='--existing --help' ;;
         export) words='--existing --data --help' ;;

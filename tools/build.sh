@@ -141,6 +141,28 @@ start_proof() {
     prover=$!
 }
 
+# The crates of the program, and those of the library where it is wanted too.
+crates_to_prove() {
+    crates_of store_program
+    [ -z "$is_with_library" ] || crates_of pazturrok_c
+}
+
+# Builds the library for C over what was proved, in the room or, where that is not kept, in this clone.
+build_library() {
+    say "the library for C is built over what is proved: some minutes"
+    where=$top
+    [ "$made" = "$proved" ] || where=$room
+    mkdir -p "$for_c/out" || refuse "$for_c/out cannot be made, and the library is kept there"
+    "$top/tools/prove_library" "$where" "$proved_library" >"$log" 2>&1 &
+    prover=$!
+    status=0
+    wait "$prover" || status=$?
+    if [ "$status" -ne 0 ]; then
+        cp "$log" "$for_c/out/build.log"
+        refuse "the library is not built (rt ended with status $status). What was said is in $for_c/out/build.log"
+    fi
+}
+
 # Proves the program, and tells meanwhile how far it is.
 prove() {
     require_rt
@@ -149,7 +171,7 @@ prove() {
     free=$(megabytes_free "$room")
     [ "$free" -ge "$ROOM_TO_PROVE" ] || refuse "to prove the program takes $ROOM_TO_PROVE MB of disk, and ${TMPDIR:-/tmp} has $free: make room, or set TMPDIR to a folder with more"
     say "the proof begins now: half an hour to an hour on four processors. Stopped, it leaves what is proved by then, and the next call goes on from there"
-    names=$(crates_of store_program | tr '\n' ' ')
+    names=$(crates_to_prove | awk '!seen[$0]++' | tr '\n' ' ')
     log=$room/log
     : >"$room/plan"
     sum=$(sum_of_sources) commit=$(commit_of_sources)
@@ -167,6 +189,7 @@ prove() {
     if [ "$status" -ne 0 ] || [ ! -x "$made" ]; then
         refuse_build "$status"
     fi
+    [ -z "$is_with_library" ] || build_library
     [ "$made" = "$proved" ] || mv "$made" "$proved"
     keep_sources "$built_from" "$sum" "$commit"
     leave_room
@@ -175,13 +198,24 @@ prove() {
     say "proved and built in $((took / 60)) minutes and $((took % 60)) seconds. From now on the proved program is started; ./pazturrok install PREFIX takes it elsewhere"
 }
 
+# Whether the proved library is there, and is that of the sources.
+has_library() {
+    # shellcheck disable=SC2034 # sources reads it
+    (sources_of=pazturrok_c && is_of_sources "$proved_library" "$for_c/out/none")
+}
+
 # Carries out `build`.
 build() {
-    case $#,${1:-} in
-        0, | 1,--anew) ;;
-        *) refuse "build takes no word but --anew" ;;
-    esac
-    if [ $# -eq 1 ] || ! is_of_sources "$proved" "$built_from"; then
-        prove "$@"
+    is_anew='' is_with_library=''
+    for word in "$@"; do
+        case $word in
+            --anew) is_anew=--anew ;;
+            --library) is_with_library=1 ;;
+            *) refuse "build takes no words but --anew and --library" ;;
+        esac
+    done
+    if [ -n "$is_anew" ] || ! is_of_sources "$proved" "$built_from" || { [ -n "$is_with_library" ] && ! has_library; }; then
+        # shellcheck disable=SC2086 # none, or --anew
+        prove $is_anew
     fi
 }

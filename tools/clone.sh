@@ -9,6 +9,10 @@ built_from=$crate/out/built_from
 compiled=$crate/out/compiled_program
 compiled_from=$crate/out/compiled_from
 texts=$top/crates/command_words/src/help.rt
+# The static library for C, proved and compiled.
+for_c=$top/crates/pazturrok_c
+proved_library=$for_c/out/libpazturrok_c.a
+compiled_library=$for_c/out/compiled_library.a
 
 OTHER_SOURCES="the program was built from other sources than those of this clone; ./pazturrok build proves and builds it anew, ./pazturrok compile compiles it without proof"
 
@@ -71,9 +75,12 @@ crates_of() {
         END { visit(wanted) }' "$top/crates.txt"
 }
 
-# The folders of all that the program is compiled from, below the clone.
+# The crate whose sources are looked at: that of the program, or that of the library.
+sources_of=store_program
+
+# The folders of all that it is compiled from, below the clone.
 sources() {
-    crates_of store_program | sed 's|.*|crates/&/src|'
+    crates_of "$sources_of" | sed 's|.*|crates/&/src|'
 }
 
 # A sum of what is in them.
@@ -105,7 +112,7 @@ knows_sources() {
 
 # Whether a program is that of the sources, as far as is known: without a word beside it, as `rt ci` leaves it, it is if none of them is newer.
 is_of_sources() {
-    [ -x "$1" ] || return 1
+    [ -f "$1" ] || return 1
     if knows_sources "$1" "$2"; then
         ! are_sources_newer "$2" || [ "$(sed -n 's/^sources: //p' "$2")" = "$(sum_of_sources)" ]
     else
@@ -134,14 +141,31 @@ choose_program() {
 compile_program() {
     require_rt
     take_turn compiling
-    if ! is_of_sources "$compiled" "$compiled_from"; then
+    compile_into "$compiled" "$compiled_from"
+    leave_turn
+}
+
+compile_library() {
+    require_rt
+    take_turn compiling
+    mkdir -p "$for_c/out" || refuse "$for_c/out cannot be made, and the library is kept there"
+    sources_of=pazturrok_c
+    compile_into "$compiled_library" "$for_c/out/compiled_from" --library
+    sources_of=store_program
+    leave_turn
+    say "the library is $NOT_PROVED. make -C clients/c ENGINE=$compiled_library takes it"
+}
+
+# Compiles into a file, beside which stands what it was made from.
+compile_into() {
+    if ! is_of_sources "$1" "$2"; then
         sum=$(sum_of_sources) commit=$(commit_of_sources)
-        "$top/tools/compile" "$compiled" &
+        # shellcheck disable=SC2086 # none, or --library
+        "$top/tools/compile" ${3:-} "$1" &
         attend $!
         [ "$status" -eq 0 ] || exit "$status"
-        keep_sources "$compiled_from" "$sum" "$commit"
+        keep_sources "$2" "$sum" "$commit"
     fi
-    leave_turn
 }
 
 # ---- before there is a program
@@ -263,7 +287,11 @@ carry_out() {
             compile_program
             exit
             ;;
-        compile,*) refuse "compile takes no word" ;;
+        compile,--library)
+            compile_library
+            exit
+            ;;
+        compile,*) refuse "compile takes no word but --library" ;;
         build,*)
             shift
             # shellcheck source=tools/build.sh

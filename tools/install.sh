@@ -113,11 +113,14 @@ install_clients() {
     put_all "$prefix/share/pazturrok" "$room/units/pazturrok.env"
 }
 
-# Puts the library for C there, if it is built. The first word is the prefix that its file for pkg-config names.
+# Puts the library for C there, if it is built, or beside a program that is compiled and not proved one of its kind. The first word is the prefix that
+# its file for pkg-config names.
 install_library() {
-    if [ ! -f "$top/crates/pazturrok_c/out/libpazturrok_c.a" ]; then
-        say "the library for C is left out, as it is not built; ./pazturrok build --library builds it"
-    elif ! make -s -C "$top/clients/c" install OUT="$room/c" PREFIX="$prefix" >"$room/make" 2>&1; then
+    engine=$proved_library word=build
+    [ -n "$is_proved" ] || engine=$compiled_library word=compile
+    if [ ! -f "$engine" ]; then
+        say "the library for C is left out, as it is not there; ./pazturrok $word --library makes it"
+    elif ! make -s -C "$top/clients/c" install OUT="$room/c" PREFIX="$prefix" ENGINE="$engine" >"$room/make" 2>&1; then
         refuse "the library for C was not made: $(tail -n 3 "$room/make")"
     else
         sed "s|^prefix=.*|prefix=$1|" "$prefix/lib/pkgconfig/pazturrok.pc" >"$room/pc"
