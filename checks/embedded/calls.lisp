@@ -66,7 +66,10 @@
     (expect "a closed store" 'closed (signalled (send store 1)))
     (reopen-store store)
     (expect "is opened again" 1 (send store 1)))
-  (expect "no such store" 'fault (signalled (open-store :library (folder "none") :existing t)))
+  (multiple-value-bind (name condition) (signalled (open-store :library (folder "none") :existing t))
+    (expect "no such store" '(fault "there is no store in this folder") (list name (fault-cause condition)))
+    (expect "its folder" (list (folder "none") t)
+            (list (fault-folder condition) (and (search (folder "none") (princ-to-string condition)) t))))
   (expect "no such library" 'no-library (signalled (open-store '(:library "/nowhere.so") (folder "values")))))
 
 (defun packages ()

@@ -54,7 +54,10 @@
 
 (define-check no-node-at-all ()
   (with-nodes (feed '("127.0.0.1:1" "/no/socket") :time-limit 1/2)
-    (expect "no node" 'no-node (signalled (feed-form feed *add*)))))
+    (multiple-value-bind (name condition) (signalled (feed-form feed *add*))
+      (expect "no node" 'no-node name)
+      (when (typep condition 'no-node)
+        (expect "one is named" t (some (lambda (node) (and (search node (no-node-reason condition)) t)) '("127.0.0.1:1" "/no/socket")))))))
 
 #+sb-thread
 (define-check interrupts-within-requests ()

@@ -199,3 +199,15 @@
                                       (send store '(make-package "LATER"))
                                       (invoke-restart 'retry-form))))
               (send-text store "(setf (get 'later::a 'b) 7)")))))
+
+(define-check a-program-that-is-not-there ()
+  (dolist (path '("/no/such/program" "no-such-program"))
+    (dolist (open (list #'open-store #'open-feed))
+      (multiple-value-bind (name condition) (signalled (funcall open path (subfolder "none")))
+        (expect "it is signalled" 'no-program name)
+        (when (typep condition 'no-program)
+          (expect "with its path" path (no-program-path condition))
+          (expect "in the report" t (and (search path (princ-to-string condition)) t))))))
+  (expect "a folder is no program" 'no-program (signalled (open-store (subfolder "values/") (subfolder "none"))))
+  #+sbcl
+  (expect "nor is a file without the right" 'no-program (signalled (open-store (subfolder "values/half-a") (subfolder "none")))))

@@ -81,19 +81,29 @@ sent, and there is nothing to open again."))
 (define-condition fault (store-error)
   ((number :initarg :number :reader fault-number)
    (name :initarg :name :reader fault-name)
-   (cause :initarg :cause :reader fault-cause))
+   (cause :initarg :cause :reader fault-cause)
+   (folder :initarg :folder :initform nil :reader fault-folder))
   (:report (lambda (condition stream)
-             (format stream "~D ~A~@[: ~A~]" (fault-number condition) (fault-name condition)
-                     (and (string/= (fault-cause condition) "") (fault-cause condition)))))
+             (format stream "~D ~A~@[: ~A~]~@[ (~A)~]" (fault-number condition) (fault-name condition)
+                     (and (string/= (fault-cause condition) "") (fault-cause condition))
+                     (fault-folder condition))))
   (:documentation
    "A store in this process cannot be opened, or its device failed: CAUSE says why. Whether the form is in
-the store is not known, and the store is broken."))
+the store is not known, and the store is broken. FOLDER is that of a store that could not be opened, or NIL."))
 
 (define-condition no-library (store-error)
   ((reason :initarg :reason :reader no-library-reason))
   (:report (lambda (condition stream)
              (format stream "there is no store in this process: ~A" (no-library-reason condition))))
   (:documentation "The library cannot be loaded, or this Lisp has no way to call it."))
+
+(define-condition no-program (store-error)
+  ((path :initarg :path :reader no-program-path)
+   (reason :initarg :reason :reader no-program-reason))
+  (:report (lambda (condition stream)
+             (format stream "the program ~S cannot be started: ~A"
+                     (no-program-path condition) (no-program-reason condition))))
+  (:documentation "The program of this path cannot be started: it is not there, or is no program."))
 
 (define-condition no-node (store-error)
   ((seconds :initarg :seconds :reader no-node-seconds)

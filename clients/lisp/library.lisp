@@ -52,7 +52,7 @@
 
 (defun address-of (name)
   (or (sb-sys:find-foreign-symbol-address name)
-      (error 'no-library :reason (format nil "the library has no ~A" name))))
+      (error 'no-library :reason (format nil "no library that is loaded has ~A" name))))
 
 (defun load-calls (path)
   "The calls of the library, which is loaded once. Without PATH it is PAZTURROK_LIBRARY, or what the system finds."
@@ -109,10 +109,10 @@
     (copied-text (sb-sys:sap-int sap) (loop for length from 0 until (zerop (sb-sys:sap-ref-8 sap length))
                                             finally (return length)))))
 
-(defun signal-fault (calls fault)
-  "Signals what a fault of the library tells: its number, the system's error, and the cause."
+(defun signal-fault (calls fault &optional folder)
+  "Signals what a fault of the library tells: its number, the system's error, and the cause; and the FOLDER of an opening."
   (let ((number (sb-sys:with-pinned-objects (fault) (sb-sys:signed-sap-ref-32 (place-of fault) 0))))
-    (error 'fault :number number :name (refusal-name calls number) :cause (zero-ended-text fault 8))))
+    (error 'fault :number number :name (refusal-name calls number) :cause (zero-ended-text fault 8) :folder folder)))
 
 (defun fault-vector ()
   (make-array 128 :element-type '(unsigned-byte 8) :initial-element 0))
@@ -122,19 +122,19 @@
 
 (defun open-library (path folder existing)
   (let ((calls (load-calls path))
-        (folder (sb-ext:string-to-octets folder :null-terminate t))
+        (name (sb-ext:string-to-octets folder :null-terminate t))
         (id (id-vector 1))
         (fault (fault-vector)))
-    (if (zerop (with-call (folder id fault)
+    (if (zerop (with-call (name id fault)
                  (foreign (calls-open calls) sb-alien:int
-                          ((place-of folder) sb-sys:system-area-pointer)
+                          ((place-of name) sb-sys:system-area-pointer)
                           ((if existing 1 0) sb-alien:int)
                           ((place-of id) sb-sys:system-area-pointer)
                           ((place-of fault) sb-sys:system-area-pointer))))
         (let ((library (make-library calls (aref id 0))) (number (aref id 0)))
           (sb-ext:finalize library (lambda () (close-id calls number)) :dont-save t)
           library)
-        (signal-fault calls fault))))
+        (signal-fault calls fault folder))))
 
 (defun close-id (calls id)
   ;; in an image that was saved there is neither

@@ -90,8 +90,8 @@ so many times at most; a try that comes to no connection does not count."
                     (error (condition)
                       (when (or (>= (get-internal-real-time) end) (not (plusp tries)))
                         (error 'no-node :seconds (node-feed-time-limit feed)
-                                        :reason (format nil "~:[it was sent ~D times; ~;~*~]~A"
-                                                        (plusp tries) *most-tries* condition)))))
+                                        :reason (format nil "~:[it was sent ~D times; ~;~*~]~A: ~A" (plusp tries) *most-tries*
+                                                        (nth (node-feed-at feed) (feed-words feed)) condition)))))
                (unless whole-p (leave-node feed))))
            (setf (node-feed-at feed) (mod (1+ (node-feed-at feed)) (length (feed-words feed))))
            (sleep *pause-between-nodes*)))

@@ -16,13 +16,28 @@
   #-ecl (declare (ignore stream))
   #+ecl (ffi:c-inline ((si:file-stream-fd stream)) (:int) :int "fcntl(#0, F_SETFD, FD_CLOEXEC)" :one-liner t))
 
+(defun program-there-p (word)
+  "Whether there is a file of this path, or, of a name without a slash, in a folder of PATH."
+  (flet ((file-p (path) (uiop:file-exists-p (uiop:parse-native-namestring path))))
+    (if (find #\/ word)
+        (file-p word)
+        (some (lambda (folder) (file-p (format nil "~A/~A" folder word)))
+              (uiop:split-string (uiop:getenv "PATH") :separator ":")))))
+
+(defun started-process (words errors)
+  "The process of a program that is started, and appends its standard error to the file ERRORS."
+  (flet ((refuse (reason) (error 'no-program :path (first words) :reason reason)))
+    (unless (program-there-p (first words)) (refuse "there is no such file"))
+    (handler-case (uiop:launch-program words :input :stream :output :stream
+                                             :error-output errors :if-error-output-exists :append
+                                             :external-format :latin-1)
+      (error (condition) (refuse (princ-to-string condition))))))
+
 (defun launch (words)
   "Starts the program. Characters are bytes here: what is over 127 is judged later."
   (uiop:with-temporary-file (:pathname path)
-    (let* ((errors (open path :external-format :latin-1))
-           (process (uiop:launch-program words :input :stream :output :stream
-                                               :error-output path :if-error-output-exists :append
-                                               :external-format :latin-1))
+    (let* ((process (started-process words path))
+           (errors (open path :external-format :latin-1))
            (to (uiop:process-info-input process))
            (from (uiop:process-info-output process))
            (program (make-program
