@@ -273,6 +273,29 @@ class Embedded(unittest.TestCase):
         self.assertEqual(child.exitcode, 0)
         self.assertEqual(store.execute("(GET 'A 'B)"), 7)
 
+    def test_a_child_of_a_thread_beside_a_call_has_no_store(self) -> None:
+        store, within, goes_on = self.store(), threading.Event(), threading.Event()
+        text = Library._text
+
+        def waiting(library: Library, answer: int | None, length: int) -> str:
+            within.set()
+            goes_on.wait(60)
+            return text(library, answer, length)
+
+        child = multiprocessing.get_context("fork").Process(target=use_in_child, args=(store,))
+        with mock.patch.object(Library, "_text", waiting):
+            other = threading.Thread(target=store.execute, args=("1",))
+            other.start()
+            within.wait(60)
+            child.start()
+            child.join(30)
+            status = child.exitcode
+            child.kill()
+            goes_on.set()
+            other.join()
+        self.assertEqual(status, 0)
+        self.assertEqual(store.execute("2"), 2)
+
     def test_pip_installs_it(self) -> None:
         source = os.path.join(os.path.dirname(os.path.abspath(__file__)), "..", "..", "clients", "python")
         target = os.path.join(self.folder, "installed")

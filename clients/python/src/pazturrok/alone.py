@@ -3,7 +3,9 @@
 from __future__ import annotations
 
 import functools
+import os
 import threading
+import weakref
 from collections.abc import Callable
 from typing import Any, TypeVar, cast
 
@@ -18,6 +20,25 @@ class Shared:
     def __init__(self) -> None:
         self._lock = threading.RLock()  # held by the thread whose turn it is
         self._call_lock = threading.Lock()  # held while it is within a call
+        _stores.add(self)
+
+    def _let_go_in_child(self) -> None:
+        """Lets go of locks that another thread held: it is the parent's alone."""
+        if self._lock.acquire(blocking=False):
+            self._lock.release()
+        else:
+            self._lock, self._call_lock = threading.RLock(), threading.Lock()
+
+
+_stores: weakref.WeakSet[Shared] = weakref.WeakSet()
+
+
+def _let_go_in_child() -> None:
+    for store in _stores:
+        store._let_go_in_child()
+
+
+os.register_at_fork(after_in_child=_let_go_in_child)
 
 
 def alone(method: Method) -> Method:
