@@ -15,6 +15,14 @@
   "Whether a store is to be in this process: PROGRAM is :LIBRARY, or a list of it and the library's path."
   (or (eq program :library) (and (consp program) (eq (first program) :library))))
 
+(defun native-word (file)
+  "A path as the system has it."
+  (if (pathnamep file) (uiop:native-namestring file) file))
+
+(defun library-path (program)
+  "The path of the library that PROGRAM, for which LIBRARY-WORD-P holds, names; or NIL."
+  (and (consp program) (native-word (second program))))
+
 #-sbcl
 (defun open-library (path folder existing)
   (declare (ignore path folder existing))
@@ -280,3 +288,7 @@
     (unless (zerop number) (refusal-line library number))
     (values (aref figures 0) (aref figures 1) (logand (aref figures 2) #xFFFFFFFF))))
 ) ; sbcl
+
+(defmethod end ((library library))
+  (close-library library)
+  (values 0 nil))

@@ -2,31 +2,26 @@
 
 (in-package "PAZTURROK-CLIENT")
 
-(defstruct (feed (:constructor make-feed (words naming)) (:copier nil))
-  "A program over a folder, or a library in this process, that carries out messages and answers questions. It belongs to
-one thread at a time."
+(defstruct (feed (:constructor make-feed (folder words naming)) (:copier nil))
+  "A program over a folder that carries out messages and answers questions. It belongs to one thread at a time."
+  folder
   words
   naming
   (program nil)                                 ; NIL while none runs
   (closed-p nil)
   (last 0 :type unsigned-byte))                 ; the number of the last message
 
-(defstruct (node-feed (:include feed) (:constructor make-node-feed (words naming time-limit patience)) (:copier nil))
-  "Nodes, HOST:PORT or paths of sockets, of which one is asked after the other. Its words are they."
-  time-limit
-  patience
-  (at 0 :type unsigned-byte)
-  (socket nil)
-  (stream nil)
-  (prefix (format nil "~(~36R~)" (random (ash 1 120) (make-random-state t))))
-  (count 0 :type unsigned-byte))
+(defstruct (embedded-feed (:include feed) (:constructor make-embedded-feed (folder path existing naming)) (:copier nil))
+  "The same in this process, by the library of this path, or by the one that is found."
+  path
+  existing)
 
 (setf (documentation 'feed-last 'function)
       "The number of the last message that was sent, or that the store told when it was opened.")
 
 (defmethod print-object ((feed feed) stream)
   (print-unreadable-object (feed stream :type t :identity t)
-    (format stream "~A ~D" (third (feed-words feed)) (feed-last feed))))
+    (format stream "~A ~D" (feed-folder feed) (feed-last feed))))
 
 (define-condition lost-answer (store-error)
   ((number :initarg :number :reader lost-answer-number))
@@ -96,17 +91,13 @@ one thread at a time."
 (defparameter *restarts* 5
   "How often the program is started again, one time after the other, before any answer has come.")
 
-(defun leave (feed)
-  "Ends the program, if one runs, and gives its status and what it wrote to standard error."
-  (let ((program (feed-program feed)))
-    (setf (feed-program feed) nil)
-    (cond ((library-p program) (close-library program) (values 0 nil))
-          (program (end program))
-          (t (values nil nil)))))
-
-(defun embedded-p (feed)
-  "Whether the store is in this process, as IN-PROCESS-P."
-  (eq (first (feed-words feed)) :library))
+(defgeneric leave (feed)
+  (:documentation
+   "Ends the program, if one runs, and gives its status and what it wrote to standard error; or leaves the nodes.")
+  (:method ((feed feed))
+    (let ((program (feed-program feed)))
+      (setf (feed-program feed) nil)
+      (if program (end program) (values nil nil)))))
 
 (defun call-feed-library (feed function &rest arguments)
   "What a call of the library gives. After a fault the next one opens the store again."
@@ -124,21 +115,22 @@ one thread at a time."
   "Starts the program, or calls the library, asks how it prints symbols, and gives the position that it told."
   (let ((whole-p nil))
     (unwind-protect
-         (let ((position (if (embedded-p feed) (open-feed-library feed) (launch-feed feed))))
+         (let ((position (start-feed feed)))
            (ask-feed-naming feed)
            (setf (feed-last feed) (max position (feed-last feed))
                  whole-p t)
            position)
       (unless whole-p (leave feed)))))
 
-(defun launch-feed (feed)
-  (setf (feed-program feed) (launch (feed-words feed)))
-  (read-position feed))
-
-(defun open-feed-library (feed)
-  (destructuring-bind (path folder existing) (rest (feed-words feed))
-    (setf (feed-program feed) (open-library path folder existing)))
-  (call-feed-library feed #'library-position))
+(defgeneric start-feed (feed)
+  (:documentation "Starts the program, or calls the library, and gives the position that it tells.")
+  (:method ((feed feed))
+    (setf (feed-program feed) (launch (feed-words feed)))
+    (read-position feed))
+  (:method ((feed embedded-feed))
+    (setf (feed-program feed)
+          (open-library (embedded-feed-path feed) (feed-folder feed) (embedded-feed-existing feed)))
+    (call-feed-library feed #'library-position)))
 
 (defun open-feed-again (feed)
   "The same, where the program may be killed meanwhile."
@@ -150,22 +142,23 @@ one thread at a time."
 (defun open-feed (program folder &key (package *package*) intern options existing)
   "Starts PROGRAM over FOLDER to feed it messages, and gives the feed when it is open. PROGRAM, PACKAGE, INTERN, OPTIONS
 and EXISTING are those of OPEN-STORE. One feed at a time may be open on a store."
-  (flet ((word (file) (if (pathnamep file) (uiop:native-namestring file) file)))
-    (when (and options (library-word-p program)) (error "a store in this process has no options"))
-    (let ((feed (make-feed (if (library-word-p program)
-                               (let ((path (and (consp program) (second program))))
-                                 (list :library (and path (word path)) (word folder) existing))
-                               (append (list (word program) "run" (word folder) "--messages") options
-                                       (and existing '("--existing"))))
-                           (make-naming :package (find-package package) :interns-p intern))))
-      (open-feed-again feed)
-      feed)))
+  (let* ((folder (native-word folder))
+         (naming (make-naming :package (find-package package) :interns-p intern))
+         (feed (if (library-word-p program)
+                   (make-embedded-feed folder (library-path program) existing naming)
+                   (make-feed folder
+                              (append (list (native-word program) "run" folder "--messages") options
+                                      (and existing '("--existing")))
+                              naming))))
+    (when (and options (embedded-feed-p feed)) (error "a store in this process has no options"))
+    (open-feed-again feed)
+    feed))
 
 (defun close-feed (feed)
   "Ends the program, and gives its status; or leaves the nodes. What was answered is in the store."
   (alone (feed)
     (setf (feed-closed-p feed) t)
-    (if (node-feed-p feed) (leave-node feed) (values (leave feed)))))
+    (values (leave feed))))
 
 (defmacro with-feed ((feed program folder &rest options) &body body)
   "Evaluates BODY with FEED bound to what OPEN-FEED gives, and closes it."
@@ -182,18 +175,17 @@ and EXISTING are those of OPEN-STORE. One feed at a time may be open on a store.
   (format nil "(COMMON-LISP:LIST COMMON-LISP:*PACKAGE*~{ 'COMMON-LISP:~A~})" *operators*)
   "What the current package is, and which symbols of COMMON-LISP are printed in it without a prefix.")
 
-(defun ask-feed-naming (feed)
-  (if (node-feed-p feed)
-      (leave-node feed)                         ; the next connection asks
-      (take-naming feed (exchange-question feed *qualified-question*))))
+(defgeneric ask-feed-naming (feed)
+  (:documentation "Asks how symbols are printed.")
+  (:method ((feed feed)) (take-naming feed (exchange-question feed *qualified-question*))))
 
-(defun exchange-question (feed text)
-  "The answer to a question, of a feed that is open."
-  (if (embedded-p feed)
-      (call-feed-library feed #'library-ask text)
-      (let ((answer nil))
-        (exchange-frames feed (list (question-frame text)) '(nil) (lambda (text) (setf answer text)))
-        answer)))
+(defgeneric exchange-question (feed text)
+  (:documentation "The answer to a question, of a feed that is open.")
+  (:method ((feed feed) text)
+    (let ((answer nil))
+      (exchange-frames feed (list (question-frame text)) '(nil) (lambda (text) (setf answer text)))
+      answer))
+  (:method ((feed embedded-feed) text) (call-feed-library feed #'library-ask text)))
 
 (defun take-naming (feed answer)
   "Takes the answer to the question for the names."
@@ -223,21 +215,18 @@ and EXISTING are those of OPEN-STORE. One feed at a time may be open on a store.
 
 ;;; Sending
 
-(defun send-messages (feed texts)
-  "The outcomes of texts that are sent at once: each is carried out once."
-  (cond ((node-feed-p feed) (send-to-nodes feed texts nil))
-        ((embedded-p feed) (send-to-library feed texts))
-        (t (send-numbered feed texts))))
+(defgeneric send-messages (feed texts)
+  (:documentation "The outcomes of texts that are sent at once: each is carried out once."))
 
-(defun send-to-library (feed texts)
+(defmethod send-messages ((feed embedded-feed) texts)
   (make-feed-ready feed)
   (let ((numbers (loop for number from (1+ (feed-last feed)) repeat (length texts) collect number)))
     (incf (feed-last feed) (length texts))
     (mapcar (lambda (answer) (feed-outcome feed answer))
             (call-feed-library feed #'library-do numbers texts))))
 
-(defun send-numbered (feed texts)
-  "The same over a program, to which each is sent under a number."
+(defmethod send-messages ((feed feed) texts)
+  "Each is sent to the program under a number."
   (make-feed-ready feed)
   (let* ((first (1+ (feed-last feed)))
          (numbers (loop for number from first repeat (length texts) collect number))
@@ -265,11 +254,14 @@ and EXISTING are those of OPEN-STORE. One feed at a time may be open on a store.
                     do (push (make-condition 'lost-answer :number number) outcomes)))
             (when (= (length outcomes) (length texts)) (return (nreverse outcomes)))))))))
 
+(defmethod room-of ((feed feed)) +pipe-room+)
+(defmethod room-of ((feed embedded-feed)) +library-room+)
+
 (defun feed-all (feed forms)
   "Has many forms carried out, objects or texts, each once. Gives the value of each, or the condition in its place."
   (let ((texts (mapcar (lambda (form) (feed-text feed form)) forms)))
     (loop while texts
-          nconc (let ((some (subseq texts 0 (first-texts texts (if (embedded-p feed) +library-room+ +pipe-room+)))))
+          nconc (let ((some (subseq texts 0 (first-texts texts (room-of feed)))))
                   (setf texts (nthcdr (length some) texts))
                   (alone (feed)
                     (prog1 (send-messages feed some)
@@ -280,17 +272,20 @@ and EXISTING are those of OPEN-STORE. One feed at a time may be open on a store.
   (let ((outcome (first (feed-all feed (list form)))))
     (if (typep outcome 'store-error) (error outcome) outcome)))
 
-(defun ask-program (feed text)
-  "The text of the answer to a question."
-  (loop for stops from 1
-        do (handler-case (progn (make-feed-ready feed)
-                                (return (exchange-question feed text)))
-             (stopped (condition)
-               (when (or (not (killed-p condition)) (> stops *restarts*)) (error condition))))))
+(defgeneric answer-to-question (feed text)
+  (:documentation "The text of the answer to a question.")
+  (:method ((feed feed) text)
+    (loop for stops from 1
+          do (handler-case (progn (make-feed-ready feed)
+                                  (return (exchange-question feed text)))
+               (stopped (condition)
+                 (when (or (not (killed-p condition)) (> stops *restarts*)) (error condition)))))))
 
-(defun feed-snapshot (feed)
-  "Takes a snapshot of a store in this process, as SNAPSHOT."
-  (unless (embedded-p feed) (error "the store is a program, and no library in this process"))
+(defgeneric feed-snapshot (feed)
+  (:documentation "Takes a snapshot of a store in this process, as SNAPSHOT.")
+  (:method ((feed feed)) (error "the store is a program, and no library in this process")))
+
+(defmethod feed-snapshot ((feed embedded-feed))
   (let ((line (alone (feed)
                 (make-feed-ready feed)
                 (call-feed-library feed #'library-snapshot))))
@@ -301,6 +296,5 @@ and EXISTING are those of OPEN-STORE. One feed at a time may be open on a store.
 (defun ask (feed form)
   "Asks for the value of a form, which may change nothing; of nodes one is asked, as far as its store has come."
   (let* ((text (feed-text feed form))
-         (outcome (alone (feed)
-                    (feed-outcome feed (if (node-feed-p feed) (ask-nodes feed "ask" text) (ask-program feed text))))))
+         (outcome (alone (feed) (feed-outcome feed (answer-to-question feed text)))))
     (if (typep outcome 'store-error) (error outcome) outcome)))

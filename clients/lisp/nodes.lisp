@@ -2,6 +2,16 @@
 
 (in-package "PAZTURROK-CLIENT")
 
+(defstruct (node-feed (:include feed) (:constructor make-node-feed (words naming time-limit patience)) (:copier nil))
+  "Nodes, HOST:PORT or paths of sockets, of which one is asked after the other. Its words are they."
+  time-limit
+  patience
+  (at 0 :type unsigned-byte)
+  (socket nil)
+  (stream nil)
+  (prefix (format nil "~(~36R~)" (random (ash 1 120) (make-random-state t))))
+  (count 0 :type unsigned-byte))
+
 (defmethod print-object ((feed node-feed) stream)
   (print-unreadable-object (feed stream :type t :identity t)
     (format stream "~{~A~^ ~}" (feed-words feed))))
@@ -44,11 +54,16 @@
   (declare (ignore feed node))
   (error "this Lisp has no sockets here"))
 
-(defun leave-node (feed)
+(defmethod leave ((feed node-feed))
   (when (node-feed-stream feed) (ignore-errors (close (node-feed-stream feed) :abort t)))
   #+(or sbcl ecl)
   (when (node-feed-socket feed) (ignore-errors (sb-bsd-sockets:socket-close (node-feed-socket feed))))
-  (setf (node-feed-socket feed) nil (node-feed-stream feed) nil))
+  (setf (node-feed-socket feed) nil (node-feed-stream feed) nil)
+  (values nil nil))
+
+(defmethod ask-feed-naming ((feed node-feed))
+  "The next connection asks."
+  (leave feed))
 
 (defun ready-node (feed)
   "The stream to a node. A new one asks first how symbols are printed."
@@ -92,7 +107,7 @@ so many times at most; a try that comes to no connection does not count."
                         (error 'no-node :seconds (node-feed-time-limit feed)
                                         :reason (format nil "~:[it was sent ~D times; ~;~*~]~A: ~A" (plusp tries) *most-tries*
                                                         (nth (node-feed-at feed) (feed-words feed)) condition)))))
-               (unless whole-p (leave-node feed))))
+               (unless whole-p (leave feed))))
            (setf (node-feed-at feed) (mod (1+ (node-feed-at feed)) (length (feed-words feed))))
            (sleep *pause-between-nodes*)))
 
@@ -116,6 +131,9 @@ so many times at most; a try that comes to no connection does not count."
                     (push (node-outcome feed number answer) outcomes))))))
     (nreverse outcomes)))
 
+(defmethod send-messages ((feed node-feed) texts)
+  (send-to-nodes feed texts nil))
+
 (defun node-outcome (feed number answer)
   (let ((outcome (feed-outcome feed answer)))
     (if (and (typep outcome 'refused) (= (refused-number outcome) 50))
@@ -130,6 +148,9 @@ so many times at most; a try that comes to no connection does not count."
                      (finish-output stream)
                      (nth-value 1 (read-node-answer feed)))
                    *most-tries*))
+
+(defmethod answer-to-question ((feed node-feed) text)
+  (ask-nodes feed "ask" text))
 
 ;;; Opening
 

@@ -63,9 +63,11 @@
          (end (ignore-errors (read-sequence text (program-errors program)))))
     (and end (plusp end) (string-right-trim '(#\Newline) (subseq text 0 end)))))
 
-(defun end (program)
-  "Ends the program, and gives its status and what it wrote to standard error. Both pipes are closed first:
-so it does not wait for anybody to read what it may still have to say."
+(defgeneric end (link)
+  (:documentation "Ends a program, or closes a store of the library. Gives the status, and what was written to standard error."))
+
+(defmethod end ((program program))
+  "Both pipes are closed first: so it does not wait for anybody to read what it may still have to say."
   (ignore-errors (close (program-to program) :abort t))
   (ignore-errors (close (program-from program) :abort t))
   (wait-for-end program *end-limit*)

@@ -2,8 +2,9 @@
 
 (in-package "PAZTURROK-CLIENT")
 
-(defstruct (store (:constructor make-store (words naming time-limit opening-limit)) (:copier nil))
-  "A program over a folder, or a library in this process. It belongs to one thread at a time."
+(defstruct (store (:constructor make-store (folder words naming time-limit opening-limit)) (:copier nil))
+  "A program over a folder. It belongs to one thread at a time."
+  folder
   words
   naming
   time-limit
@@ -13,6 +14,11 @@
   (homes '() :type list)                        ; packages that the store is known to have
   (round-trips 0 :type unsigned-byte))
 
+(defstruct (embedded-store (:include store) (:constructor make-embedded-store (folder path existing naming)) (:copier nil))
+  "A store in this process, by the library of this path, or by the one that is found."
+  path
+  existing)
+
 (setf (documentation 'store-state 'function)
       ":GOOD if each form that was sent has its whole answer; :BROKEN if one was left within its answer;
 :ENDED if a text that could not be read ended the session, and the next form opens the store again; :CLOSED."
@@ -21,24 +27,18 @@
 
 (defmethod print-object ((store store) stream)
   (print-unreadable-object (store stream :type t :identity t)
-    (format stream "~A ~A" (third (store-words store)) (store-state store))))
+    (format stream "~A ~A" (store-folder store) (store-state store))))
 
 (defun store-process (store)
   "The process of the program, as UIOP has it, or NIL."
   (and (program-p (store-program store)) (program-process (store-program store))))
-
-(defun in-process-p (store)
-  "Whether the store is a library in this process: its first word says so, and the others are its path and folder."
-  (eq (first (store-words store)) :library))
 
 ;;; Texts to and fro
 
 (defun end-session (store state)
   "Ends the program, and gives its status and what it wrote to standard error."
   (setf (store-state store) state)
-  (if (library-p (store-program store))
-      (close-library (store-program store))
-      (end (store-program store))))
+  (end (store-program store)))
 
 (defun stop (store seconds)
   "Signals why the program says no more."
@@ -48,17 +48,18 @@
           (error 'timed-out :seconds seconds)
           (error 'stopped :status status :fault fault)))))
 
-(defun ends-session-p (store answer)
-  (let ((number (and (not (in-process-p store)) (refusal-of answer))))
-    (and number (or (<= number 25) (member "--strict" (store-words store) :test #'equal)))))
+(defgeneric ends-session-p (store answer)
+  (:documentation "Whether the session ends after this answer.")
+  (:method ((store store) answer)
+    (let ((number (refusal-of answer)))
+      (and number (or (<= number 25) (member "--strict" (store-words store) :test #'equal)))))
+  (:method ((store embedded-store) answer)
+    (declare (ignore answer))
+    nil))
 
-(defun exchange (store texts receive seconds)
-  "Sends the texts of whole forms, and calls RECEIVE with the text of each answer, up to one that ends the
-session."
-  (check-type seconds (or null (real (0))))
-  (if (in-process-p store)
-      (exchange-in-process store texts receive seconds)
-      (exchange-by-pipe store texts receive seconds)))
+(defgeneric exchange (store texts receive seconds)
+  (:documentation
+   "Sends the texts of whole forms, and calls RECEIVE with the text of each answer, up to one that ends the session."))
 
 (defmacro breaking-on-fault ((store) &body body)
   "What BODY gives, which calls the library. After a fault the store is broken."
@@ -67,16 +68,17 @@ session."
                                                        (setf (store-state ,store) :broken))))
      ,@body))
 
-(defun exchange-in-process (store texts receive seconds)
+(defmethod exchange ((store embedded-store) texts receive seconds)
   "No answer is left unread here, so only a fault breaks the store."
   (when seconds (error "a store in this process has no time limits"))
   (breaking-on-fault (store) (mapc receive (library-answers (store-program store) texts)))
   (incf (store-round-trips store))
   (setf (store-state store) :good))
 
-(defun exchange-by-pipe (store texts receive seconds)
+(defmethod exchange ((store store) texts receive seconds)
   "The store is broken before anything is sent, and good when all is read: whatever leaves this function in
 another way leaves it broken."
+  (check-type seconds (or null (real (0))))
   (let ((program (store-program store)))
     (setf (store-state store) :broken
           (program-overdue-p program) nil)
@@ -122,11 +124,11 @@ another way leaves it broken."
           (naming-bare (store-naming store)) (remove nil (rest named))
           (store-state store) :good)))
 
-(defun start (store)
-  (if (in-process-p store)
-      (destructuring-bind (path folder existing) (rest (store-words store))
-        (open-library path folder existing))
-      (launch (store-words store))))
+(defgeneric start (store)
+  (:documentation "A program that is started, or a store of the library that is opened.")
+  (:method ((store store)) (launch (store-words store)))
+  (:method ((store embedded-store))
+    (open-library (embedded-store-path store) (store-folder store) (embedded-store-existing store))))
 
 (defun open-program (store)
   "Starts the program, or calls the library, and waits until the store is open."
@@ -155,20 +157,19 @@ an answer that the image has no symbol for becomes a symbol of a package of the 
 PAZTURROK/COMMON-LISP-USER; with INTERN true it becomes one of PACKAGE, as READ would make it.
 TIME-LIMIT is how many seconds an answer may take, OPENING-TIME-LIMIT how many the opening, NIL for any time.
 OPTIONS are further words of the command line, as (\"--snapshot-every\" \"1000\")."
-  (flet ((word (file) (if (pathnamep file) (uiop:native-namestring file) file)))
-    (let* ((own '("--rescue" "--group"))
-           (further (remove-if (lambda (option) (member option own :test #'equal)) options))
-           (words (if (library-word-p program)
-                      (let ((path (and (consp program) (second program))))
-                        (list :library (and path (word path)) (word folder) existing))
-                      (append (list (word program) "run" (word folder)) own further (and existing '("--existing")))))
-           (store (make-store words
-                              (make-naming :package (find-package package) :interns-p intern)
-                              time-limit opening-time-limit)))
-      (when (and (library-word-p program) (or time-limit opening-time-limit options))
-        (error "a store in this process has no time limits and no options"))
-      (open-program store)
-      store)))
+  (let* ((folder (native-word folder))
+         (naming (make-naming :package (find-package package) :interns-p intern))
+         (own '("--rescue" "--group"))
+         (further (remove-if (lambda (option) (member option own :test #'equal)) options))
+         (store (if (library-word-p program)
+                    (make-embedded-store folder (library-path program) existing naming)
+                    (make-store folder
+                                (append (list (native-word program) "run" folder) own further (and existing '("--existing")))
+                                naming time-limit opening-time-limit))))
+    (when (and (embedded-store-p store) (or time-limit opening-time-limit options))
+      (error "a store in this process has no time limits and no options"))
+    (open-program store)
+    store))
 
 (defun snapshot (store)
   "Takes a snapshot of a store in this process: the next opening reads the world, and not each form that made it."
@@ -181,11 +182,15 @@ OPTIONS are further words of the command line, as (\"--snapshot-every\" \"1000\"
   "The generation, the number of records and the version of the file in use of a store in this process."
   (call-library store #'library-figures))
 
-(defun call-library (store function)
-  (unless (in-process-p store) (error "the store is a program, and no library in this process"))
-  (alone (store)
-    (make-ready store)
-    (breaking-on-fault (store) (funcall function (store-program store)))))
+(defgeneric call-library (store function)
+  (:documentation "What a call of the library gives.")
+  (:method ((store store) function)
+    (declare (ignore function))
+    (error "the store is a program, and no library in this process"))
+  (:method ((store embedded-store) function)
+    (alone (store)
+      (make-ready store)
+      (breaking-on-fault (store) (funcall function (store-program store))))))
 
 (defun close-store (store)
   "Ends the session, and gives the status of the program. What was answered is in the store. It waits ten
@@ -278,6 +283,11 @@ full while both programs write.")
 (defconstant +library-room+ 1000000
   "How many characters are handed to the library at once, which are logged together.")
 
+(defgeneric room-of (store)
+  (:documentation "How many characters are sent to a store, or a feed, at once.")
+  (:method ((store store)) +pipe-room+)
+  (:method ((store embedded-store)) +library-room+))
+
 (defun first-texts (texts total)
   "How many of the first texts can be sent at once: at least one, and then as many as TOTAL has room for; up to
 the first one that changes how symbols are printed."
@@ -292,7 +302,7 @@ the first one that changes how symbols are printed."
   "The outcomes of all texts. A condition that keeps the store from going on is signalled."
   (let ((outcomes '()))
     (loop while texts
-          do (let ((group (subseq texts 0 (first-texts texts (if (in-process-p store) +library-room+ +pipe-room+)))))
+          do (let ((group (subseq texts 0 (first-texts texts (room-of store)))))
                (multiple-value-bind (done hindrance) (carry-out store group seconds)
                  (setf outcomes (revappend done outcomes)
                        texts (nthcdr (length done) texts))
