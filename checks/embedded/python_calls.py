@@ -144,6 +144,9 @@ class Embedded(unittest.TestCase):
             self.assertIn(library, str(missing.exception))
         with self.assertRaises(ValueError):
             store.execute("1", time_limit=1)
+        with self.assertRaises(ValueError):
+            self.store("cut\0off")
+        self.assertFalse(os.path.exists(os.path.join(self.folder, "cut")))
 
     def feed(self, **options: Any) -> EmbeddedMessageStore:
         feed = EmbeddedMessageStore(os.path.join(self.folder, "feed"), **options)

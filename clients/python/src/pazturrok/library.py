@@ -117,7 +117,10 @@ class Library:
         self._length = ctypes.c_size_t()
         self._arguments = (ctypes.byref(self._answer), ctypes.byref(self._length))
         fault = _Fault()
-        if calls.open(os.fsencode(folder), flags, ctypes.byref(self._store), ctypes.byref(fault)):
+        name = os.fsencode(folder)
+        if b"\0" in name:  # C would take what is before it for the whole
+            raise ValueError("embedded null byte")
+        if calls.open(name, flags, ctypes.byref(self._store), ctypes.byref(fault)):
             raise calls.fault(fault, folder)
         self._close = weakref.finalize(self, calls.close, self._store.value)
 
