@@ -9,10 +9,11 @@
 finalizer is refused, as each would take what is answered for its own. What is signalled of the store is signalled
 after it, so a handler may call the store."
   (when (member store *calls-under-way* :test #'eq) (error 'nested-call))
-  (error (block call
-           (handler-case (return-from call-alone
-                           (let ((*calls-under-way* (cons store *calls-under-way*))) (funcall function)))
-             (own-error (condition) (return-from call condition))))))
+  (let ((signalled nil))
+    (multiple-value-prog1
+        (handler-case (let ((*calls-under-way* (cons store *calls-under-way*))) (funcall function))
+          (own-error (condition) (setf signalled condition)))
+      (when signalled (error signalled)))))
 
 (defmacro alone ((store) &body body)
   "What BODY gives, which is alone on STORE, or a feed."
