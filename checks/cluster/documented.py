@@ -58,7 +58,10 @@ class Machines:
 
     def answer(self, place, command):
         words = [*self.net.words(place), "bash", "-c", command if shutil.which("nc") else f"{NETCAT}\n{command}"]
-        return subprocess.run(words, capture_output=True, text=True, timeout=LONG).stdout
+        try:
+            return subprocess.run(words, capture_output=True, text=True, timeout=LONG).stdout
+        except subprocess.TimeoutExpired:
+            return "nothing"
 
     def end(self):
         for shell in self.shells:
@@ -77,7 +80,7 @@ def documented(folder, program):
         faults = []
         for place in range(3):
             started = machines.net.words(place) + ["python3", "-c", AGAIN]
-            subprocess.run(started, timeout=2 * LONG, check=True)
+            faults += [f"machine {place} does not answer"] if subprocess.run(started, capture_output=True, timeout=3 * LONG).returncode else []
         told = [machines.answer(place, command) for place, command in enumerate(machines.clients)]
         if not re.fullmatch(r"\d+ 5\n\(1 2\)\n", told[0]) or told[1] != "ask 5\n(1 2)\n":
             faults.append(f"the commands of the page answer {told}")
@@ -85,14 +88,14 @@ def documented(folder, program):
         began = time.monotonic()
         told = machines.answer(0, machines.clients[1])
         took = time.monotonic() - began
-        return faults + ([] if told == "ask 5\n(1 2)\n" and took < 20 else [f"without its own member a node answers {told!r} after {took:.0f} s"])
+        return faults + ([] if told == "ask 5\n(1 2)\n" and took < LONG / 2 else [f"without its own member a node answers {told!r} after {took:.0f} s"])
     finally:
         machines.end()
 
 
 AGAIN = """
 import socket, time
-until = time.monotonic() + 60
+until = time.monotonic() + 120
 while True:
     try:
         one = socket.create_connection(("127.0.0.1", 7411), 3)
@@ -117,7 +120,7 @@ def own_member(folder, program):
             began = time.monotonic()
             Client(cluster.places, patience=LONG).request(b"do", ADD)
             took = time.monotonic() - began
-            faults += [] if took < 20 else [f"without the member that it asks first a node takes {took:.0f} s"]
+            faults += [] if took < LONG / 2 else [f"without the member that it asks first a node takes {took:.0f} s"]
             member.signal(signal.SIGCONT)
         faults += [] if value(cluster, 0) == "7" else ["another value"]
         faults += [] if "of 3 members" not in cluster.nodes[0].told() else ["a node that is given all members asks for more"]

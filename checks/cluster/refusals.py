@@ -231,7 +231,7 @@ def skipped(folder, program):
 
 def stuck_at(cluster):
     """The number of the entry at which all stores end, by what the nodes report; 1 where they do not."""
-    deadline = time.monotonic() + LONG
+    deadline = time.monotonic() + 2 * LONG
     while time.monotonic() < deadline:
         time.sleep(1)
         stuck = {int(report.split(b'"stuck": ')[1].rstrip(b"}")) for report in cluster.keys("nodes/").values()}

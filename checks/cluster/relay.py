@@ -33,7 +33,7 @@ class Relay:
         self.target, self.wanted = target, []
         self.listener = socket.create_server(("127.0.0.1", 0), backlog=64)
         self.url = f"http://127.0.0.1:{self.listener.getsockname()[1]}"
-        self.every = None
+        self.every = len
         """What is called with each request that was handed on."""
         threading.Thread(target=self.accept, daemon=True).start()
 
@@ -76,8 +76,7 @@ class Relay:
                 kept.may_go.wait(60)
         with contextlib.suppress(OSError):
             other.sendall(request)
-        if self.every:
-            self.every(request)
+        self.every(request)
 
     def close(self):
         self.listener.close()

@@ -10,7 +10,7 @@ import subprocess
 import sys
 import time
 
-from cluster import LONG, NODE, Client
+from cluster import LONG, NODE
 from refusals import LOOK, begun, value
 
 LINE = re.compile(r"[0-9]{4}-[0-9]{2}-[0-9]{2}T[0-9]{2}:[0-9]{2}:[0-9]{2}[+-][0-9]{4} (INFO|WARNING|ERROR) .+")
@@ -50,6 +50,12 @@ def figures(path):
     return {found[1] + found[2]: float(found[3]) for found in map(FIGURE.fullmatch, lines)}
 
 
+def until(holds):
+    deadline = time.monotonic() + LONG
+    while not holds() and time.monotonic() < deadline:
+        time.sleep(0.1)
+
+
 def until_health(path, status):
     """What a node tells of its health, once that has this status."""
     deadline = time.monotonic() + LONG
@@ -65,8 +71,10 @@ def monitored(folder, program):
     try:
         faults = [] if until_health(path, 200) == (200, {"healthy": True, "troubles": []}) else ["a node that is well says otherwise"]
         told = figures(path)
-        wanted = {'requests_total{kind="do"}': 6, 'requests_total{kind="read"}': 1, "entries_total": 6, "store_up": 1, "store_ends_total": 0, "stuck": 0}
-        faults += [f"{name}: {told.get('pazturrok_node_' + name)}" for name, count in wanted.items() if told.get("pazturrok_node_" + name) != count]
+        least = {'requests_total{kind="do"}': 6, 'requests_total{kind="read"}': 1, "entries_total": 6, "revision": 7, "store_up": 1}
+        most = {"store_ends_total": 0, "stuck": 0, "store_up": 1}
+        faults += [f"{name}: {told.get('pazturrok_node_' + name)}" for name, count in least.items() if told["pazturrok_node_" + name] < count]
+        faults += [f"{name}: {told.get('pazturrok_node_' + name)}" for name, count in most.items() if told["pazturrok_node_" + name] > count]
         os.kill(cluster.store_process(0), signal.SIGKILL)
         faults += [] if value(cluster, 0) == "5" and figures(path)["pazturrok_node_store_ends_total"] == 1 else ["an end of the store is not counted"]
         cluster.members[0].signal(signal.SIGSTOP)
@@ -100,16 +108,16 @@ def idle_clients(folder, program):
         os.kill(store, signal.SIGSTOP)
         waits = socket.create_connection(cluster.places[0], LONG)
         waits.sendall(b"ask %d\n%s\n" % (len(LOOK), LOOK))
-        time.sleep(0.5)
+        until(lambda: figures(path)['pazturrok_node_requests_total{kind="ask"}'] == 1)
         silent = [socket.create_connection(cluster.places[0], LONG) for _ in range(60)]
-        time.sleep(1)
+        silent[0].settimeout(LONG)
+        faults = [] if silent[0].recv(1) == b"" else ["one that is let go is not told"]
+        until(lambda: figures(path)["pazturrok_node_clients"] >= 20)
         count = figures(path)["pazturrok_node_clients"]
-        faults = [] if count == 20 else [f"{count} clients are connected"]
+        faults += [] if count == 20 else [f"{count} clients are connected"]
         os.kill(store, signal.SIGCONT)
         faults += [] if waits.recv(100) == b"ask 1\n5\n" else ["who waited for an answer has none"]
-        faults += [] if value(cluster, 0) == "5" else ["another client has no answer"]
-        silent[0].settimeout(LONG)
-        return faults + ([] if silent[0].recv(1) == b"" else ["one that is let go is not told"])
+        return faults + ([] if value(cluster, 0) == "5" else ["another client has no answer"])
     finally:
         os.kill(store, signal.SIGCONT)
         cluster.end()
