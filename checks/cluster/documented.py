@@ -10,9 +10,11 @@ import time
 import apart
 from cluster import HERE, LONG, Client
 from refusals import ADD, begun, value
+from secrets import Secrets
 
 TOP = os.path.join(HERE, "..", "..")
 PAGE = os.path.join(TOP, "cluster", "README.md")
+PAGE_OF_TLS = os.path.join(TOP, "docs", "run", "machines.md")
 NET = "10.0.0."
 NETCAT = """nc() { python3 -c '
 import socket, sys
@@ -32,6 +34,18 @@ def commands():
     return machine, [line.strip() for line in blocks[1].splitlines()]
 
 
+def secured(lines, secrets):
+    """The same with certificates, as the page on several machines has it."""
+    with open(PAGE_OF_TLS, encoding="utf-8") as page:
+        further = [line.strip() for line in page if line.startswith(("    MEMBER_TLS=", "    NODE_TLS="))]
+    lines = [line.replace("http:", "https:").replace("etcd --name", "etcd $MEMBER_TLS --name") for line in lines]
+    lines = [line.replace("pazturrok-node ", "pazturrok-node $NODE_TLS ", 1) for line in lines]
+    text = "\n".join([*lines[:2], *further, *lines[2:]])
+    for name, path in (("ca.crt", secrets.ca), ("node.crt", secrets.certificate), ("node.key", secrets.key), ("node.pem", secrets.both)):
+        text = re.sub(rf"(?<=[ ]){re.escape(name)}", path, text)
+    return text.split("\n")
+
+
 def words_of_machine(lines, place, room, program):
     """What a shell is told on a machine. The folders are those of this check, and so is the program."""
     text = "\n".join(lines).replace("NAME=a; IP=10.0.0.1", f"NAME={'abc'[place]}; IP={NET}{place + 1}")
@@ -42,9 +56,10 @@ def words_of_machine(lines, place, room, program):
 class Machines:
     """Three places on which the commands of the page were carried out."""
 
-    def __init__(self, room, program):
+    def __init__(self, room, program, secrets=None):
         self.net = apart.Apart(3, NET)
         lines, self.clients = commands()
+        lines = secured(lines, secrets) if secrets else lines
         self.shells = []
         for place in range(3):
             shell = [*self.net.words(place), "bash", "-c", words_of_machine(lines, place, room, program) + "\nwait"]
@@ -93,6 +108,21 @@ def documented(folder, program):
         machines.end()
 
 
+def secured_too(folder, program):
+    """The commands of the page with certificates: who has one is answered."""
+    if not apart.may():
+        return []
+    secrets = Secrets(folder, places=",".join(f"IP:{NET}{place + 1}" for place in range(3)))
+    machines = Machines(folder, program, secrets)
+    try:
+        places = [(f"{NET}{place + 1}", 7411) for place in range(3)]
+        told = Client(places, context=secrets.context()).request(b"do", b"(SETF (GET 'A 'B) 7)")[1]
+        seen = [Client([place], context=secrets.context()).request(b"read", b"(GET 'A 'B)")[1] for place in places]
+        return [] if told == "7" and seen == ["7"] * 3 else [f"with certificates the nodes answer {told} {seen}"]
+    finally:
+        machines.end()
+
+
 AGAIN = """
 import socket, time
 until = time.monotonic() + 120
@@ -136,5 +166,5 @@ def own_member(folder, program):
         cluster.end()
 
 
-LONG_ONES = ("own member",)
-PARTS = {"documented": documented, "own member": own_member}
+LONG_ONES = ("own member", "documented with certificates")
+PARTS = {"documented": documented, "documented with certificates": secured_too, "own member": own_member}

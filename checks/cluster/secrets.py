@@ -3,7 +3,8 @@ import os
 import ssl
 import subprocess
 
-USES = "subjectAltName=IP:127.0.0.1,DNS:localhost\nextendedKeyUsage=serverAuth,clientAuth\n"
+USES = "subjectAltName={}\nextendedKeyUsage=serverAuth,clientAuth\n"
+HERE = "IP:127.0.0.1,DNS:localhost"
 
 
 def openssl(*words):
@@ -13,14 +14,14 @@ def openssl(*words):
 class Secrets:
     """`ca` signs, `certificate` and `key` are of this machine, `both` has the two in one file."""
 
-    def __init__(self, folder, name="pazturrok"):
+    def __init__(self, folder, name="pazturrok", places=HERE):
         self.ca, self.key, self.certificate, self.both = (os.path.join(folder, f"{name}.{kind}") for kind in ("ca", "key", "crt", "pem"))
         ca_key, request, uses = (os.path.join(folder, f"{name}.{kind}") for kind in ("ca-key", "csr", "uses"))
         curve = ["-newkey", "ec", "-pkeyopt", "ec_paramgen_curve:prime256v1", "-nodes"]
         openssl("req", "-x509", *curve, "-days", "2", "-subj", f"/CN={name} signs", "-keyout", ca_key, "-out", self.ca)
         openssl("req", *curve, "-subj", f"/O={name}", "-keyout", self.key, "-out", request)
         with open(uses, "w", encoding="ascii") as file:
-            file.write(USES)
+            file.write(USES.format(places))
         openssl("x509", "-req", "-in", request, "-CA", self.ca, "-CAkey", ca_key, "-CAcreateserial", "-days", "2", "-extfile", uses,
                 "-out", self.certificate)
         with open(self.both, "w", encoding="ascii") as file:
