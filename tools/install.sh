@@ -72,7 +72,7 @@ origin() {
         echo "$NOT_PROVED: compiled with $(rt version 2>/dev/null || echo unknown)"
     fi
     echo "sha256 of ${program##*/}: $(sha256sum "$program" | cut -d ' ' -f 1)"
-    echo "licence: $(sed -n '/^## Licence$/,$ { /^## /d; /^$/d; p; }' "$top/CONTRIBUTING.md")"
+    echo "licence: $(sed -n '/^## Licence$/,$ { /^## /d; /^$/d; s/ (\[[^]]*\]([^)]*))//; p; }' "$top/CONTRIBUTING.md")"
 }
 
 # Puts the program there, and what belongs to its command.
@@ -125,6 +125,7 @@ install_library() {
     else
         sed "s|^prefix=.*|prefix=$1|" "$prefix/lib/pkgconfig/pazturrok.pc" >"$room/pc"
         put "$room/pc" "$prefix/lib/pkgconfig/pazturrok.pc" 644
+        [ -n "$is_proved" ] || echo "the library for C: $NOT_PROVED" >>"$prefix/share/doc/pazturrok/ORIGIN"
         for name in include/pazturrok.h lib/libpazturrok.a lib/libpazturrok.so; do
             echo "$prefix/$name"
         done
@@ -170,8 +171,8 @@ install() {
 
 # What stands at the top of a release.
 front_page() {
+    echo "Pazturrok: a store for Lisp data. This program is $([ -n "$is_proved" ] && echo proved || echo "$NOT_PROVED")."
     cat <<'END'
-Pazturrok: a store for Lisp data that survives a crash at any moment.
 
   bin/pazturrok run store      serves a store in the folder `store`; bin/pazturrok --help tells the rest
   sha256sum -c SHA256SUMS      tells whether each file is as it was packed
@@ -198,10 +199,10 @@ release() {
     need_program
     make_room
     version=$("$program" --version | sed 's/^pazturrok \([0-9.]*\).*/\1/')
-    name=pazturrok-$version-$(commit_of_sources | sed 's/^\(.\{12\}\)[0-9a-f]*/\1/')
-    [ -n "$is_proved" ] || name=$name-not-proved
-    release_file=${1:-$name.tar.gz}
-    prefix=$room/$name
+    release_name=pazturrok-$version-$(commit_of_sources | sed 's/^\(.\{12\}\)[0-9a-f]*/\1/')
+    [ -n "$is_proved" ] || release_name=$release_name-not-proved
+    release_file=${1:-$release_name.tar.gz}
+    prefix=$room/$release_name
     mkdir "$prefix"
     install_program >/dev/null
     install_clients /usr/local >/dev/null
@@ -209,7 +210,7 @@ release() {
     front_page >"$prefix/README"
     (cd "$prefix" && find . -type f | LC_ALL=C sort | sed 's|^\./||' | xargs sha256sum) >"$room/sums"
     mv "$room/sums" "$prefix/SHA256SUMS"
-    pack "$name" "$release_file" || refuse "$release_file cannot be written"
+    pack "$release_name" "$release_file" || refuse "$release_file cannot be written"
     leave_room
     sha256sum "$release_file"
 }

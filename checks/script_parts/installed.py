@@ -6,7 +6,7 @@ import shutil
 import subprocess
 import tarfile
 
-from calls import PLAIN, called, check, is_refused
+from calls import PLAIN, called, check, command, is_refused, write
 
 
 def completed(text, *words):
@@ -55,6 +55,17 @@ ALL = ("bin/pazturrok-node", "lib/pazturrok/cluster/pazturrok_node/main.py", "li
        "share/pazturrok/python/src/pazturrok/__init__.py", "share/common-lisp/source/pazturrok-client/pazturrok-client.asd")
 
 
+# What stands in the place of make, where the library for C is made.
+MAKE = """#!/bin/sh
+for word; do
+    case $word in PREFIX=*) prefix=${word#PREFIX=} ;; esac
+done
+mkdir -p "$prefix/include" "$prefix/lib/pkgconfig"
+touch "$prefix/include/pazturrok.h" "$prefix/lib/libpazturrok.a" "$prefix/lib/libpazturrok.so"
+echo "prefix=$prefix" >"$prefix/lib/pkgconfig/pazturrok.pc"
+"""
+
+
 def check_compiled(kit, room):
     """A program that is compiled and not proved, with all that goes with it, below a prefix and as a release."""
     prefix, store = os.path.join(room, "all"), os.path.join(room, "of-all")
@@ -66,6 +77,8 @@ def check_compiled(kit, room):
     check("its origin", "compiled, not proved: compiled with a kit in the place of the kit\n" in text_of(prefix, "share", "doc", "pazturrok", "ORIGIN"), True)
     check("the node starts", (called(os.path.join(prefix, "bin", "pazturrok-node"), "--help")[0],
                               f"ExecStart={prefix}/lib/pazturrok/cluster/pazturrok-node " in text_of(prefix, "lib", "systemd", "system", "pazturrok-node.service")), (0, True))
+    command(room, "make", MAKE)
+    write(os.path.join(kit.clone, "crates", "pazturrok_c", "out", "compiled_library.a"), "")
     files = [os.path.join(room, name) for name in ("one.tar.gz", "two.tar.gz")]
     told = [kit.called("release", file) for file in files]
     check("a release", [(status, out[64:]) for status, out, _ in told], [(0, f"  {file}\n".encode()) for file in files])
@@ -78,6 +91,8 @@ def check_compiled(kit, room):
         names = packed.getnames()
         packed.extractall(os.path.join(room, "unpacked"))
     folder = os.path.join(room, "unpacked", names[0])
+    check("it has the library for C", (text_of(folder, "lib", "pkgconfig", "pazturrok.pc"), "the library for C: compiled, not proved\n" in text_of(folder, "share", "doc", "pazturrok", "ORIGIN")),
+          ("prefix=/usr/local\n", True))
     check("its name says what it is", re.fullmatch(r"pazturrok-[\d.]+-.*-not-proved", names[0]) is not None, True)
     summed = subprocess.run(["sha256sum", "--quiet", "-c", "SHA256SUMS"], cwd=folder, capture_output=True, check=False)
     check("its sums", (summed.returncode, summed.stdout, len(text_of(folder, "SHA256SUMS").splitlines()) > 50), (0, b"", True))
