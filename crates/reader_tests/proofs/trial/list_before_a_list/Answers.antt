@@ -17,4 +17,4 @@ before_a_list items tail is =
     is_proper-dotted items tail ∙ rw (is) (never (nat_lt 0 (length items)) (list_all is_proper items) (is_proper tail))
 
 pub returns : goal.returns
-returns c = rw (before_a_list c.items.inside.items.items c.in_ok-new.field-0 (ap is_list c.in_ok-new.ensures ∙ is_list-List _)) refl
+returns c = rw (before_a_list _ c.in_ok-new.field-0 (ap is_list c.in_ok-new.ensures ∙ is_list-List _)) refl
