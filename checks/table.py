@@ -63,6 +63,11 @@ CHECKS = [
     campaign("folders", 30),
 ]
 
+# What is counted of the proved program alone: compiled without proof it has other figures.
+PROVED = [
+    Check("the instructions", f"checks/instructions --program {PROGRAM}", "valgrind", 90),
+]
+
 VERDICT = re.compile(r"(\d+) passed, (\d+) failed")
 
 
