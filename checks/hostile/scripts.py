@@ -48,6 +48,12 @@ def shortages(words):
     return (NO_MEMORY, OUTPUT) if "--quiet" in words else (NO_MEMORY,)
 
 
+def is_without_tip(got, ample):
+    """Whether wrong words are refused as with ample memory, but without the tip, which takes memory."""
+    first = got.err.split(b"\n")[0]
+    return got.status == ample.status == 2 and got.out == ample.out and first.startswith(b"error: ") and ample.err.startswith(first)
+
+
 def outcomes(room, folder, name, step, loaded, most, before_it):
     """What came of a run where one growth of it is refused, after so many of other runs: the first one of it goes by these, so that
     runs which begin alike are not all refused the same growths. The folder is left as it was."""
@@ -71,6 +77,7 @@ def outcomes(room, folder, name, step, loaded, most, before_it):
         want(words is not None and words[1] == "1", name, step.words, "growth", number, "was not refused, or the program did not end")
         told = without_count(step.words, got.err)
         is_short = got.status == 3 and told in shortages(step.words) and ample.out.startswith(got.out)
-        want(got == ample or is_short, name, step.words, "growth", number, got, "in place of", ample)
-        yield "absorbed" if got == ample else told.decode().strip()
+        is_same = got == ample or is_without_tip(got, ample)
+        want(is_same or is_short, name, step.words, "growth", number, got, "in place of", ample)
+        yield "absorbed" if is_same else told.decode().strip()
     shutil.rmtree(before)

@@ -7,6 +7,9 @@ from store import PATIENCE, library, logged, want
 
 CRATES = ("program_tests", "reader_tests")
 
+# The modules of program_tests that call laws: they compare what came of a store with what a law says of it, where there is ample memory.
+CALLERS_OF_LAWS = set("""again batches cuts exports fed_again keepers lives migration once reopened replicas room rounds same""".split())
+
 # What the error names with which a test ends that met want of memory. A disk in memory that finds none answers with a fault of the device.
 ERRORS = (b"AllocError", b"AllocFailed", b"Memory", b"Device")
 
@@ -35,9 +38,10 @@ def run(room, paths, most):
 
 
 def tests_of(path):
-    """The names of the tests of a binary."""
+    """The names of the tests of a binary that are to keep their word without memory."""
     listed = subprocess.run([path, "--list"], capture_output=True, text=True, check=True).stdout
     found = [line.split(": ")[0] for line in listed.splitlines() if line.endswith(": test")]
+    found = [test for test in found if test.split("::")[0] not in CALLERS_OF_LAWS]
     want(found, os.path.basename(path), "has no test")
     return found
 

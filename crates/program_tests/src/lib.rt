@@ -32,8 +32,8 @@
 //!
 //! Lemmas in `proofs`: `Keeping`.
 //!
-//! Want of memory ends a test with an error, wherever it comes: an assertion that fails is an answer that has changed. What a run of the built
-//! program can show is in `checks/sessions`: answers, refusals and their places, words, commands, files; how it takes its input in
+//! Want of memory ends a test of the first four with an error, wherever it comes: an assertion that fails is an answer that has changed. What a
+//! run of the built program can show is in `checks/sessions`: answers, refusals and their places, words, commands, files; how it takes its input in
 //! `checks/pieces`, and what it does at a terminal in `checks/terminal`. Limits, calls that stop, crashes and calls that are made again for want
 //! of memory are in `checks/calls`, faults of the device and of streams in `checks/campaign`.
 #![tactic(auto)]
