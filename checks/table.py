@@ -39,33 +39,33 @@ TEXTS = [
 ]
 
 CHECKS = [
-    Check("the sessions", f"checks/sessions/run --program {PROGRAM}", "", 30),
-    Check("the pieces", f"checks/pieces --program {PROGRAM}", "", 60),
-    Check("the script", f"checks/script {PROGRAM}", "", 30),
-    Check("the terminal", f"checks/terminal/run {PROGRAM}", "", 10),
-    Check("the exports", f"checks/export/run {PROGRAM}", "", 60),
-    Check("the messages", f"checks/messages/run {PROGRAM}", "", 60),
-    Check("the groups", f"checks/groups --program {PROGRAM} --sessions --kills 25", "", 60),
-    Check("the calls", f"checks/calls/run --engine {ENGINE}", "rt", 60),
-    Check("the looks", f"checks/looks/run {PROGRAM} --looks 300", "", 60),
-    Check("the client for Common Lisp", f"checks/lisp/run {PROGRAM}", "sbcl|ecl", 120),
+    Check("the sessions", f"checks/sessions/run --program {PROGRAM}", "", 10),
+    Check("the pieces", f"checks/pieces --program {PROGRAM}", "", 45),
+    Check("the script", f"checks/script {PROGRAM}", "", 25),
+    Check("the terminal", f"checks/terminal/run {PROGRAM}", "", 7),
+    Check("the exports", f"checks/export/run {PROGRAM}", "", 15),
+    Check("the messages", f"checks/messages/run {PROGRAM}", "", 8),
+    Check("the groups", f"checks/groups --program {PROGRAM} --sessions --kills 25", "", 35),
+    Check("the calls", f"checks/calls/run --engine {ENGINE}", "rt", 15),
+    Check("the looks", f"checks/looks/run {PROGRAM} --looks 300", "", 12),
+    Check("the client for Common Lisp", f"checks/lisp/run {PROGRAM}", "sbcl|ecl", 80),
     Check("the client for Python", f"checks/python/run {PROGRAM}", "", 30),
-    Check("the nodes", f"checks/cluster/run {PROGRAM} --short", "etcd", 180),
-    Check("the library", f"checks/embedded/run --short --engine {ENGINE} --program {PROGRAM}", "rt cc make", 150),
-    Check("the costs", f"checks/costs --counted --program {PROGRAM}", "valgrind", 400),
-    campaign("growth", 100),
-    campaign("scripts", 100),
-    campaign("tests", 100),
-    campaign("device", 200),
-    campaign("power", 200),
-    campaign("host", 60),
-    campaign("looks", 60),
-    campaign("folders", 30),
+    Check("the nodes", f"checks/cluster/run {PROGRAM} --short", "etcd", 190),
+    Check("the library", f"checks/embedded/run --short --engine {ENGINE} --program {PROGRAM}", "rt cc make", 100),
+    Check("the costs", f"checks/costs --counted --program {PROGRAM}", "valgrind", 160),
+    campaign("growth", 120),
+    campaign("scripts", 40),
+    campaign("tests", 3),
+    campaign("device", 50),
+    campaign("power", 15),
+    campaign("host", 3),
+    campaign("looks", 6),
+    campaign("folders", 2),
 ]
 
 # What is counted of the proved program alone: compiled without proof it has other figures.
 PROVED = [
-    Check("the instructions", f"checks/instructions --program {PROGRAM}", "valgrind", 90),
+    Check("the instructions", f"checks/instructions --program {PROGRAM} --engine {ENGINE}", "valgrind cc make rt", 55),
 ]
 
 VERDICT = re.compile(r"(\d+) passed, (\d+) failed")
