@@ -1,5 +1,5 @@
 // The answers to frames: from the store, and to the output.
-ghost use Rattle.std.specs.Prelude.{◌≡◌, ℕ, ◌<◌, ◌≤◌, length, map, take, true, IfErr, IfOk, OnOk, Some};
+ghost use Rattle.std.specs.Prelude.{◌≡◌, ℕ, ◌<◌, ◌≤◌, length, map, take, IfErr, IfOk, OnOk, Some};
 ghost use Rattle.std.specs.List.{flat_map};
 ghost use Rattle.message_frames.specs.Frames.{answer_bytes, sent};
 ghost use Rattle.message_session.specs.Answers.{AskAlike, answers_to, message_number};
@@ -8,7 +8,6 @@ ghost use Rattle.message_session.specs.Steps.{AnswersFront, AnswersFrames, Renew
 ghost use Rattle.plist_state.specs.Sound.{IsSound};
 ghost use Rattle.plist_state.specs.State.{WorldState};
 ghost use Rattle.prevalence_store.specs.messages.Rounds.{told_in};
-ghost use Rattle.user_macros.specs.Functions.{are_registered};
 
 use crate::ended::Ended;
 use crate::recipient::AnswerRecipient;
@@ -118,8 +117,6 @@ pub(crate) fn answer_frames<D: Disk, R: MacroFunctions, O: AnswerRecipient<D, R>
     frames: &[Frame<'_>],
     output: &mut O,
 ) -> Result<(), Ended>
-    requires answers { R.answers store.old.macros }
-    requires whole { are_registered R.Meaning.functions (R.functions store.old.macros) ≡ true }
     requires rests { Rests R.Meaning.functions D.state (O.account output.old) store.old course.old.last }
     requires next { ComeNext (O.account output.old) (map sent frames.now) }
     ensures answers { (w : WorldState) → store.old.world ≡ Some w
@@ -150,8 +147,6 @@ fn answer_front<D: Disk, R: MacroFunctions, O: AnswerRecipient<D, R>>(
     frames: &[Frame<'_>],
     output: &mut O,
 ) -> Result<usize, Ended>
-    requires answers { R.answers store.old.macros }
-    requires whole { are_registered R.Meaning.functions (R.functions store.old.macros) ≡ true }
     requires rests { Rests R.Meaning.functions D.state (O.account output.old) store.old course.old.last }
     requires next { ComeNext (O.account output.old) (map sent frames.now) }
     requires any { 0 < length frames.now }
@@ -160,6 +155,8 @@ fn answer_front<D: Disk, R: MacroFunctions, O: AnswerRecipient<D, R>>(
         course.new.last (map sent frames.now) result }
     ensures rests { RestsOrEnds R.Meaning.functions D.state (O.account output.new) store.new course.new.last result }
     ensures more { IfOk result (λ count. AnswersMore (O.account output.old) (O.account output.new) (take count (map sent frames.now))) }
+
+    // How many frames were answered, and what stays.
     ensures most { IfOk result (λ count. count ≤ length frames.now) }
     ensures some { IfOk result (λ count. 0 < count) }
     ensures input { O.input output.new ≡ O.input output.old }
@@ -183,8 +180,6 @@ fn answer_in_turn<D: Disk, R: MacroFunctions, O: AnswerRecipient<D, R>>(
     frames: &[Frame<'_>],
     output: &mut O,
 ) -> Result<usize, Ended>
-    requires answers { R.answers store.old.macros }
-    requires whole { are_registered R.Meaning.functions (R.functions store.old.macros) ≡ true }
     requires rests { Rests R.Meaning.functions D.state (O.account output.old) store.old course.old.last }
     requires next { ComeNext (O.account output.old) (map sent frames.now) }
     requires any { 0 < length frames.now }
@@ -193,6 +188,8 @@ fn answer_in_turn<D: Disk, R: MacroFunctions, O: AnswerRecipient<D, R>>(
         course.new.last (map sent frames.now) result }
     ensures rests { RestsOrEnds R.Meaning.functions D.state (O.account output.new) store.new course.new.last result }
     ensures more { IfOk result (λ count. AnswersMore (O.account output.old) (O.account output.new) (take count (map sent frames.now))) }
+
+    // How many frames were answered, and what stays.
     ensures most { IfOk result (λ count. count ≤ length frames.now) }
     ensures some { IfOk result (λ count. 0 < count) }
     ensures input { O.input output.new ≡ O.input output.old }
@@ -216,8 +213,6 @@ fn take_with_room<D: Disk, R: MacroFunctions, O: AnswerRecipient<D, R>>(
     frames: &[Frame<'_>],
     output: &mut O,
 ) -> Result<usize, Stop>
-    requires answers { R.answers store.old.macros }
-    requires whole { are_registered R.Meaning.functions (R.functions store.old.macros) ≡ true }
     requires rests { Rests R.Meaning.functions D.state (O.account output.old) store.old course.old.last }
     requires next { ComeNext (O.account output.old) (map sent frames.now) }
     requires any { 0 < length frames.now }
@@ -226,6 +221,8 @@ fn take_with_room<D: Disk, R: MacroFunctions, O: AnswerRecipient<D, R>>(
         course.new.last (map sent frames.now) result }
     ensures rests { RestsOrStops R.Meaning.functions D.state (O.account output.new) store.new course.new.last result }
     ensures more { IfOk result (λ count. AnswersMore (O.account output.old) (O.account output.new) (take count (map sent frames.now))) }
+
+    // How many frames were answered, and what stays.
     ensures most { IfOk result (λ count. count ≤ length frames.now) }
     ensures untouched { IfErr result (λ stop. (number : ℕ) → stop ≡ Stop.Untaken number → output.new ≡ output.old) }
     ensures some { IfOk result (λ count. 0 < count) }
@@ -262,8 +259,6 @@ fn take_frames<D: Disk, R: MacroFunctions, O: AnswerRecipient<D, R>>(
     frames: &[Frame<'_>],
     output: &mut O,
 ) -> Result<usize, Stop>
-    requires answers { R.answers store.old.macros }
-    requires whole { are_registered R.Meaning.functions (R.functions store.old.macros) ≡ true }
     requires rests { Rests R.Meaning.functions D.state (O.account output.old) store.old course.old.last }
     requires next { ComeNext (O.account output.old) (map sent frames.now) }
     requires any { 0 < length frames.now }
@@ -272,6 +267,8 @@ fn take_frames<D: Disk, R: MacroFunctions, O: AnswerRecipient<D, R>>(
         course.new.last store.old (map sent frames.now) result }
     ensures rests { RestsOrStops R.Meaning.functions D.state (O.account output.new) store.new course.new.last result }
     ensures more { IfOk result (λ count. AnswersMore (O.account output.old) (O.account output.new) (take count (map sent frames.now))) }
+
+    // How many frames were answered, and what stays.
     ensures most { IfOk result (λ count. count ≤ length frames.now) }
     ensures untouched { IfErr result (λ stop. (number : ℕ) → stop ≡ Stop.Untaken number → output.new ≡ output.old) }
     ensures some { IfOk result (λ count. 0 < count) }

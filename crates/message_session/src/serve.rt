@@ -7,7 +7,6 @@ ghost use Rattle.message_session.specs.Sessions.{AsksToReopen, HasNoRoomToBegin,
 ghost use Rattle.message_session.specs.Standing.{AcknowledgesNone, AnswersFirstOf, ComesNext, IsReadIn, Rests, RestsOrEnds};
 ghost use Rattle.message_session.specs.Steps.{AnswersAllHeld, AnswersFramesOfInput, AnswersSomeHeld, MayBegin, TakesPiece};
 ghost use Rattle.plist_state.specs.State.{WorldState};
-ghost use Rattle.user_macros.specs.Functions.{are_registered};
 
 use crate::answer::{Course, answer_frames, its_world_is_sound, renew_for_room};
 use crate::ended::Ended;
@@ -56,8 +55,6 @@ pub fn serve_messages<D: Disk, R: MacroFunctions, I: Read, O: AnswerRecipient<D,
     output: &mut O,
     snapshot_every: u64,
 ) -> Ended
-    requires answers { R.answers store.old.macros }
-    requires whole { are_registered R.Meaning.functions (R.functions store.old.macros) ≡ true }
     requires begins { (kept : Account D) → O.account output.old ≡ Some kept → ⊥ }
     requires of_input { (all : List ℕ) → O.input output.old ≡ Some all → I.remaining input.old ≡ Some all }
     ensures reopen { store.old.world ≡ None
@@ -93,8 +90,6 @@ pub fn serve_messages<D: Disk, R: MacroFunctions, I: Read, O: AnswerRecipient<D,
 
 // Begins with messages. A half that is full is made anew first.
 fn begin<D: Disk, R: MacroFunctions>(store: &mut Store<D, R>) -> Result<u64, Ended>
-    requires answers { R.answers store.old.macros }
-    requires whole { are_registered R.Meaning.functions (R.functions store.old.macros) ≡ true }
     ensures reopen { store.old.world ≡ None → (result ≡ Err (Ended.Fault REOPEN)) × (store.new ≡ store.old) }
     ensures begun { (w : WorldState) → store.old.world ≡ Some w → MayBegin R.Meaning.functions D.state store.old store.new w result }
     ensures told { IfOk result (λ position. (w : WorldState) → store.new.world ≡ Some w → IsToldIn position w) }
@@ -109,8 +104,6 @@ fn begin<D: Disk, R: MacroFunctions>(store: &mut Store<D, R>) -> Result<u64, End
 
 // Begins with messages in a half that is made anew, as there was no room.
 fn begin_anew<D: Disk, R: MacroFunctions>(store: &mut Store<D, R>) -> Result<u64, Ended>
-    requires answers { R.answers store.old.macros }
-    requires whole { are_registered R.Meaning.functions (R.functions store.old.macros) ≡ true }
     ensures begun { (w : WorldState) → store.old.world ≡ Some w → HasNoRoomToBegin R.Meaning.functions D.state store.old w
         → MayBegin R.Meaning.functions D.state store.old store.new w result }
     ensures told { (before : WorldState) → store.old.world ≡ Some before
@@ -135,8 +128,6 @@ fn serve_frames<D: Disk, R: MacroFunctions, I: Read, O: AnswerRecipient<D, R>>(
     output: &mut O,
     course: Course,
 ) -> Ended
-    requires answers { R.answers store.old.macros }
-    requires whole { are_registered R.Meaning.functions (R.functions store.old.macros) ≡ true }
     requires rests { Rests R.Meaning.functions D.state (O.account output.old) store.old course.last }
     requires read { IsReadIn (O.account output.old) (I.remaining input.old) [] }
     ensures serves { (w : WorldState) → store.old.world ≡ Some w
@@ -206,8 +197,6 @@ impl Session {
         store: &mut Store<D, R>,
         output: &mut O,
     ) -> Result<bool, Ended>
-        requires answers { R.answers store.old.macros }
-        requires whole { are_registered R.Meaning.functions (R.functions store.old.macros) ≡ true }
         requires rests { Rests R.Meaning.functions D.state (O.account output.old) store.old self.old.course.last }
         requires next { ComesNext (O.account output.old) self.old.held }
         ensures answers { (w : WorldState) → store.old.world ≡ Some w
@@ -235,8 +224,6 @@ impl Session {
         store: &mut Store<D, R>,
         output: &mut O,
     ) -> Result<Next, Ended>
-        requires answers { R.answers store.old.macros }
-        requires whole { are_registered R.Meaning.functions (R.functions store.old.macros) ≡ true }
         requires rests { Rests R.Meaning.functions D.state (O.account output.old) store.old self.old.course.last }
         requires next { ComesNext (O.account output.old) self.old.held }
         ensures answers { (w : WorldState) → store.old.world ≡ Some w

@@ -1,13 +1,11 @@
 // A store whose device is its caller.
-ghost use Rattle.std.specs.Prelude.{◌≡◌, ◌↔◌, [], true, IfOk, IfErr, IsTrue};
+ghost use Rattle.std.specs.Prelude.{◌≡◌, ◌↔◌, [], IfOk, IfErr, IsTrue};
 ghost use Rattle.std.specs.List.{All};
 ghost use Rattle.deferred_disk.specs.Bytes.{orders_bytes};
-ghost use Rattle.deferred_disk.specs.Disk.{pending_of, state_of};
+ghost use Rattle.deferred_disk.specs.Disk.{pending_of};
 ghost use Rattle.pazturrok_c.specs.Engine.{AreAnswered, ExecutesMany, IsAnswered, IsBarred, IsExecuted, IsOpenedOn, IsSnapshotted, IsUnopenedOn, mode_in};
 ghost use Rattle.pazturrok_c.specs.Messages.{AnswersAll, AreTold, IsBegun, IsTold};
 ghost use Rattle.prevalence_store.specs.calls.Execute.{IsProperOutcome};
-ghost use Rattle.six_functions.specs.MacroFunctions.{six_functions};
-ghost use Rattle.user_macros.specs.Functions.{are_registered};
 
 use crate::answer::{EngineStore, printed};
 use crate::done::{RequestHead, Setting};
@@ -21,14 +19,12 @@ use plist_state::Seed;
 use prevalence_store::{Mode, Outcome, Replies, Store};
 use six_functions::SixFunctions;
 use std::alloc::Global;
-use user_macros::MacroFunctions;
 
 /// A store with the six macro functions over a disk whose calls its caller does, and what it answered last.
 pub struct Engine {
     alloc: Global,
     store: EngineStore,
     answer: Vec<u8>,
-    ghost whole: { are_registered six_functions (⟦<Fixed<SixFunctions> as MacroFunctions>⟧.functions store.macros) ≡ true },
 }
 
 impl Drop for Engine {

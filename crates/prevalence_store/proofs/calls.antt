@@ -6,3 +6,4 @@ pub mod Executing
 pub mod Snapshotting
 pub mod Running
 pub mod Progressing
+pub mod KeptMacros

@@ -50,6 +50,7 @@
 //!   `gather`, forms that stand whole after one another, with their lines, and `together`, the answers to them; `schedule`,
 //!   when it takes snapshots; `course`, how far it has come. A line is made before its record is logged, and written after.
 //! - `recipient`: who gets the lines of a session.
+//! - `whole_macros`: the macro functions of a store, of which none is missing.
 //! - `step`, `outcome`, `open_fault`: the words of the calls, with `Mode` and `Wanted` of session_words. `failure`: why a form is not accepted.
 //! - `laws`: the headline, openings in a row, that an image means one world, that files of version 1 mean what they meant, and
 //!   which numbers refuse a form, and what the number tells with which requests are refused.
@@ -77,6 +78,7 @@ mod session;
 mod setting;
 mod step;
 mod store;
+mod whole_macros;
 
 pub use laws::{
     form_numbers, fresh_files, headline, one_world, recoveries, refusals_have_causes,

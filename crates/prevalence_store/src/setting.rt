@@ -4,8 +4,8 @@ ghost use Rattle.package_table.specs.Table.{IsPackage};
 ghost use Rattle.form_reader.specs.Reader.{IsOutcome};
 ghost use Rattle.prevalence_store.specs.meaning.Acceptance.{base_in, package_in, read_in, table_in};
 ghost use Rattle.prevalence_store.specs.steps.Setting.{AreThere, IsWhole};
-ghost use Rattle.user_macros.specs.Functions.{are_registered};
 
+use crate::whole_macros::WholeMacros;
 use form_eval::ReadForm;
 use form_reader::{Limits, ReadOutcome, read_one};
 use lisp_object::refusal::{END_OF_FILE, TEXT_LEFT_OVER};
@@ -68,12 +68,10 @@ pub(crate) enum WholeText {
 pub(crate) fn read_whole<R: MacroFunctions>(
     alloc: Global,
     world: &World,
-    macros: &R,
+    macros: &WholeMacros<R>,
     mode: Mode,
     text: &[u8],
 ) -> Result<WholeText, AllocError>
-    requires answers { R.answers macros.now }
-    requires whole { are_registered R.Meaning.functions (R.functions macros.now) ≡ true }
     ensures { IfOk result (IsWhole R.Meaning.functions world.now.0 mode text.now) }
 {
     world.soundness();
@@ -108,12 +106,10 @@ struct Beginning {
 fn begins<R: MacroFunctions>(
     alloc: Global,
     world: &World,
-    macros: &R,
+    macros: &WholeMacros<R>,
     mode: Mode,
     text: &[u8],
 ) -> Result<Beginning, AllocError>
-    requires answers { R.answers macros.now }
-    requires whole { are_registered R.Meaning.functions (R.functions macros.now) ≡ true }
     ensures outcome { IfOk result (λ begun. IsOutcome begun.outcome
         (read_in R.Meaning.functions world.now.0 mode text.now)) }
     ensures all_there { IfOk result (λ begun. begun.known ≡ true
@@ -134,8 +130,9 @@ fn begins<R: MacroFunctions>(
             known: plain.known,
         });
     }
+    let functions = &macros.functions;
     let outcome = read_one(
-        alloc, limits, readtable, base, packages, package, macros, text,
+        alloc, limits, readtable, base, packages, package, functions, text,
     )?;
     Ok(Beginning {
         outcome,

@@ -1,5 +1,5 @@
 //! The store that a history goes on with after a session.
-ghost use Rattle.std.specs.Prelude.{◌≡◌, ℕ, List, IfSome, IsSome};
+ghost use Rattle.std.specs.Prelude.{ℕ, List, IfSome, IsSome};
 ghost use Rattle.gate_log.specs.Layout.{LogRecord};
 ghost use Rattle.plist_state.specs.State.{WorldState};
 ghost use Rattle.store_laws.specs.Histories.{Stands, StillStands};
@@ -21,9 +21,7 @@ pub fn reopen_failed<D: Disk + Drop, M: MacroFunctions + Drop>(
     alloc: Global,
     store: Store<D, M>,
 ) -> Option<Store<D, M>>
-    requires answers { M.answers store.macros }
     ensures is_open { IfSome result (λ later. IsSome later.world) }
-    ensures macros { IfSome result (λ later. later.macros ≡ store.macros) }
     ensures stands { IfSome result (λ later. (first : WorldState) (line : List LogRecord) (sure : ℕ)
         → Stands M.Meaning.functions D.state first line sure store.disk store.world
         → StillStands M.Meaning.functions D.state first line sure later.disk later.world) }

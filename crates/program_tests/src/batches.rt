@@ -1,6 +1,5 @@
 //! Requests that are answered in batches, each of which ends with the bytes of its answers.
-ghost use Rattle.std.specs.Prelude.{◌≡◌, ◌<◌, ◌-◌, ◌^◌, true};
-ghost use Rattle.user_macros.specs.Functions.{are_registered};
+ghost use Rattle.std.specs.Prelude.{◌<◌, ◌-◌, ◌^◌};
 
 use crate::again::AMPLE;
 use disk_trait::{Disk, MemoryDisk};
@@ -14,10 +13,7 @@ fn answer_in_batches<D: Disk, M: MacroFunctions>(
     store: &mut Store<D, M>,
     last: u64,
     requests: &[Request<'_>],
-) -> Option<(u64, u64)>
-    requires answers { M.answers store.old.macros }
-    requires whole { are_registered M.Meaning.functions (M.functions store.old.macros) ≡ true }
-{
+) -> Option<(u64, u64)> {
     let mut last = last;
     let mut batches = 0u64;
     let mut left = requests;

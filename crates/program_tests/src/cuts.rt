@@ -1,8 +1,7 @@
 //! The same requests in one call and in two.
-ghost use Rattle.std.specs.Prelude.{◌≡◌, ◌<◌, ◌-◌, ◌^◌, ◌++◌, IfSome, Some, map, true};
+ghost use Rattle.std.specs.Prelude.{◌≡◌, ◌<◌, ◌-◌, ◌^◌, ◌++◌, IfSome, Some, map};
 ghost use Rattle.plist_state.specs.State.{WorldState};
 ghost use Rattle.prevalence_store.specs.messages.Rounds.{told_in};
-ghost use Rattle.user_macros.specs.Functions.{are_registered};
 
 use crate::again::AMPLE;
 use disk_trait::{Disk, MemoryDisk};
@@ -25,10 +24,6 @@ fn answered_in_two<D: Disk, E: Disk, M: MacroFunctions>(
     first: &[Request<'_>],
     rest: &[Request<'_>],
 ) -> Option<Answered>
-    requires one_answers { M.answers one.old.macros }
-    requires other_answers { M.answers other.old.macros }
-    requires one_whole { are_registered M.Meaning.functions (M.functions one.old.macros) ≡ true }
-    requires other_whole { are_registered M.Meaning.functions (M.functions other.old.macros) ≡ true }
     ensures { IfSome result (λ replies. (world : WorldState)
         → one.old.world ≡ Some world → other.old.world ≡ Some world
         → whole.now ≡ first.now ++ rest.now

@@ -2,7 +2,6 @@
 ghost use Rattle.std.specs.Prelude.{◌≡◌, ◌<◌, ◌-◌, ◌^◌, [], IfOk, IsTrue, Some, true};
 ghost use Rattle.plist_state.specs.State.{initial};
 ghost use Rattle.snapshot_text.specs.Covered.{are_covered};
-ghost use Rattle.user_macros.specs.Functions.{are_registered};
 ghost use Rattle.world_forms.specs.Properties.{left_out_lines};
 
 use crate::same::have_same_export;
@@ -30,8 +29,6 @@ fn taken_in<D: Disk, M: MacroFunctions>(
     world: &World,
     store: &mut Store<D, M>,
 ) -> Result<bool, AllocError>
-    requires answers { M.answers store.old.macros }
-    requires whole { are_registered M.Meaning.functions (M.functions store.old.macros) ≡ true }
     ensures { IfOk result (λ is_taken. IsTrue is_taken
         → are_covered M.Meaning.functions.names world.now.0 ≡ true
         → left_out_lines world.now.0 ≡ [] → store.old.world ≡ Some initial
@@ -60,12 +57,7 @@ fn taken_from<D: Disk, M: MacroFunctions>(
     one: &mut Store<D, M>,
     other: &mut Store<D, M>,
     input: &[u8],
-) -> Result<(bool, u64), Trouble>
-    requires one_answers { M.answers one.old.macros }
-    requires other_answers { M.answers other.old.macros }
-    requires one_whole { are_registered M.Meaning.functions (M.functions one.old.macros) ≡ true }
-    requires other_whole { are_registered M.Meaning.functions (M.functions other.old.macros) ≡ true }
-{
+) -> Result<(bool, u64), Trouble> {
     let mut reader = input;
     let mut answers = Vec::new(alloc);
     let _ended = one.serve(&mut reader, &mut answers, Mode::Current, 0);

@@ -1,12 +1,11 @@
 //! A session over what is fed again.
-ghost use Rattle.std.specs.Prelude.{◌≡◌, ◌<◌, ◌-◌, ◌^◌, ℕ, List, Some, true};
+ghost use Rattle.std.specs.Prelude.{◌≡◌, ◌<◌, ◌-◌, ◌^◌, ℕ, List, Some};
 ghost use Rattle.std.specs.List.{AllByRecursion, flat_map};
 ghost use Rattle.feeding_laws.specs.Feeding.{AreAnsweredAgain, FeedsAgain, over};
 ghost use Rattle.message_frames.specs.Frames.{IsFrame, Sent, frame_bytes};
 ghost use Rattle.message_session.specs.Sessions.{text_limit};
 ghost use Rattle.plist_state.specs.State.{WorldState};
 ghost use Rattle.prevalence_store.specs.messages.Position.{position};
-ghost use Rattle.user_macros.specs.Functions.{are_registered};
 
 use disk_trait::{Disk, MemoryDisk};
 use feeding_laws::fed_sessions;
@@ -28,8 +27,6 @@ fn feed_again<D: Disk, M: MacroFunctions, I: Read, O: Write>(
     input: &mut I,
     output: &mut O,
 ) -> Ended
-    requires answers { M.answers store.old.macros }
-    requires whole { are_registered M.Meaning.functions (M.functions store.old.macros) ≡ true }
     ensures again { (last p : ℕ) (first now : WorldState) (frames : List Sent)
         → store.old.world ≡ Some now → FeedsAgain M.Meaning.functions last first frames now → position now ≡ Some p
         → AllByRecursion (IsFrame text_limit) frames

@@ -1,6 +1,6 @@
 //! A recipient that keeps account of its session, and what follows of the session at each moment.
 ghost use Rattle.std.specs.Option.{option_map};
-ghost use Rattle.std.specs.Prelude.{◌≡◌, ℕ, ◌+◌, ◌<◌, ◌-◌, ◌^◌, [], List, Some, IfSome, IsSome, true};
+ghost use Rattle.std.specs.Prelude.{◌≡◌, ℕ, ◌+◌, ◌<◌, ◌-◌, ◌^◌, [], List, Some, IfSome, IsSome};
 ghost use Rattle.disk_trait.specs.Disk.{Image, IsHonest};
 ghost use Rattle.plist_state.specs.State.{WorldState};
 ghost use Rattle.prevalence_store.specs.Theorem.{Call, disk_after};
@@ -8,7 +8,6 @@ ghost use Rattle.prevalence_store.specs.calls.Account.{Account, AreStored, with_
 ghost use Rattle.program_tests.specs.Keepers.{IsKept, account_of, began_with, first_of};
 ghost use Rattle.store_laws.specs.Batches.{MeansCalls};
 ghost use Rattle.store_laws.specs.Sessions.{AreCalls};
-ghost use Rattle.user_macros.specs.Functions.{are_registered};
 
 use crate::again::{AMPLE, reopen_failed};
 use disk_trait::{Disk, MemoryDisk, OnceDisk};
@@ -148,9 +147,6 @@ fn kept_account<D: Disk, M: MacroFunctions, I: Read>(
     store: &mut Store<D, M>,
     reader: &mut I,
 ) -> Option<(Ended, Vec<u8>)>
-    requires answers { M.answers store.old.macros }
-    requires whole { are_registered M.Meaning.functions (M.functions store.old.macros) ≡ true }
-    ensures macros { store.new.macros ≡ store.old.macros }
     ensures calls { IfSome result (λ kept. (world : WorldState) → store.old.world ≡ Some world
         → IsHonest (D.state store.old.disk) → (calls : List (Call D))
         × AreCalls M.Meaning.functions D.state (began_with store.old (I.remaining reader.old)) calls

@@ -1,11 +1,10 @@
 //! Messages that are answered in one call, and what a crash leaves of them.
-ghost use Rattle.std.specs.Prelude.{◌≡◌, ◌⊎◌, ◌<◌, ◌-◌, ◌^◌, IfSome, Some, pos, true};
+ghost use Rattle.std.specs.Prelude.{◌≡◌, ◌⊎◌, ◌<◌, ◌-◌, ◌^◌, IfSome, Some, pos};
 ghost use Rattle.disk_trait.specs.Disk.{Image, IsHonest};
 ghost use Rattle.lisp_object.specs.Object.{integer};
 ghost use Rattle.plist_state.specs.State.{WorldState};
 ghost use Rattle.prevalence_store.specs.meaning.Files.{MeansWorld};
 ghost use Rattle.prevalence_store.specs.messages.Position.{position_property};
-ghost use Rattle.user_macros.specs.Functions.{are_registered};
 
 use crate::again::AMPLE;
 use disk_trait::{Disk, MemoryDisk};
@@ -24,9 +23,6 @@ fn answer_once<D: Disk, M: MacroFunctions>(
     last: u64,
     requests: &[Request<'_>],
 ) -> Option<Replies>
-    requires answers { M.answers store.old.macros }
-    requires whole { are_registered M.Meaning.functions (M.functions store.old.macros) ≡ true }
-    ensures macros { store.new.macros ≡ store.old.macros }
     ensures any_moment { IfSome result (λ replies. (world now : WorldState) (image : Image)
         → store.old.world ≡ Some world → IsHonest (D.state store.old.disk)
         → (D.state store.new.disk).left_since (D.state store.old.disk).moment image

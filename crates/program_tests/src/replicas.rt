@@ -1,9 +1,8 @@
 //! Two stores that are handed the same input: one in sessions without groups, the other in sessions with groups, or the other way round.
-ghost use Rattle.std.specs.Prelude.{◌≡◌, ◌<◌, ◌-◌, ◌^◌, ℕ, IfSome, IsTrue, Some, true};
+ghost use Rattle.std.specs.Prelude.{◌≡◌, ◌<◌, ◌-◌, ◌^◌, ℕ, IfSome, IsTrue, Some};
 ghost use Rattle.plist_state.specs.State.{WorldState};
 ghost use Rattle.prevalence_store.specs.declared.outcome.Place.{Place};
 ghost use Rattle.store_laws.specs.Outcomes.{IsByInput};
-ghost use Rattle.user_macros.specs.Functions.{are_registered};
 
 use crate::troubled_disks::{AMPLE, Trouble};
 use disk_trait::{Disk, MemoryDisk};
@@ -29,15 +28,10 @@ fn answered_twice<D: Disk, E: Disk, M: MacroFunctions>(
     other: &mut Store<E, M>,
     input: &[u8],
 ) -> Option<(Vec<u8>, Vec<u8>)>
-    requires one_answers { M.answers one.old.macros }
-    requires other_answers { M.answers other.old.macros }
-    requires one_whole { are_registered M.Meaning.functions (M.functions one.old.macros) ≡ true }
-    requires other_whole { are_registered M.Meaning.functions (M.functions other.old.macros) ≡ true }
     ensures bytes { IfSome result (λ both. (w : WorldState) → one.old.world ≡ Some w
         → other.old.world ≡ Some w → both.1.items ≡ both.0.items) }
     ensures worlds { IfSome result (λ both. (w : WorldState) → one.old.world ≡ Some w
         → other.old.world ≡ Some w → other.new.world ≡ one.new.world) }
-    ensures macros { (one.new.macros ≡ one.old.macros) × (other.new.macros ≡ other.old.macros) }
 {
     let plain = Wanted {
         mode: Mode::Current,
@@ -83,10 +77,6 @@ fn stopped_twice<D: Disk, E: Disk, M: MacroFunctions>(
     other: &mut Store<E, M>,
     input: &[u8],
 ) -> Option<(Vec<u8>, Vec<u8>)>
-    requires one_answers { M.answers one.old.macros }
-    requires other_answers { M.answers other.old.macros }
-    requires one_whole { are_registered M.Meaning.functions (M.functions one.old.macros) ≡ true }
-    requires other_whole { are_registered M.Meaning.functions (M.functions other.old.macros) ≡ true }
     ensures bytes { IfSome result (λ both. (w : WorldState) → one.old.world ≡ Some w
         → other.old.world ≡ Some w → both.1.items ≡ both.0.items) }
     ensures worlds { IfSome result (λ both. (w : WorldState) → one.old.world ≡ Some w

@@ -2,7 +2,6 @@
 ghost use Rattle.std.specs.Prelude.{◌≡◌, ◌<◌, ◌-◌, ◌^◌, Some, true};
 ghost use Rattle.plist_state.specs.State.{WorldState};
 ghost use Rattle.prevalence_store.specs.messages.Refusals.{HasNoRoom};
-ghost use Rattle.user_macros.specs.Functions.{are_registered};
 
 use crate::batches::long_form;
 use disk_trait::{Disk, MemoryDisk};
@@ -25,8 +24,6 @@ fn has_no_room<D: Disk, M: MacroFunctions>(
     last: u64,
     requests: &[Request<'_>],
 ) -> bool
-    requires answers { M.answers store.old.macros }
-    requires whole { are_registered M.Meaning.functions (M.functions store.old.macros) ≡ true }
     ensures { (world : WorldState) → store.old.world ≡ Some world → result ≡ true → (store.new ≡ store.old)
         × HasNoRoom M.Meaning.functions D.state store.old store.new world last requests.now }
 {

@@ -1,10 +1,9 @@
 //! Two rounds of messages, with a snapshot between them.
-ghost use Rattle.std.specs.Prelude.{◌≡◌, ◌<◌, ◌-◌, ◌^◌, [], ◌∷◌, IfSome, Some, true};
+ghost use Rattle.std.specs.Prelude.{◌≡◌, ◌<◌, ◌-◌, ◌^◌, [], ◌∷◌, IfSome, Some};
 ghost use Rattle.disk_trait.specs.Disk.{IsHonest};
 ghost use Rattle.plist_state.specs.State.{WorldState};
 ghost use Rattle.prevalence_store.specs.Theorem.{Keeps};
 ghost use Rattle.store_laws.specs.Rounds.{HasCome, after_rounds, place_at};
-ghost use Rattle.user_macros.specs.Functions.{are_registered};
 
 use crate::again::AMPLE;
 use disk_trait::{Disk, MemoryDisk};
@@ -23,8 +22,6 @@ fn answer_twice<D: Disk, M: MacroFunctions>(
     first: &[Request<'_>],
     second: &[Request<'_>],
 ) -> Option<Replies>
-    requires answers { M.answers store.old.macros }
-    requires whole { are_registered M.Meaning.functions (M.functions store.old.macros) ≡ true }
     ensures { IfSome result (λ _. (w : WorldState) → store.old.world ≡ Some w
         → IsHonest (D.state store.old.disk) → Keeps M.Meaning.functions (D.state store.old.disk) w
         → HasCome M.Meaning.functions D.state store.new (after_rounds M.Meaning.functions (place_at last w) (first.now ∷ second.now ∷ []))) }

@@ -1,5 +1,5 @@
 // Sessions in a row over the store that a disk holds.
-ghost use Rattle.std.specs.Prelude.{◌≡◌, ◌<◌, ◌-◌, ◌^◌, None, Some, true, IfOk, IfErr, IsSome};
+ghost use Rattle.std.specs.Prelude.{◌≡◌, ◌<◌, ◌-◌, ◌^◌, None, Some, IfOk, IfErr, IsSome};
 ghost use Rattle.plist_state.specs.State.{WorldState};
 ghost use Rattle.prevalence_store.specs.calls.Open.{IsUnopened};
 ghost use Rattle.user_macros.specs.Functions.{are_registered};
@@ -66,10 +66,8 @@ where
     M: MacroFunctions,
     I: Sessions,
     O: SessionRecipient<D, M, I>,
-    requires answers { M.answers store.old.macros }
     requires is_open { IsSome store.old.world }
     requires begins { BeginsAccount wanted.mode (I.remaining input.old) store.old (O.account output.old) }
-    requires whole { are_registered M.Meaning.functions (M.functions store.old.macros) ≡ true }
     ensures serves { (world : WorldState) → store.old.world ≡ Some world
         → InTurn M.Meaning.functions wanted D.state store.old store.new world
         (I.remaining input.old) (I.remaining input.new)

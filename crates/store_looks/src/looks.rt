@@ -270,7 +270,6 @@ pub(crate) fn opened<M: MacroFunctions + Drop>(
 ) -> Result<Store<Sight, M>, Unlooked>
     requires answers { M.answers macros }
     requires room { (⟦<Sight as Disk>⟧.state sight).failures < 2 ^ 64 - 1 }
-    ensures macros { IfOk result (λ store. M.answers store.macros) }
     ensures opened { IfOk result (λ store. IsOpened M.Meaning.functions ⟦<Sight as Disk>⟧.state sight macros half_limit store) }
     ensures refused { IfErr result (Unopens M.Meaning.functions
         (are_registered M.Meaning.functions (M.functions macros)) sight) }

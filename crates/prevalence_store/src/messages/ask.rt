@@ -1,15 +1,15 @@
 // A question: a form that is evaluated, and of which nothing is left.
-ghost use Rattle.std.specs.Prelude.{◌≡◌, true, Ok, IfOk};
+ghost use Rattle.std.specs.Prelude.{◌≡◌, Ok, IfOk};
 ghost use Rattle.form_eval.specs.Acceptance.{asked};
 ghost use Rattle.form_eval.specs.Laws.{MayEvaluate};
 ghost use Rattle.lisp_object.specs.Datum.{object_of};
 ghost use Rattle.lisp_operators.specs.Evaluated.{IsArgument, done};
 ghost use Rattle.prevalence_store.specs.messages.Answers.{answer_to_asked, answer_to_question};
-ghost use Rattle.user_macros.specs.Functions.{are_registered};
 
 use crate::messages::request::QUESTION_WRITES;
 use crate::messages::texts::{text_of_number, text_of_refusal, text_of_value};
 use crate::setting::{WholeText, read_whole};
+use crate::whole_macros::WholeMacros;
 use form_eval::{Evaluated, EvaluationError, ReadForm, question};
 use plist_state::World;
 use session_words::Mode;
@@ -20,11 +20,9 @@ use user_macros::MacroFunctions;
 pub(crate) fn answer_question<R: MacroFunctions>(
     alloc: Global,
     world: &mut World,
-    macros: &R,
+    macros: &WholeMacros<R>,
     text: &[u8],
 ) -> Result<Vec<u8>, AllocError>
-    requires answers { R.answers macros.now }
-    requires whole { are_registered R.Meaning.functions (R.functions macros.now) ≡ true }
     ensures answer { IfOk result (λ answer. answer.items
         ≡ answer_to_question R.Meaning.functions world.old.0 text.now) }
     ensures same { world.new ≡ world.old }
@@ -40,7 +38,7 @@ pub(crate) fn answer_question<R: MacroFunctions>(
 fn answer_form<R: MacroFunctions>(
     alloc: Global,
     world: &mut World,
-    macros: &R,
+    macros: &WholeMacros<R>,
     form: &ReadForm,
 ) -> Result<Vec<u8>, AllocError>
     requires form { MayEvaluate world.old.0.packages form.now }
@@ -49,7 +47,7 @@ fn answer_form<R: MacroFunctions>(
     ensures same { world.new ≡ world.old }
 {
     let mark = world.mark_count();
-    match question(alloc, world, macros.meaning(), form) {
+    match question(alloc, world, macros.functions.meaning(), form) {
         Ok(evaluated) => {
             // a new symbol is printed while it is there
             let answer = text_of_evaluated(alloc, world, &evaluated);

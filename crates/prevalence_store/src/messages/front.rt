@@ -1,5 +1,5 @@
 // The first of some requests, answered until their answers have so many bytes.
-ghost use Rattle.std.specs.Prelude.{◌≡◌, ℕ, Bool, List, [], ◌∷◌, ◌++◌, true, false, length, map, IfErr, OnOk};
+ghost use Rattle.std.specs.Prelude.{◌≡◌, ℕ, Bool, List, [], ◌∷◌, ◌++◌, false, length, map, IfErr, OnOk};
 ghost use Rattle.plist_state.specs.State.{WorldState};
 ghost use Rattle.prevalence_store.specs.messages.Answers.{answered, closed, each_request};
 ghost use Rattle.prevalence_store.specs.messages.Calls.{IsNotClosed, RefusesOwn};
@@ -7,12 +7,12 @@ ghost use Rattle.prevalence_store.specs.messages.Fronts.{first_of, is_none_left,
 ghost use Rattle.prevalence_store.specs.messages.Rounds.{StaysMade, round_in, told_in};
 ghost use Rattle.prevalence_store.specs.steps.Batch.{IsMarkedFirst};
 ghost use Rattle.prevalence_store.specs.steps.Failure.{is_device};
-ghost use Rattle.user_macros.specs.Functions.{are_registered};
 
 use crate::failure::Failure;
 use crate::messages::own::Own;
 use crate::messages::request::Request;
 use crate::messages::round::Round;
+use crate::whole_macros::WholeMacros;
 use plist_state::World;
 use user_macros::MacroFunctions;
 
@@ -22,12 +22,10 @@ impl Round {
     pub(crate) fn answer_up_to<R: MacroFunctions>(
         &mut self,
         world: &mut World,
-        macros: &R,
+        macros: &WholeMacros<R>,
         requests: &[Request<'_>],
         most: Option<usize>,
     ) -> Result<(), Failure>
-        requires answers { R.answers macros.now }
-        requires whole { are_registered R.Meaning.functions (R.functions macros.now) ≡ true }
         requires none { (round_in self.old world.old.0).told ≡ [] }
         ensures answered { OnOk result (round_in self.new world.new.0
             ≡ answered R.Meaning.functions (round_in self.old world.old.0)
@@ -49,12 +47,10 @@ impl Round {
     fn answer_each<R: MacroFunctions>(
         &mut self,
         world: &mut World,
-        macros: &R,
+        macros: &WholeMacros<R>,
         requests: &[Request<'_>],
         most: Option<usize>,
     ) -> Result<(), Failure>
-        requires answers { R.answers macros.now }
-        requires whole { are_registered R.Meaning.functions (R.functions macros.now) ≡ true }
         requires none { (round_in self.old world.old.0).told ≡ [] }
         ensures answered { OnOk result (round_in self.new world.new.0
             ≡ each_request R.Meaning.functions (round_in self.old world.old.0)
@@ -93,9 +89,11 @@ impl Round {
 
     // Makes the number of the last message the position, if a message wrote.
     #[tactic(auto, using(crate::proofs::requests::Owned::not_closed))]
-    fn close<R: MacroFunctions>(&mut self, world: &mut World, macros: &R) -> Result<(), Failure>
-        requires answers { R.answers macros.now }
-        requires whole { are_registered R.Meaning.functions (R.functions macros.now) ≡ true }
+    fn close<R: MacroFunctions>(
+        &mut self,
+        world: &mut World,
+        macros: &WholeMacros<R>,
+    ) -> Result<(), Failure>
         ensures closed { OnOk result (round_in self.new world.new.0 ≡ closed (round_in self.old world.old.0)) }
         ensures made { OnOk result (StaysMade R.Meaning.functions (round_in self.old world.old.0) (round_in self.new world.new.0)) }
         ensures refused { IfErr result (IsNotClosed R.Meaning.functions (round_in self.old world.old.0)) }

@@ -1,5 +1,5 @@
 // The answer to a form, and to a refusal of the reader.
-ghost use Rattle.std.specs.Prelude.{◌≡◌, Result, ◌≤◌, ◌<◌, ◌+◌, ◌^◌, ℕ, List, Some, IsSome, IfOk, IfErr, OnOk, OnErr, true};
+ghost use Rattle.std.specs.Prelude.{◌≡◌, Result, ◌≤◌, ◌<◌, ◌+◌, ◌^◌, ℕ, List, Some, IsSome, IfOk, IfErr, OnOk, OnErr};
 ghost use Rattle.form_eval.specs.Laws.{MayEvaluate};
 ghost use Rattle.lisp_object.specs.Datum.{object_of};
 ghost use Rattle.lisp_object.specs.declared.refusal.TheConstants.{LOG_FULL};
@@ -21,6 +21,7 @@ use crate::session::input::PlacedForm;
 use crate::session::output::{line_of_refusal, line_of_value};
 use crate::session::schedule::Schedule;
 use crate::store::Store;
+use crate::whole_macros::WholeMacros;
 use disk_trait::Disk;
 use form_eval::ReadForm;
 use lisp_object::refusal::{LOG_FULL, NO_MEMORY, OUTPUT};
@@ -119,7 +120,6 @@ impl<D: Disk, R: MacroFunctions> Store<D, R> {
         ensures bytes { (course_of course.new).bytes ≤ (course_of course.old).bytes + form.now.next }
         ensures first { W.first writer.new ≡ W.first writer.old }
         ensures honest { (D.state self.new.disk).honest ≡ (D.state self.old.disk).honest }
-        ensures macros { self.new.macros ≡ self.old.macros }
     {
         let own = form.own.as_slice();
         let schedule = &mut course.schedule;
@@ -159,7 +159,6 @@ impl<D: Disk, R: MacroFunctions> Store<D, R> {
         ensures under_way { OnErr result (AcknowledgesNone R.Meaning.functions D.state (W.account writer.new) self.new) }
         ensures first { W.first writer.new ≡ W.first writer.old }
         ensures honest { (D.state self.new.disk).honest ≡ (D.state self.old.disk).honest }
-        ensures macros { self.new.macros ≡ self.old.macros }
     {
         match self.fit_form(writer, mode, form, own) {
             Ok(answered) => match self.renew_after_form(schedule, answered.is_logged()) {
@@ -191,7 +190,6 @@ impl<D: Disk, R: MacroFunctions> Store<D, R> {
         ensures under_way { OnErr result (AcknowledgesNone R.Meaning.functions D.state (W.account writer.new) self.new) }
         ensures first { W.first writer.new ≡ W.first writer.old }
         ensures honest { (D.state self.new.disk).honest ≡ (D.state self.old.disk).honest }
-        ensures macros { self.new.macros ≡ self.old.macros }
     {
         match self.try_form(writer, mode, form, own) {
             Ok(answered) => Ok(answered),
@@ -231,7 +229,6 @@ impl<D: Disk, R: MacroFunctions> Store<D, R> {
         ensures under_way { OnErr result (AcknowledgesNone R.Meaning.functions D.state (W.account writer.new) self.new) }
         ensures first { W.first writer.new ≡ W.first writer.old }
         ensures honest { (D.state self.new.disk).honest ≡ (D.state self.old.disk).honest }
-        ensures macros { self.new.macros ≡ self.old.macros }
     {
         self.world.soundness();
         let reply = match self.take_reply(mode, form, own) {
@@ -250,7 +247,7 @@ impl<D: Disk, R: MacroFunctions> Store<D, R> {
 /// Adds a form to a batch, and makes the line that answers it.
 pub(crate) fn reply_to<R: MacroFunctions>(
     world: &mut World,
-    macros: &R,
+    macros: &WholeMacros<R>,
     mode: Mode,
     batch: &mut Batch,
     form: &ReadForm,

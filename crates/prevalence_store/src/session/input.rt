@@ -1,12 +1,13 @@
 // What a session has read and not answered yet.
-ghost use Rattle.std.specs.Prelude.{◌≡◌, ◌+◌, ◌<◌, ◌≤◌, ◌^◌, ℕ, List, [], ◌∷◌, ◌++◌, drop, take, length, true, IfOk, OnOk, vec_len};
+ghost use Rattle.std.specs.Prelude.{◌≡◌, ◌+◌, ◌<◌, ◌≤◌, ◌^◌, ℕ, List, [], ◌∷◌, ◌++◌, drop, take, length, IfOk, OnOk, vec_len};
 ghost use Rattle.plist_state.specs.State.{WorldState};
 ghost use Rattle.form_reader.specs.Reader.{fed, begun, limits_of, HasBegun, IsAfter, Steps, StepsBegun, BeginsLater, RefusesFrom, IsOutcome, IsSoundStep};
 ghost use Rattle.prevalence_store.specs.meaning.Acceptance.{between, form_limits, read_in, setting_in, table_in};
-ghost use Rattle.user_macros.specs.Functions.{Functions, are_registered};
+ghost use Rattle.user_macros.specs.Functions.{Functions};
 ghost use Rattle.prevalence_store.specs.steps.Input.{AreAllThere, IsPending, IsSoundFed, IsWithin, Feeds, Finishes, FeedsPart};
 
 use crate::setting::{base_in, package_in, readtable_in};
+use crate::whole_macros::WholeMacros;
 use form_eval::ReadForm;
 use form_reader::{Advance, FormReader, Limits, ReadOutcome};
 use plist_state::World;
@@ -84,12 +85,10 @@ impl Pending {
         &mut self,
         alloc: Global,
         world: &World,
-        macros: &R,
+        macros: &WholeMacros<R>,
         mode: Mode,
         piece: &[u8],
     ) -> Result<FedPiece, AllocError>
-        requires answers { R.answers macros.now }
-        requires whole { are_registered R.Meaning.functions (R.functions macros.now) ≡ true }
         requires pending { (bytes : List ℕ)
             × IsPending R.Meaning.functions world.now.0 mode self.old bytes }
         requires some { 0 < length piece.now }
@@ -130,12 +129,10 @@ impl Pending {
         &mut self,
         readtable: &Readtable,
         world: &World,
-        macros: &R,
+        macros: &WholeMacros<R>,
         mode: Mode,
         byte: u8,
     ) -> Result<Fed, AllocError>
-        requires answers { R.answers macros.now }
-        requires whole { are_registered R.Meaning.functions (R.functions macros.now) ≡ true }
         requires table { readtable.now ≡ table_in world.now.0 mode }
         requires pending { (bytes : List ℕ)
             × IsPending R.Meaning.functions world.now.0 mode self.old bytes }
@@ -216,11 +213,9 @@ impl Pending {
         self,
         alloc: Global,
         world: &World,
-        macros: &R,
+        macros: &WholeMacros<R>,
         mode: Mode,
     ) -> Result<Fed, AllocError>
-        requires answers { R.answers macros.now }
-        requires whole { are_registered R.Meaning.functions (R.functions macros.now) ≡ true }
         requires pending { (bytes : List ℕ)
             × IsPending R.Meaning.functions world.now.0 mode self bytes }
         requires count { fed self.reader ≤ 2 ^ 63 }
@@ -287,12 +282,10 @@ fn step_in<R: MacroFunctions>(
     reader: &mut FormReader,
     readtable: &Readtable,
     world: &World,
-    macros: &R,
+    macros: &WholeMacros<R>,
     mode: Mode,
     byte: u8,
 ) -> Result<Advance, AllocError>
-    requires answers { R.answers macros.now }
-    requires whole { are_registered R.Meaning.functions (R.functions macros.now) ≡ true }
     requires table { readtable.now ≡ table_in world.now.0 mode }
     requires limits { limits_of reader.old ≡ form_limits }
     requires count { fed reader.old < 2 ^ 63 }
@@ -312,18 +305,17 @@ fn step_in<R: MacroFunctions>(
 {
     let package = package_in(world, mode);
     let base = base_in(world, mode);
-    reader.step(byte, readtable, base, world.packages(), package, macros)
+    let functions = &macros.functions;
+    reader.step(byte, readtable, base, world.packages(), package, functions)
 }
 
 // The end of the text to a reader, as the world reads in this mode.
 fn finish_in<R: MacroFunctions>(
     reader: FormReader,
     world: &World,
-    macros: &R,
+    macros: &WholeMacros<R>,
     mode: Mode,
 ) -> Result<ReadOutcome, AllocError>
-    requires answers { R.answers macros.now }
-    requires whole { are_registered R.Meaning.functions (R.functions macros.now) ≡ true }
     requires limits { limits_of reader ≡ form_limits }
     requires count { fed reader ≤ 2 ^ 63 }
     ensures outcome { (bytes : List ℕ)
@@ -338,5 +330,6 @@ fn finish_in<R: MacroFunctions>(
     let readtable = readtable_in(world, mode);
     let package = package_in(world, mode);
     let base = base_in(world, mode);
-    reader.finish(readtable, base, world.packages(), package, macros)
+    let functions = &macros.functions;
+    reader.finish(readtable, base, world.packages(), package, functions)
 }

@@ -106,7 +106,6 @@ impl<D: Disk, R: MacroFunctions> Store<D, R> {
         ensures renews { (w : WorldState) → self.old.world ≡ Some w
             → RenewsAfterForm R.Meaning.functions D.state self.old self.new w wrote (pace_of schedule.old) (pace_of schedule.new) result }
         ensures honest { (D.state self.new.disk).honest ≡ (D.state self.old.disk).honest }
-        ensures macros { self.new.macros ≡ self.old.macros }
     {
         if !wrote {
             return None;
@@ -129,7 +128,6 @@ impl<D: Disk, R: MacroFunctions> Store<D, R> {
         ensures renews { (w : WorldState) → self.old.world ≡ Some w
             → Renewing R.Meaning.functions D.state self.old self.new w result }
         ensures honest { (D.state self.new.disk).honest ≡ (D.state self.old.disk).honest }
-        ensures macros { self.new.macros ≡ self.old.macros }
     {
         match self.snapshot() {
             Outcome::Refused(number) => Err(number),

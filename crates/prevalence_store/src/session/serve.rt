@@ -1,5 +1,5 @@
 // A session: forms from a reader, answers to a writer.
-ghost use Rattle.std.specs.Prelude.{◌≡◌, ◌≤◌, ◌<◌, ◌+◌, ◌^◌, ℕ, List, [], ◌++◌, None, Some, IfOk, OnOk, OnErr, IsSome, true, false, cond, length, take};
+ghost use Rattle.std.specs.Prelude.{◌≡◌, ◌≤◌, ◌<◌, ◌+◌, ◌^◌, ℕ, List, ◌++◌, None, Some, IfOk, OnOk, OnErr, IsSome, false, cond, length, take};
 ghost use Rattle.std.specs.Io.{ReadsAtMost};
 ghost use Rattle.std.specs.Io.KnownBytes.{ReadConsumes};
 ghost use Rattle.lisp_object.specs.declared.refusal.TheConstants.{REOPEN};
@@ -12,7 +12,6 @@ ghost use Rattle.prevalence_store.specs.steps.Input.{AreAllThere, AwaitsMore, Is
 ghost use Rattle.prevalence_store.specs.steps.Course.{course_of};
 ghost use Rattle.prevalence_store.specs.steps.Serve.{Answers, ComesTo, EndsAt, MovesOn};
 ghost use Rattle.prevalence_store.specs.steps.Standing.{AcknowledgesNone, HandsOn, StandsAtEnd, StandsInPiece};
-ghost use Rattle.user_macros.specs.Functions.{are_registered};
 
 use crate::outcome::{Ended, Ending};
 use crate::recipient::Recipient;
@@ -57,8 +56,6 @@ impl<D: Disk, R: MacroFunctions> Store<D, R> {
         mode: Mode,
         snapshot_every: u64,
     ) -> Ending
-        requires answers { R.answers self.old.macros }
-        requires whole { are_registered R.Meaning.functions (R.functions self.old.macros) ≡ true }
         requires begins { (world : WorldState) → self.old.world ≡ Some world
             → (kept : Account D) → W.account writer.old ≡ Some kept
             → kept ≡ first_account world mode (I.remaining reader.old) self.old.disk }
@@ -108,8 +105,6 @@ impl<D: Disk, R: MacroFunctions> Store<D, R> {
         writer: &mut W,
         wanted: Wanted,
     ) -> Ended
-        requires answers { R.answers self.old.macros }
-        requires whole { are_registered R.Meaning.functions (R.functions self.old.macros) ≡ true }
         requires begins { (world : WorldState) → self.old.world ≡ Some world
             → (kept : Account D) → W.account writer.old ≡ Some kept
             → kept ≡ first_account world wanted.mode (I.remaining reader.old) self.old.disk }
@@ -160,8 +155,6 @@ impl<D: Disk, R: MacroFunctions> Store<D, R> {
         course: &mut Course,
         piece: &[u8],
     ) -> Option<Ended>
-        requires answers { R.answers self.old.macros }
-        requires whole { are_registered R.Meaning.functions (R.functions self.old.macros) ≡ true }
         requires pending { AwaitsMore R.Meaning.functions self.old.world wanted.mode pending.old }
         requires stands { StandsInPiece R.Meaning.functions D.state (W.account writer.old) self.old
             wanted.mode pending.old piece.now }
@@ -181,7 +174,6 @@ impl<D: Disk, R: MacroFunctions> Store<D, R> {
             ≤ (course_of course.old).bytes + fed pending.old.reader + length piece.now }
         ensures first { W.first writer.new ≡ W.first writer.old }
         ensures honest { (D.state self.new.disk).honest ≡ (D.state self.old.disk).honest }
-        ensures macros { self.new.macros ≡ self.old.macros }
     {
         let mut rest = piece;
         'forms: while !rest.is_empty() {
@@ -203,8 +195,6 @@ impl<D: Disk, R: MacroFunctions> Store<D, R> {
         course: &mut Course,
         piece: &[u8],
     ) -> Result<usize, Ended>
-        requires answers { R.answers self.old.macros }
-        requires whole { are_registered R.Meaning.functions (R.functions self.old.macros) ≡ true }
         requires pending { AwaitsMore R.Meaning.functions self.old.world wanted.mode pending.old }
         requires stands { StandsInPiece R.Meaning.functions D.state (W.account writer.old) self.old
             wanted.mode pending.old piece.now }
@@ -227,7 +217,6 @@ impl<D: Disk, R: MacroFunctions> Store<D, R> {
             ≤ (course_of course.old).bytes + fed pending.old.reader + length piece.now }
         ensures first { W.first writer.new ≡ W.first writer.old }
         ensures honest { (D.state self.new.disk).honest ≡ (D.state self.old.disk).honest }
-        ensures macros { self.new.macros ≡ self.old.macros }
     {
         let FedPiece { fed, count } = match self.feed(pending, wanted.mode, piece) {
             Ok(part) => part,
@@ -255,8 +244,6 @@ impl<D: Disk, R: MacroFunctions> Store<D, R> {
 
     // Feeds a piece up to the first byte that decides something, as the world reads.
     fn feed(&self, pending: &mut Pending, mode: Mode, piece: &[u8]) -> Result<FedPiece, AllocError>
-        requires answers { R.answers self.now.macros }
-        requires whole { are_registered R.Meaning.functions (R.functions self.now.macros) ≡ true }
         requires pending { AwaitsMore R.Meaning.functions self.now.world mode pending.old }
         requires some { 0 < length piece.now }
         requires count { fed pending.old.reader + length piece.now ≤ 2 ^ 63 }
@@ -281,8 +268,6 @@ impl<D: Disk, R: MacroFunctions> Store<D, R> {
         wanted: Wanted,
         course: &mut Course,
     ) -> Ended
-        requires answers { R.answers self.old.macros }
-        requires whole { are_registered R.Meaning.functions (R.functions self.old.macros) ≡ true }
         requires pending { AwaitsMore R.Meaning.functions self.old.world wanted.mode pending }
         requires stands { StandsAtEnd R.Meaning.functions D.state (W.account writer.old) self.old
             wanted.mode pending }
@@ -295,7 +280,6 @@ impl<D: Disk, R: MacroFunctions> Store<D, R> {
         ensures under_way { AcknowledgesNone R.Meaning.functions D.state (W.account writer.new) self.new }
         ensures first { W.first writer.new ≡ W.first writer.old }
         ensures honest { (D.state self.new.disk).honest ≡ (D.state self.old.disk).honest }
-        ensures macros { self.new.macros ≡ self.old.macros }
     {
         let last = match self.finish(pending, wanted.mode) {
             Ok(last) => last,
@@ -316,8 +300,6 @@ impl<D: Disk, R: MacroFunctions> Store<D, R> {
 
     // What is pending at the end of the input, as the world reads.
     fn finish(&self, pending: Pending, mode: Mode) -> Result<Fed, AllocError>
-        requires answers { R.answers self.now.macros }
-        requires whole { are_registered R.Meaning.functions (R.functions self.now.macros) ≡ true }
         requires pending { AwaitsMore R.Meaning.functions self.now.world mode pending }
         requires count { fed pending.reader ≤ 2 ^ 63 }
         ensures finishes { (w : WorldState) → self.now.world ≡ Some w → (bytes : List ℕ)

@@ -1,5 +1,5 @@
 // The answers to the forms of a group.
-ghost use Rattle.std.specs.Prelude.{◌≡◌, ◌+◌, ◌<◌, ◌≤◌, ◌^◌, List, ℕ, Some, true, drop, length};
+ghost use Rattle.std.specs.Prelude.{◌≡◌, ◌+◌, ◌<◌, ◌≤◌, ◌^◌, List, ℕ, Some, drop, length};
 ghost use Rattle.lisp_object.specs.Datum.{object_of};
 ghost use Rattle.plist_state.specs.State.{WorldState};
 ghost use Rattle.prevalence_store.specs.declared.session.together.Grouped.TheVariants.{Answered, Left, Ended as HasEnded};
@@ -8,7 +8,6 @@ ghost use Rattle.prevalence_store.specs.steps.Answer.{IsFormOf};
 ghost use Rattle.prevalence_store.specs.steps.Course.{course_of};
 ghost use Rattle.prevalence_store.specs.steps.Gather.{AnswersGroup, BeginsWhole};
 ghost use Rattle.prevalence_store.specs.steps.Standing.{AcknowledgesNone, HandsOn, StandsAtWhole};
-ghost use Rattle.user_macros.specs.Functions.{are_registered};
 
 use crate::outcome::Ended;
 use crate::recipient::Recipient;
@@ -44,8 +43,6 @@ impl<D: Disk, R: MacroFunctions> Store<D, R> {
         first: &PlacedForm,
         rest: &[u8],
     ) -> Grouped
-        requires answers { R.answers self.old.macros }
-        requires whole { are_registered R.Meaning.functions (R.functions self.old.macros) ≡ true }
         requires form { IsFormOf R.Meaning.functions self.old.world wanted.mode first.now.read first.now.own.items }
         requires stands { StandsAtWhole R.Meaning.functions D.state (W.account writer.old) self.old
             wanted.mode (object_of first.now.read.datum) first.now.own.items first.now.next rest.now }
@@ -72,7 +69,6 @@ impl<D: Disk, R: MacroFunctions> Store<D, R> {
             ≤ (course_of course.old).bytes + first.now.next + length rest.now }
         ensures first { W.first writer.new ≡ W.first writer.old }
         ensures honest { (D.state self.new.disk).honest ≡ (D.state self.old.disk).honest }
-        ensures macros { self.new.macros ≡ self.old.macros }
     {
         let forms = course.schedule.before_due();
         if !wanted.group || forms == 0 {

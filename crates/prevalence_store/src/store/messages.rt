@@ -1,5 +1,5 @@
 // Messages with numbers, and questions, over a store.
-ghost use Rattle.std.specs.Prelude.{◌≡◌, ◌≢◌, ℕ, ◌<◌, ◌≤◌, [], true, false, length, None, Some, IsSome, IfOk, IfErr, Err};
+ghost use Rattle.std.specs.Prelude.{◌≡◌, ◌≢◌, ℕ, ◌<◌, ◌≤◌, [], false, length, None, Some, IsSome, IfOk, IfErr, Err};
 ghost use Rattle.std.specs.Option.{option_and_then};
 ghost use Rattle.lisp_object.specs.declared.refusal.TheConstants.{DEVICE as DEVICE_FAULT, REOPEN as NOT_OPEN};
 ghost use Rattle.plist_state.specs.State.{WorldState};
@@ -8,7 +8,6 @@ ghost use Rattle.prevalence_store.specs.messages.Calls.{AnswersRequests, BeginsM
 ghost use Rattle.prevalence_store.specs.messages.Fronts.{AnswersFirst, first_of};
 ghost use Rattle.prevalence_store.specs.messages.Position.{is_hidden, position, position_property};
 ghost use Rattle.prevalence_store.specs.steps.Failure.{is_device};
-ghost use Rattle.user_macros.specs.Functions.{are_registered};
 
 use crate::batch::Batch;
 use crate::failure::Failure;
@@ -45,8 +44,6 @@ impl<D: Disk, R: MacroFunctions> Store<D, R> {
     /// for another symbol in COMMON-LISP-USER; else, of the form that sets it to 0, as `execute` says. After 60 the store has to be
     /// opened again, after any other it is as it was.
     pub fn begin_messages(&mut self) -> Result<u64, u16>
-        requires answers { R.answers self.old.macros }
-        requires whole { are_registered R.Meaning.functions (R.functions self.old.macros) ≡ true }
         ensures reopen { self.old.world ≡ None → (result ≡ Err NOT_OPEN) × (self.new ≡ self.old) }
         ensures begins { (world : WorldState) → self.old.world ≡ Some world
             → BeginsMessages R.Meaning.functions D.state self.old self.new world result }
@@ -69,8 +66,6 @@ impl<D: Disk, R: MacroFunctions> Store<D, R> {
 
     // Makes 0 the position, which is not there, and whose name stands for no other symbol.
     fn set_first_position(&mut self) -> Result<u64, u16>
-        requires answers { R.answers self.old.macros }
-        requires whole { are_registered R.Meaning.functions (R.functions self.old.macros) ≡ true }
         ensures begins { (world : WorldState) → self.old.world ≡ Some world
             → position_property world ≡ None → is_hidden world ≡ false
             → BeginsMessages R.Meaning.functions D.state self.old self.new world result }
@@ -96,8 +91,6 @@ impl<D: Disk, R: MacroFunctions> Store<D, R> {
     /// a form of the store's own is refused, 52 if it is read as another one or a symbol of it is not there: the store is then as it
     /// was. After 60 it has to be opened again.
     pub fn answer_requests(&mut self, last: u64, requests: &[Request<'_>]) -> Result<Replies, u16>
-        requires answers { R.answers self.old.macros }
-        requires whole { are_registered R.Meaning.functions (R.functions self.old.macros) ≡ true }
         ensures reopen { self.old.world ≡ None → (result ≡ Err NOT_OPEN) × (self.new ≡ self.old) }
         ensures answer { (world : WorldState) → self.old.world ≡ Some world
             → AnswersRequests R.Meaning.functions D.state self.old self.new world last requests.now result }
@@ -120,8 +113,6 @@ impl<D: Disk, R: MacroFunctions> Store<D, R> {
         last: u64,
         requests: &[Request<'_>],
     ) -> Result<Replies, u16>
-        requires answers { R.answers self.old.macros }
-        requires whole { are_registered R.Meaning.functions (R.functions self.old.macros) ≡ true }
         ensures reopen { self.old.world ≡ None → (result ≡ Err NOT_OPEN) × (self.new ≡ self.old) }
         ensures answer { (world : WorldState) → self.old.world ≡ Some world
             → AnswersFirst R.Meaning.functions D.state self.old self.new world last requests.now result }
@@ -141,8 +132,6 @@ impl<D: Disk, R: MacroFunctions> Store<D, R> {
         requests: &[Request<'_>],
         most: Option<usize>,
     ) -> Result<Replies, u16>
-        requires answers { R.answers self.old.macros }
-        requires whole { are_registered R.Meaning.functions (R.functions self.old.macros) ≡ true }
         ensures reopen { self.old.world ≡ None → (result ≡ Err NOT_OPEN) × (self.new ≡ self.old) }
         ensures answer { (world : WorldState) → self.old.world ≡ Some world
             → AnswersRequests R.Meaning.functions D.state self.old self.new world last
@@ -172,8 +161,6 @@ impl<D: Disk, R: MacroFunctions> Store<D, R> {
         requests: &[Request<'_>],
         most: Option<usize>,
     ) -> Result<Replies, Failure>
-        requires answers { R.answers self.old.macros }
-        requires whole { are_registered R.Meaning.functions (R.functions self.old.macros) ≡ true }
         requires open { IsSome self.old.world }
         ensures takes { (world : WorldState) → self.old.world ≡ Some world
             → TakesRound R.Meaning.functions D.state self.old self.new world last

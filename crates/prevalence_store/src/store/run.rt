@@ -1,10 +1,9 @@
 // Steps one after the other.
-ghost use Rattle.std.specs.Prelude.{◌≡◌, [], true, IfOk, OnErr};
+ghost use Rattle.std.specs.Prelude.{◌≡◌, [], IfOk, OnErr};
 ghost use Rattle.std.specs.List.{All};
 ghost use Rattle.plist_state.specs.State.{WorldState};
 ghost use Rattle.prevalence_store.specs.calls.Execute.{IsProperOutcome, SurvivesAs};
 ghost use Rattle.prevalence_store.specs.calls.Run.{TakesStep, TakesSteps, acknowledged_in_steps, taken_in_steps};
-ghost use Rattle.user_macros.specs.Functions.{are_registered};
 
 use crate::outcome::Outcome;
 use crate::step::Step;
@@ -25,8 +24,6 @@ impl<D: Disk, R: MacroFunctions> Store<D, R> {
     /// If there is no room for all outcomes. It is taken first, so that nothing has been done then, and the world
     /// survives.
     pub fn run(&mut self, steps: &[Step]) -> Result<Vec<Outcome>, AllocError>
-        requires answers { R.answers self.old.macros }
-        requires whole { are_registered R.Meaning.functions (R.functions self.old.macros) ≡ true }
         ensures takes { IfOk result (λ outcomes. TakesSteps R.Meaning.functions D.state
             self.old self.new steps.now outcomes.items) }
         ensures survives { (world : WorldState) → IfOk result (λ outcomes.
@@ -50,8 +47,6 @@ impl<D: Disk, R: MacroFunctions> Store<D, R> {
 
     // Takes one step.
     fn step(&mut self, step: &Step) -> Outcome
-        requires answers { R.answers self.old.macros }
-        requires whole { are_registered R.Meaning.functions (R.functions self.old.macros) ≡ true }
         ensures takes { TakesStep R.Meaning.functions D.state self.old self.new
             self.old.world step.now result }
         ensures proper { IsProperOutcome result }

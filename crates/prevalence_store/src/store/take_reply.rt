@@ -29,7 +29,6 @@ impl<D: Disk, R: MacroFunctions> Store<D, R> {
         ensures left { IfErr result (IsLeft R.Meaning.functions D.state self.old self.new
             mode text.now (object_of form.now.datum)) }
         ensures honest { (D.state self.new.disk).honest ≡ (D.state self.old.disk).honest }
-        ensures macros { self.new.macros ≡ self.old.macros }
     {
         let Ok(mut batch) = Batch::begin(self.alloc, &mut self.world) else {
             return Err(Failure::OutOfMemory);

@@ -15,8 +15,8 @@ use Rattle.prevalence_store.proofs.setting.begins.Goals as goal
 pub returns-clause-outcome : goal.returns-clause-outcome
 returns-clause-outcome g c =
     subst (λ (s : Setting). IsOutcome c.in_ok-outcome.outcome (reads s c.args.text.now))
-    (called_setting c.args.world.now.0 c.args.mode g.R.Meaning.Meaning.functions (g.R.MacroFunctions.functions c.args.macros.now)
-    _ _ _ _ _ (g.met.R.MacroFunctions.as_meant c.args.macros.now) c.requires.whole (g.met.R.MacroFunctions.known c.args.macros.now c.requires.answers)
+    (called_setting c.args.world.now.0 c.args.mode g.R.Meaning.Meaning.functions (g.R.MacroFunctions.functions c.macros.inside.functions)
+    _ _ _ _ _ (g.met.R.MacroFunctions.as_meant c.macros.inside.functions) c.macros.invariant.1 (g.met.R.MacroFunctions.known c.macros.inside.functions c.macros.invariant.0)
     c.form-limits.ensures c.readtable_in-readtable.ensures c.base_in-base.ensures.base c.packages-packages.ensures c.package_in-package.ensures.name) c.in_ok-outcome.ensures.outcome
 
 pub returns-in-Some-clause-outcome : goal.returns-in-Some-clause-outcome

@@ -5,8 +5,8 @@ use Rattle.plist_state.specs.State.{WorldState}
 use Rattle.store_commands.specs.Accounts.{BeginsAccount}
 use Rattle.store_commands.proofs.session.serve_on.Goals as goal
 
-pub serve_wanted-ended-requires-clause-begins : goal.serve_wanted-ended-requires-clause-begins
-serve_wanted-ended-requires-clause-begins g c = c.begin.ensures.begins
+pub serve_wanted-ended-requires : goal.serve_wanted-ended-requires
+serve_wanted-ended-requires g c = record { begins = c.begin.ensures.begins }
 
 pub returns-clause-served : goal.returns-clause-served
 returns-clause-served g c =

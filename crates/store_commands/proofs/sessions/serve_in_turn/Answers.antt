@@ -4,14 +4,14 @@ use Rattle.store_commands.proofs.Accounts.{known_world}
 use Rattle.store_commands.proofs.Turns.{ends_refused, first_turn, last_turn, left_open, no_more_turns, turn_after}
 use Rattle.store_commands.proofs.sessions.serve_in_turn.Goals as goal
 
-pub serve_wanted-ended-requires-clause-begins : goal.serve_wanted-ended-requires-clause-begins
-serve_wanted-ended-requires-clause-begins g c = c.requires.begins
+pub serve_wanted-ended-requires : goal.serve_wanted-ended-requires
+serve_wanted-ended-requires g c = record { begins = c.requires.begins }
 
 pub begin_again-requires : goal.begin_again-requires
 begin_again-requires g c = record { under_way = c.sessions.invariant.2 }
 
-pub serve_wanted-ended-requires-in-sessions-clause-begins : goal.serve_wanted-ended-requires-in-sessions-clause-begins
-serve_wanted-ended-requires-in-sessions-clause-begins g c = c.begin_again.ensures.begins
+pub serve_wanted-ended-requires-in-sessions : goal.serve_wanted-ended-requires-in-sessions
+serve_wanted-ended-requires-in-sessions g c = record { begins = c.begin_again.ensures.begins }
 
 pub sessions-init : goal.sessions-init
 sessions-init g c = (

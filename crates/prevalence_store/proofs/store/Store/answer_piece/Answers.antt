@@ -13,7 +13,6 @@ pub forms-init : goal.forms-init
 forms-init g c = record {
   is_open = c.requires.pending.is_open;
   honest = refl;
-  macros = refl;
   forms = c.requires.forms;
   count = omega arith;
   goes = λ w known bytes p.
@@ -66,7 +65,6 @@ forms-preserved g c =
           let second = c.in-Ok.ensures.answers first.far.world first.advances.after.left first.bytes first.is_pending in
           ap is_some second.advances.after.left;
       honest = c.answer_next.ensures.honest ∙ c.forms.invariant.honest;
-      macros = c.answer_next.ensures.macros ∙ c.forms.invariant.macros;
       forms = c.answer_next.ensures.forms;
       count =
           let within = c.in-Ok.ensures.some.0 in

@@ -13,7 +13,6 @@ abbrev pub invariant-forms : goal.invariant-forms
 invariant-forms g l = record {
   is_open : IsSome l.self.world;
   honest : (g.D.Disk.state l.self.disk).honest ≡ (g.D.Disk.state l.fn.self.disk).honest;
-  macros : l.self.macros ≡ l.fn.self.macros;
   forms : (course_of l.course).forms ≤ (course_of l.course).bytes;
   count : (course_of l.course).bytes + fed l.pending.reader + length l.rest ≤ (course_of l.fn.course).bytes + fed l.fn.pending.reader + length l.piece;
   goes : (w : WorldState) → l.fn.self.world ≡ Some w → (bytes : List ℕ)

@@ -1,6 +1,8 @@
 use Rattle.std.proofs.Common.{rules, ◌≡◌, ◌+◌, ◌≤◌, [], ◌++◌, None, Some, append-nil, take, refl, subst, sym, ◌∙◌, arith}
 use Rattle.std.specs.Io.KnownBytes.{Consumes}
 use Rattle.form_reader.specs.Reader.{fed}
+use Rattle.lisp_object.specs.declared.refusal.TheConstants.{INPUT}
+use Rattle.prevalence_store.specs.declared.outcome.Ended.TheVariants as ways
 use Rattle.prevalence_store.specs.calls.Serve.{pace_wanted}
 use Rattle.prevalence_store.specs.steps.Course.{Course, course_of, first_course}
 use Rattle.prevalence_store.specs.steps.Input.{IsPending}
@@ -8,6 +10,7 @@ use Rattle.prevalence_store.specs.steps.Serve.{GoesOn}
 use Rattle.prevalence_store.specs.steps.Standing.{HandsOn, StandsBefore, StandsBeforeAll}
 use Rattle.prevalence_store.proofs.steps.Handing.{hands_both, hands_nothing, stands_first, stands_first_all, stands_on, stands_on_all, none_handed}
 use Rattle.prevalence_store.proofs.calls.Executing.{known_world}
+use Rattle.prevalence_store.proofs.calls.KeptMacros.{kept_macros}
 use Rattle.prevalence_store.proofs.steps.Answering.{end_both, extended, more_both, nothing_answered, pending_again, unread_after}
 use Rattle.prevalence_store.proofs.steps.Inputs.{decided_input, ended_input, consumes_none, keeps_same, left_both, none_left, unread_input}
 use Rattle.prevalence_store.proofs.store.Store.serve_wanted.Goals as goal
@@ -17,7 +20,6 @@ reads-init g c =
     let begun = c.new-course.ensures in record {
       is_open = search rules;
       honest = refl;
-      macros = refl;
       most = omega arith;
       forms = subst (λ (k : Course). k.forms ≤ k.bytes) (sym begun) (omega arith);
       count = let none = c.new-pending.ensures.count in subst (λ (k : Course). k.bytes + fed c.new-pending.result.reader ≤ 0) (sym begun) (omega arith);
@@ -157,7 +159,6 @@ reads-preserved g c =
     record {
       is_open = search rules;
       honest = c.answer_piece.ensures.honest ∙ c.reads.invariant.honest;
-      macros = c.answer_piece.ensures.macros ∙ c.reads.invariant.macros;
       most = let test = c.reads-test.true in omega arith;
       forms = c.answer_piece.ensures.forms;
       count = search rules;
@@ -195,3 +196,27 @@ returns-clause-under_way g c = λ known.
     let old = known_world c.args.self.now.world (search rules) in
     let goes = (c.reads.invariant.far old.0 old.1).1.0 in
     none_handed g.R.Meaning.Meaning.functions g.D.Disk.state g.met.D.Disk.sound 0 (course_of c.reads.course).forms (g.W.Recipient.account c.args.writer.now) (g.W.Recipient.account c.reads.writer) c.reads.self goes.far.world goes.advances.after.left c.reads.invariant.hands
+
+-- the macro functions are as they were
+
+pub returns-in-Err-clause-macros : goal.returns-in-Err-clause-macros
+returns-in-Err-clause-macros g c =
+    let old = known_world c.args.self.now.world (search rules) in
+    kept_macros g.R.Meaning.Meaning.functions g.D.Disk.state c.args.self.now c.reads.self old.0 c.args.wanted (g.I.Read.remaining c.args.reader.now) (g.I.Read.remaining c.read_piece.new.reader)
+    (g.W.Recipient.contents c.args.writer.now) (g.W.Recipient.contents c.reads.writer) (ways.Store INPUT) (returns-in-Err-clause-serves g c old.0 old.1)
+
+pub returns-then-count-eq0-clause-macros : goal.returns-then-count-eq0-clause-macros
+returns-then-count-eq0-clause-macros g c =
+    let old = known_world c.args.self.now.world (search rules) in
+    kept_macros g.R.Meaning.Meaning.functions g.D.Disk.state c.args.self.now _ old.0 c.args.wanted _ _ _ _ _ (returns-then-count-eq0-clause-serves g c old.0 old.1)
+
+pub returns-in-Some-clause-macros : goal.returns-in-Some-clause-macros
+returns-in-Some-clause-macros g c =
+    let old = known_world c.args.self.now.world (search rules) in
+    kept_macros g.R.Meaning.Meaning.functions g.D.Disk.state c.args.self.now _ old.0 c.args.wanted _ _ _ _ _ (returns-in-Some-clause-serves g c old.0 old.1)
+
+pub returns-clause-macros : goal.returns-clause-macros
+returns-clause-macros g c =
+    let old = known_world c.args.self.now.world (search rules) in
+    kept_macros g.R.Meaning.Meaning.functions g.D.Disk.state c.args.self.now c.reads.self old.0 c.args.wanted (g.I.Read.remaining c.args.reader.now) (g.I.Read.remaining c.reads.reader)
+    (g.W.Recipient.contents c.args.writer.now) (g.W.Recipient.contents c.reads.writer) (ways.Store INPUT) (returns-clause-serves g c old.0 old.1)

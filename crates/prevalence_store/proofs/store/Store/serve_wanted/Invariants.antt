@@ -12,7 +12,6 @@ abbrev pub invariant-reads : goal.invariant-reads
 invariant-reads g l = record {
   is_open : IsSome l.self.world;
   honest : (g.D.Disk.state l.self.disk).honest ≡ (g.D.Disk.state l.fn.self.disk).honest;
-  macros : l.self.macros ≡ l.fn.self.macros;
   most : l.reads ≤ 1099511627776;
   forms : (course_of l.course).forms ≤ (course_of l.course).bytes;
   count : (course_of l.course).bytes + fed l.pending.reader ≤ 65536 * l.reads;

@@ -1,0 +1,21 @@
+// The macro functions of a store.
+use std::marker::Model;
+use user_macros::MacroFunctions;
+
+/// Macro functions of which each one that the meaning names is registered, and answers what it means.
+pub(crate) struct WholeMacros<R: MacroFunctions> {
+    pub(crate) functions: R,
+}
+
+impl<R: MacroFunctions> Model for WholeMacros<R> {
+    ghost use Rattle.std.specs.Prelude.{◌≡◌, true};
+    ghost use Rattle.user_macros.specs.Functions.{are_registered};
+
+    ghost Value = { R };
+
+    ghost coded = { R.code };
+
+    ghost view = { λ m. m.functions };
+
+    ghost invariant = { λ m. R.answers m.functions × (are_registered R.Meaning.functions (R.functions m.functions) ≡ true) };
+}
