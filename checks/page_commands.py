@@ -5,11 +5,13 @@ from pages import names_of, read
 
 PAGE = "docs/run/commands.md"
 
+SCRIPT = "pazturrok"
+
 HEAD = """# The commands
 
 Every command of the program with its options, in the words of its help. `checks/docs --write` makes this page from the sources of the command line (`crates/command_words`). What to do with them is in [operating.md](operating.md), which status a command ends with [there too](operating.md#the-exit-status).
 
-An option that is not given is off. **`--existing`** is an option of every command but `check`: the command refuses a folder that holds no store, and makes nothing. A command that only looks makes nothing in any case. `--help` after a command has its help with an example; `--version` tells the version of the program and of the files that it writes. `PAZTURROK_MEMORY` is the one variable of the environment ([Memory](operating.md#memory)); there is no file of settings.
+An option that is not given is off. **`--existing`** is an option of every command but `check`: the command refuses a folder that holds no store, and makes nothing. A command that only looks makes nothing in any case. `--help` after a command has its help with an example; `--version` tells the version of the program and of the files that it writes. `./pazturrok help GET` tells what the operator `GET` does, with an example, and `./pazturrok help 31` what the number 31 of a refusal means and what to do; so of each [operator](../use/operators.md) and each [number](../use/refusals.md). `PAZTURROK_MEMORY` is the one variable of the environment ([Memory](operating.md#memory)); there is no file of settings.
 """
 
 
@@ -43,11 +45,19 @@ def commands(code):
         yield usage.removeprefix("./pazturrok "), does[usage]
 
 
+def row_of_script():
+    """The row of the one option that the script carries out, and not the program."""
+    does = re.search('WAIT_DOES="([^"]*)"', read(SCRIPT))[1]
+    return f"| `--wait SECONDS` | {does}. `./pazturrok` does it, before it starts the program |"
+
+
 def rows(usage, known):
     for name in re.findall(r"--([a-z-]+)", usage):
         if name != "existing" and name in known:
             value, does = known[name]
             yield f"| `--{name}{' ' + value if value else ''}` | {does} |"
+    if usage.startswith("run "):
+        yield row_of_script()
 
 
 def page():

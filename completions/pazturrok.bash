@@ -11,10 +11,10 @@ _pazturrok() {
         install) words=--all ;;
         release) kind=-f ;;
         run)
-            words='--existing --rescue --strict --group --snapshot-every --snapshot-ratio --quiet --help --messages'
+            words='--existing --rescue --strict --group --snapshot-every --snapshot-ratio --quiet --help --wait --messages'
             case " ${COMP_WORDS[*]} " in
-                *' --messages '*) words='--existing --messages --snapshot-every --help' ;;
-                *' --rescue '* | *' --strict '* | *' --group '* | *' --snapshot-ratio '* | *' --quiet '*) words='--existing --rescue --strict --group --snapshot-every --snapshot-ratio --quiet --help' ;;
+                *' --messages '*) words='--existing --messages --snapshot-every --help --wait' ;;
+                *' --rescue '* | *' --strict '* | *' --group '* | *' --snapshot-ratio '* | *' --quiet '*) words='--existing --rescue --strict --group --snapshot-every --snapshot-ratio --quiet --help --wait' ;;
             esac
             ;;
         snapshot) words='--existing --help' ;;
@@ -33,7 +33,7 @@ _pazturrok() {
         kind=
     fi
     case ${COMP_WORDS[COMP_CWORD - 1]} in
-        --at | --from | --indicator | --like | --package | --snapshot-every | --snapshot-ratio) return ;;
+        --at | --from | --indicator | --like | --package | --snapshot-every | --snapshot-ratio | --wait) return ;;
         --store) kind=-d words='' ;;
     esac
     if [ -z "$kind" ] || [ "${word#-}" != "$word" ]; then

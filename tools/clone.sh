@@ -202,6 +202,7 @@ help_of_command() {
     text_of PROGRAM_HELP | sed -n "s/^  $1  *//p"
     printf '\nUsage: %s\n\n' "$(text_of "${name}_USAGE")"
     text_of "${name}_HELP"
+    [ "$1" != run ] || printf '\n%s\n' "$WAIT_HELP"
 }
 
 # Answers words that ask for help or the version from the texts of the sources, and ends.
@@ -217,7 +218,7 @@ answer_from_texts() {
         *) command=$1 ;;
     esac
     case $command in
-        '' | help | -*) text_of PROGRAM_HELP && words_of_clone && exit ;;
+        '' | help | -*) text_of PROGRAM_HELP && printf '\n%s\n' "$PAGES_HELP" && words_of_clone && exit ;;
     esac
     is_command "$command" || refuse "there is no command '$command'; those of the program are $(commands | paste -sd ' ' -)"
     texts_of=$command
@@ -236,7 +237,7 @@ words_of_run() {
 # Refuses what `run` would refuse, before anything is compiled for it, and sets `folder` and which word it is. Numbers are left to the program.
 look_at_words() {
     shift
-    known=" $(words_of_run "$@") " folder='' is_value='' count=0
+    known=" $(words_of_run "$@") [--wait SECONDS] " folder='' is_value='' count=0
     for word in "$@"; do
         count=$((count + 1))
         case $is_value$word in
@@ -308,6 +309,7 @@ carry_out() {
             exit
             ;;
     esac
+    [ "$#,${1:-}" != 2,help ] || answer_from_pages "$2"
     choose_program
     if [ -z "$program" ]; then
         look_at_command "$@"

@@ -77,10 +77,11 @@ origin() {
 
 # Puts the program there, and what belongs to its command.
 install_program() {
-    for place in bin libexec/pazturrok share/man/man1 share/doc/pazturrok share/bash-completion/completions; do
+    for place in bin libexec/pazturrok share/man/man1 share/man/man7 share/doc/pazturrok share/bash-completion/completions; do
         mkdir -p "$prefix/$place" || refuse "$prefix/$place cannot be made"
     done
     manual >"$room/manual"
+    (cd "$top/docs" && awk -v asked=manual -f "$top/tools/pages.awk" use/operators.md use/refusals.md run/operating.md) >"$room/forms"
     # one that is installed has no words of a clone
     sed 's/ compile build install release / /' "$top/completions/pazturrok.bash" >"$room/completions"
     origin >"$room/origin"
@@ -90,7 +91,9 @@ install_program() {
         [ "$other" = "${program##*/}" ] || rm -f "$prefix/libexec/pazturrok/$other"
     done
     put "$top/pazturrok" "$prefix/bin/pazturrok" 755
+    put "$top/tools/pages.awk" "$prefix/libexec/pazturrok/pages.awk" 644
     put "$room/manual" "$prefix/share/man/man1/pazturrok.1" 644
+    put "$room/forms" "$prefix/share/man/man7/pazturrok-forms.7" 644
     put "$room/completions" "$prefix/share/bash-completion/completions/pazturrok" 644
     put "$room/origin" "$prefix/share/doc/pazturrok/ORIGIN" 644
     cp -R "$top/README.md" "$top/docs" "$prefix/share/doc/pazturrok/" || refuse "the pages cannot be written below $prefix/share/doc"

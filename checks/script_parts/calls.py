@@ -2,6 +2,7 @@
 import os
 import subprocess
 import sys
+from typing import Tuple
 
 TOP = os.path.dirname(os.path.dirname(os.path.dirname(os.path.abspath(__file__))))
 PROGRAM = os.path.abspath(sys.argv[1] if len(sys.argv) > 1 else os.path.join(TOP, "crates", "store_program", "out", "store_program"))
@@ -14,13 +15,13 @@ WORDS_OF_CLONE = (b"./pazturrok compile ", b"./pazturrok build ", b"./pazturrok 
 counts = [0, 0]
 
 
-def check(name, found, wanted):
+def check(name: str, found: object, wanted: object) -> None:
     counts[found != wanted] += 1
     if found != wanted:
         print(f"script: {name}:\n  got  {found!r}\n  want {wanted!r}")
 
 
-def called(script, *words, stdin=b"", **environment):
+def called(script: str, *words: str, stdin: bytes = b"", **environment: str) -> Tuple[int, bytes, bytes]:
     """The status of a call, its output, and what it tells on standard error."""
     done = subprocess.run([script, *words], input=stdin, capture_output=True, env={**os.environ, **environment}, check=False)
     return done.returncode, done.stdout, done.stderr
@@ -31,8 +32,8 @@ def of_program(*words):
     return subprocess.run([PROGRAM, *words], capture_output=True, check=False).stdout
 
 
-def is_refused(name, script, *words, says, **how):
-    status, out, err = called(script, *words, **how)
+def is_refused(name: str, script: str, *words: str, says: str, **how: str) -> None:
+    status, out, err = called(script, *words, stdin=b"", **how)
     check(f"{name}: {words}", (status, out, err.startswith(b"pazturrok: "), err.count(b"\n"), says.encode() in err), (2, b"", True, 1, True))
 
 

@@ -27,7 +27,7 @@ def check_proved(script, room):
         is_refused("words", script, *words, says="takes")
     prefix = os.path.join(room, "prefix")
     done = called(script, "install", prefix)
-    check("install", (done[0], done[1].count(prefix.encode()), done[2]), (0, 5, b""))
+    check("install", (done[0], done[1].count(prefix.encode()), done[2]), (0, 7, b""))
     moved = os.path.join(room, "moved")
     os.rename(prefix, moved)
     there = os.path.join(moved, "bin", "pazturrok")
@@ -45,9 +45,12 @@ def check_proved(script, room):
     page = os.path.join(moved, "share", "man", "man1", "pazturrok.1")
     manual, usage = text_of(page), helps[2].splitlines()[0]
     check("the manual page has the help", (usage.replace("-", "\\-") in manual, manual.count(".SS ") > 5, ".SS run \\-\\-messages\n" in manual), (True, True, True))
-    if shutil.which("groff"):
-        linted = subprocess.run(["groff", "-man", "-ww", "-Tascii", "-z", page], capture_output=True, check=False)
-        check("the manual page is well formed", (linted.returncode, linted.stderr), (0, b""))
+    forms = os.path.join(moved, "share", "man", "man7", "pazturrok-forms.7")
+    check("the manual page of forms", (".B \"(GET s i [x])\"\n" in text_of(forms), ".B \"31 UNKNOWN\\-OPERATOR\"\n" in text_of(forms)), (True, True))
+    check("its help from the pages", [called(there, "help", word)[1].split(b"\n")[0] for word in ("GET", "31")], [b"(GET s i [x])", b"31 UNKNOWN-OPERATOR"])
+    for name in (page, forms) if shutil.which("groff") else ():
+        linted = subprocess.run(["groff", "-man", "-ww", "-Tascii", "-z", name], capture_output=True, check=False)
+        check(f"a manual page is well formed: {name}", (linted.returncode, linted.stderr), (0, b""))
 
 
 # What `install --all` puts there beside the program.

@@ -1,0 +1,51 @@
+"""What the help tells of operators and of the numbers of refusals: each of them, as the pages have it."""
+import os
+import re
+from typing import List, Tuple
+
+from calls import PLAIN, TOP, called, check, is_refused
+
+Told = Tuple[int, bytes, bytes]
+
+
+def page(name: str) -> str:
+    """A page on the use of the language."""
+    with open(os.path.join(TOP, "docs", "use", name), encoding="utf-8") as file:
+        return file.read()
+
+
+def told(script: str, word: str) -> Told:
+    """What the help tells of a word, where nothing is compiled and the kit is not there."""
+    answer: Told = called(script, "help", word, PATH=PLAIN)
+    return answer
+
+
+def operator_told(script: str, operator: str, rows: List[str]) -> None:
+    """The help of an operator has each row of the table that has its name."""
+    status, out, err = told(script, operator)
+    of_it = [row for row in rows if re.search(rf"\({operator}[ )]", row)]
+    lacking = [row for row in of_it if row not in out.decode().splitlines()]
+    check(f"help of {operator}", (status, err, lacking, b"\n  Value: " in out), (0, b"", [], True))
+    # a command has the name of one operator
+    if operator != "EXPORT":
+        check(f"help of {operator} in lower case", told(script, operator.lower()), (status, out, err))
+
+
+def check_all(script: str) -> None:
+    """Checks all of it."""
+    rows = re.findall(r"^\| `(\([^`]*)` \|.*\| (?:yes|no|if [^|]*) \|.*\|$", page("operators.md"), re.M)
+    operators = {row[1:].replace(")", " ").split()[0] for row in rows}
+    check("rows of the page", (len(rows), "GET" in operators), (27, True))
+    for operator in sorted(operators):
+        operator_told(script, operator, rows)
+    check("an example", "In a session:\n  (SETF (GET 'A 'B) 7)\n  7\n" in told(script, "SETF")[1].decode(), True)
+    check("a variable", "In a session:\n  *READ-BASE*\n  10\n" in told(script, "*READ-BASE*")[1].decode(), True)
+    numbers = re.findall(r"^\| (\d+) \| ([A-Z-]+) \|", page("refusals.md"), re.M)
+    check("numbers of the page", len(numbers) > 50, True)
+    for number, name in numbers:
+        status, out, err = told(script, number)
+        check(f"help of {number}", (status, out.decode().split("\n", 1)[0], err), (0, f"{number} {name}", b""))
+    check("what to do", [b"  What to do: " in told(script, number)[1] for number in ("60", "64", "90")], [True] * 3)
+    is_refused("no operator", script, "help", "FROB", says="no operator and no command 'FROB'")
+    is_refused("no number", script, "help", "999", says="no refusal has the number 999")
+    check("a command", told(script, "show")[1].startswith(b"Shows properties"), True)

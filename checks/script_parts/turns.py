@@ -1,0 +1,77 @@
+"""Sessions that wait for their turn, and who is told to have the store."""
+import os
+import subprocess
+import time
+from typing import List
+
+from calls import called, check, is_refused
+
+# How many sessions are started at once, and for how many seconds each may wait: on a machine that works none does.
+SESSIONS, PATIENCE = 30, "600"
+
+
+def begun(script: str, *words: str) -> "subprocess.Popen[bytes]":
+    """A session that reads what it is sent."""
+    pipe = subprocess.PIPE
+    return subprocess.Popen([script, "run", *words], stdin=pipe, stdout=pipe, stderr=pipe)
+
+
+def answered(running: "subprocess.Popen[bytes]", form: bytes) -> bytes:
+    """The answer to a form, of a session that goes on."""
+    assert running.stdin and running.stdout
+    running.stdin.write(form + b"\n")
+    running.stdin.flush()
+    return running.stdout.readline()
+
+
+def together(script: str, store: str) -> None:
+    """Many sessions at once, each of which pushes its number, and the list that they made."""
+    running = [begun(script, store, "--wait", PATIENCE) for _ in range(SESSIONS)]
+    for number, session in enumerate(running):
+        assert session.stdin
+        session.stdin.write(f"(PROGN (PUSH {number} (GET 'A 'L)) {number})".encode())
+        session.stdin.close()
+        session.stdin = None
+    answers = [session.communicate() for session in running]
+    check("answers of sessions at once", answers, [(f"{number}\n".encode(), b"") for number in range(SESSIONS)])
+    check("statuses of sessions at once", [session.returncode for session in running], [0] * SESSIONS)
+    pushed = called(script, "run", store, stdin=b"(GET 'A 'L)")[1].strip(b"()\n").split()
+    check("what they made", sorted(map(int, pushed)), list(range(SESSIONS)))
+
+
+def refused(script: str, store: str, holder: int, words: List[str], least: float) -> None:
+    """A session of these words ends, but not before so many seconds, as this process has the store."""
+    start = time.monotonic()
+    status, out, err = called(script, "run", *words)
+    told, *rest = err.decode().splitlines()
+    check(f"another has it: {words}", (status, out, rest), (3, b"", ["! 60 DEVICE", "locked by another process"]))
+    named = told.startswith(f"pazturrok: {store} is served by process {holder} (")
+    check(f"who has it is told: {words}", (named, time.monotonic() - start >= least), (True, True))
+
+
+def taken(script: str, store: str) -> None:
+    """A store that another process has: its number is told, at once or after the time; or its end is waited for."""
+    running = begun(script, store)
+    check("the session that was first", answered(running, b"(LIST 1)"), b"(1)\n")
+    refused(script, store, running.pid, [store], 0)
+    refused(script, store, running.pid, [store, "--wait", "1"], 1)
+    refused(script, store, running.pid, ["--snapshot-every", "7", "--wait=01", store], 1)
+    refused(script, store, running.pid, [store, "--wait", "0", "--messages"], 0)
+    check("a snapshot of it", b"is served by process" in called(script, "snapshot", store)[2], True)
+    check("a look at it", called(script, "verify", store, "--existing")[2], b"")
+    waiting = begun(script, store, "--wait", PATIENCE)
+    time.sleep(0.3)
+    check("it waits", waiting.poll(), None)
+    check("the first one ends", (running.communicate(), running.returncode), ((b"", b""), 0))
+    check("the one that waited", (waiting.communicate(b"(LIST 2)"), waiting.returncode), ((b"(2)\n", b""), 0))
+
+
+def check_all(script: str, room: str) -> None:
+    """Checks all of it in a room."""
+    store = os.path.join(room, "turns")
+    together(script, store)
+    together(script, os.path.join(room, "turns two"))
+    taken(script, store)
+    for text in ("", "x", "1x", "-1", "1.5", "9999999999"):
+        is_refused("seconds", script, "run", store, "--wait", text, says="a number of seconds")
+    is_refused("seconds", script, "run", store, "--wait", says="a number of seconds")

@@ -1,0 +1,227 @@
+# What the pages say of an operator or of the number of a refusal, as text for a terminal; or of all, as a manual page.
+#
+# usage: awk -v asked=GET -f pages.awk docs/use/operators.md docs/use/refusals.md docs/run/operating.md
+#
+# `asked` is the name of an operator or of a variable in upper case, a number, or `manual`. The status is 1 if the
+# pages have none such.
+
+# The kinds of tables, by their first lines.
+BEGIN {
+    kinds["Form|Value|Writes|Refusals"] = "operator"
+    kinds["Form|Answer|"] = "example"
+    kinds["In the table|What it is"] = "letter"
+    kinds["Numbers|What it means|What comes next"] = "range"
+    kinds["No.|Name|When|Place that is told"] = "refusal"
+    kinds["No.|Name|When"] = "refusal"
+    kinds["Number|What happened|What to do"] = "fault"
+}
+
+# A cell without the marks of a page.
+function plain(cell) {
+    gsub(/\001/, "|", cell)
+    gsub(/`|\*\*/, "", cell)
+    while (match(cell, /\[[^]]*\]\([^)]*\)/)) {
+        link = substr(cell, RSTART, RLENGTH)
+        sub(/\]\(.*/, "", link)
+        cell = substr(cell, 1, RSTART - 1) substr(link, 2) substr(cell, RSTART + RLENGTH)
+    }
+    gsub(/^ +| +$/, "", cell)
+    return cell
+}
+
+# Whether a name is among the words of a form.
+function has_word(form, name,    words, count, at) {
+    gsub(/[()\[\]',]/, " ", form)
+    count = split(form, words, " ")
+    for (at = 1; at <= count; at++)
+        if (words[at] == name)
+            return 1
+    return 0
+}
+
+# Tells a text behind so many spaces, in lines that a terminal has room for.
+function tell(text, indent,    words, count, at, line) {
+    count = split(text, words, " ")
+    line = ""
+    for (at = 1; at <= count; at++) {
+        if (line != "" && indent + length(line) + 1 + length(words[at]) > 100) {
+            printf "%*s%s\n", indent, "", line
+            line = ""
+        }
+        line = line (line == "" ? "" : " ") words[at]
+    }
+    if (line != "")
+        printf "%*s%s\n", indent, "", line
+}
+
+# A text for a manual page.
+function escaped(text) {
+    gsub(/\\/, "\\e", text)
+    gsub(/-/, "\\-", text)
+    gsub(/'/, "\\(aq", text)
+    gsub(/\^/, "\\(ha", text)
+    return text
+}
+
+!/^\|/ {
+    kind = ""
+    is_head = 1
+    next
+}
+
+/^\|[-|]*\|$/ { next }
+
+{
+    line = $0
+    gsub(/\\\|/, "\001", line)
+    count = split(line, cells, "|")
+    head = ""
+    for (at = 2; at < count; at++) {
+        cells[at] = plain(cells[at])
+        head = head (at > 2 ? "|" : "") cells[at]
+    }
+}
+
+is_head {
+    is_head = 0
+    kind = kinds[head]
+    next
+}
+
+kind == "operator" {
+    forms[++form_count] = cells[2]
+    values[form_count] = cells[3]
+    writes[form_count] = cells[4]
+    refusals[form_count] = cells[5]
+}
+
+# Of the examples the first that has the operator at its head and is accepted is the best one, worth 3. One that is
+# refused is worth 2, and one that has the name elsewhere 1.
+kind == "example" {
+    worth = 0
+    if (index(cells[2] " ", "(" asked " ") == 1)
+        worth = substr(cells[3], 1, 1) == "!" ? 2 : 3
+    else if (has_word(cells[2], asked) && substr(cells[3], 1, 1) != "!")
+        worth = 1
+    if (worth > best) {
+        best = worth
+        example = cells[2]
+        answer = cells[3]
+    }
+}
+
+kind == "letter" {
+    letters[++letter_count] = cells[2]
+    meanings[letter_count] = cells[3]
+}
+
+kind == "range" {
+    ranges[++range_count] = cells[2]
+    range_means[range_count] = cells[3]
+    range_next[range_count] = cells[4]
+}
+
+kind == "refusal" {
+    numbers[++number_count] = cells[2] + 0
+    names[number_count] = cells[3]
+    causes[number_count] = cells[4]
+    places[number_count] = count > 5 ? cells[5] : ""
+}
+
+kind == "fault" {
+    faults[++fault_count] = cells[2]
+    fault_does[fault_count] = cells[4]
+}
+
+# Whether a number is in a text like "60 to 68, 90".
+function is_in(number, text,    parts, count, at, ends) {
+    count = split(text, parts, ", ")
+    for (at = 1; at <= count; at++) {
+        if (split(parts[at], ends, " to ") == 1)
+            ends[2] = ends[1]
+        if (number >= ends[1] + 0 && number <= ends[2] + 0)
+            return 1
+    }
+    return 0
+}
+
+function tell_refusal(at,    other) {
+    print numbers[at] " " names[at]
+    tell(causes[at], 2)
+    if (places[at] != "" && places[at] != "none")
+        tell("Place that is told: " places[at], 2)
+    for (other = 1; other <= range_count; other++)
+        if (is_in(numbers[at], ranges[other]))
+            tell("What comes next: " range_means[other] "; " range_next[other], 2)
+    for (other = 1; other <= fault_count; other++)
+        if (faults[other] == numbers[at] " " names[at])
+            tell("What to do: " fault_does[other], 2)
+        else if (index(faults[other], numbers[at] " " names[at] ",") == 1)
+            tell("What to do after " faults[other] ": " fault_does[other], 2)
+}
+
+# Tells what the letters of the forms stand for, of which there are those in `text`.
+function tell_letters(text,    at, words, count, word) {
+    for (at = 1; at <= letter_count; at++) {
+        count = split(letters[at], words, ", ")
+        for (word = 1; word <= count; word++)
+            if (has_word(text, words[word])) {
+                tell(letters[at] ": " meanings[at], 2)
+                break
+            }
+    }
+}
+
+function tell_operator(    at, found, text) {
+    for (at = 1; at <= form_count; at++)
+        if (has_word(forms[at], asked)) {
+            found = 1
+            print forms[at]
+            tell("Value: " values[at], 2)
+            tell("Writes: " writes[at], 2)
+            if (refusals[at] != "")
+                tell("Refused with: " refusals[at], 2)
+            text = text " " forms[at]
+        }
+    if (!found && best != 1 && best != 3)
+        return 0
+    if (found) {
+        print ""
+        tell_letters(text)
+    }
+    if (best)
+        print (found ? "\n" : "") "In a session:\n  " example "\n  " answer
+    print "\nEach form is also refused as docs/use/operators.md has it. `help NUMBER` tells of a refusal."
+    return 1
+}
+
+function tell_manual(    at) {
+    print ".TH PAZTURROK-FORMS 7 \"\" \"Pazturrok\""
+    print ".SH NAME\npazturrok-forms \\- the forms of a store, and the numbers of refusals"
+    print ".SH FORMS"
+    for (at = 1; at <= form_count; at++) {
+        print ".TP\n.B \"" escaped(forms[at]) "\""
+        print escaped(values[at] ". Writes: " writes[at] ".")
+        if (refusals[at] != "")
+            print escaped("Refused with: " refusals[at] ".")
+    }
+    print ".PP"
+    for (at = 1; at <= letter_count; at++)
+        print ".TP\n.B \"" escaped(letters[at]) "\"\n" escaped(meanings[at])
+    print ".SH REFUSALS"
+    for (at = 1; at <= number_count; at++)
+        print ".TP\n.B \"" escaped(numbers[at] " " names[at]) "\"\n" escaped(causes[at])
+    print ".SH SEE ALSO\n.BR pazturrok (1)"
+    return 1
+}
+
+END {
+    if (asked == "manual")
+        exit !tell_manual()
+    for (at = 1; at <= number_count; at++)
+        if (asked == numbers[at] "") {
+            tell_refusal(at)
+            exit 0
+        }
+    exit !tell_operator()
+}
