@@ -162,6 +162,32 @@ class Cluster:
         return self.run(place, "dump")
 
 
+class Alone(Cluster):
+    """A node without etcd, at a socket or at a place of this machine."""
+
+    def __init__(self, folder, program, keep=600, options=(), place=None):
+        self.folder, self.program, self.apart, self.secrets, self.blows, self.context = folder, program, None, None, 0, None
+        self.urls, self.members, self.places = [], [], [place or os.path.join(folder, "socket")]
+        self.nodes = [self.node(0, keep, options)]
+        self.nodes[0].start()
+
+    def node(self, place, keep=600, options=()):
+        where = self.places[place]
+        listen = f"unix:{where}" if isinstance(where, str) else f"{where[0]}:{where[1]}"
+        words = [sys.executable, NODE, self.store(0), "--alone", "--listen", listen, "--keep", str(keep), "--program", self.program, *options]
+        return Process(words, os.path.join(self.folder, "node.log"))
+
+
+def connected(place, seconds):
+    """A connection to a node at HOST, PORT, or at the path of a socket."""
+    if not isinstance(place, str):
+        return socket.create_connection(place, seconds)
+    way = socket.socket(socket.AF_UNIX)
+    way.settimeout(seconds)
+    way.connect(place)
+    return way
+
+
 class Client:
     """A client of one node after the other: it sends a request again, under its name, until it is answered."""
 
@@ -182,7 +208,7 @@ class Client:
 
     def once(self, head, text):
         if self.stream is None:
-            way = socket.create_connection(self.places[self.at], self.patience)
+            way = connected(self.places[self.at], self.patience)
             way = self.context.wrap_socket(way, server_hostname=self.places[self.at][0]) if self.context else way
             self.stream = way.makefile("rwb")
         self.stream.write(b"%s %d\n%s\n" % (head, len(text), text))

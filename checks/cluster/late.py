@@ -242,11 +242,13 @@ def leavers(_folder, _program):
     from pazturrok_node.node import Told
 
     class Slow:
-        async def ask(self, text, _number):
-            return Told(1, text * 10_000)
+        position = 1
+
+        def ask(self, text, take):
+            asyncio.get_running_loop().call_soon(take, Told(1, text * 10_000))
 
     async def left():
-        server = await asyncio.start_server(Clients(Slow(), None).serve, "127.0.0.1", 0)
+        server = await asyncio.get_running_loop().create_server(Clients(Slow(), None).serve, "127.0.0.1", 0)
         for _ in range(5):
             _, writer = await asyncio.open_connection(*server.sockets[0].getsockname())
             writer.write(b"ask 5\n(FOO)\n" * 3000)

@@ -3,7 +3,7 @@
 (in-package "PAZTURROK-CLIENT")
 
 (defstruct (node-feed (:include feed) (:constructor make-node-feed (words naming time-limit patience)) (:copier nil))
-  "Nodes, HOST:PORT or paths of sockets, of which one is asked after the other. Its words are they."
+  "Nodes, HOST:PORT or `unix:` and the path of a socket, of which one is asked after the other. Its words are they."
   time-limit
   patience
   (at 0 :type unsigned-byte)
@@ -24,6 +24,10 @@
 
 ;;; Connections
 
+(defun socket-path-p (node)
+  "Whether a node is `unix:` and the path of a socket."
+  (eql (mismatch "unix:" node) 5))
+
 #+(or sbcl ecl)
 (defun connected-socket (node)
   "A socket that is connected to a node."
@@ -33,8 +37,8 @@
                                    (ignore-errors (sb-bsd-sockets:socket-close socket)))))
              (apply #'sb-bsd-sockets:socket-connect socket place))
            socket))
-    (if (find #\/ node)
-        (connected (make-instance 'sb-bsd-sockets:local-socket :type :stream) node)
+    (if (or (find #\/ node) (socket-path-p node))
+        (connected (make-instance 'sb-bsd-sockets:local-socket :type :stream) (subseq node (if (socket-path-p node) 5 0)))
         (let ((colon (position #\: node :from-end t)))
           (connected (make-instance 'sb-bsd-sockets:inet-socket :type :stream :protocol :tcp)
                      (sb-bsd-sockets:host-ent-address (sb-bsd-sockets:get-host-by-name (subseq node 0 colon)))

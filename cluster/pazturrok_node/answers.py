@@ -2,11 +2,10 @@
 
 from __future__ import annotations
 
-import asyncio
 import collections
+from collections.abc import Callable
 
-LOST = b"! 50 OLD-NUMBER"
-"""The answer to an entry that was carried out, once, and whose own answer nobody has any more."""
+from .frames import LOST
 
 RECENT = 100_000
 """How many answers are kept for those who ask again."""
@@ -23,18 +22,16 @@ class Answers:
         """Every entry up to this number has had its answer."""
         self._recent: collections.OrderedDict[int, bytes] = collections.OrderedDict()
         self._size = 0
-        self._waiting: dict[int, list[asyncio.Future[bytes]]] = {}
+        self._waiting: dict[int, list[Callable[[bytes], None]]] = {}
 
-    def answer_to(self, number: int) -> asyncio.Future[bytes]:
-        """What will have the answer of an entry that is in the log."""
-        future: asyncio.Future[bytes] = asyncio.get_running_loop().create_future()
+    def answer_to(self, number: int, take: Callable[[bytes], None]) -> None:
+        """Has the answer taken of an entry that is in the log: at once, where it is known, or else when it comes."""
         if number in self._recent:
-            future.set_result(self._recent[number])
+            take(self._recent[number])
         elif number <= self.settled:
-            future.set_result(LOST)
+            take(LOST)
         else:
-            self._waiting.setdefault(number, []).append(future)
-        return future
+            self._waiting.setdefault(number, []).append(take)
 
     def resolve(self, number: int, text: bytes) -> None:
         """An entry has this answer: it goes to those who wait for it, and is kept for those who will."""
@@ -42,6 +39,5 @@ class Answers:
         self._recent[number] = text
         while len(self._recent) > RECENT or self._size > RECENT_BYTES:
             self._size -= len(self._recent.popitem(last=False)[1])
-        for future in self._waiting.pop(number, ()):
-            if not future.done():
-                future.set_result(text)
+        for take in self._waiting.pop(number, ()):
+            take(text)

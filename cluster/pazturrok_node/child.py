@@ -3,7 +3,10 @@
 from __future__ import annotations
 
 import asyncio
+import contextlib
+import fcntl
 import logging
+import sys
 from collections.abc import Sequence
 
 from .frames import POSITION
@@ -13,35 +16,57 @@ logger = logging.getLogger(__name__)
 LIMIT = 1 << 24
 """How many bytes of an answer are held at most."""
 
+PIPE = 1 << 20
+"""As many bytes may be in the pipe to a program, where the system allows it."""
+
+SET_PIPE_SIZE = 1031
+"""F_SETPIPE_SZ of Linux, which Python has a name for since 3.10."""
+
 
 class Child:
     """A program over a folder, which has told its position."""
 
     def __init__(self, process: asyncio.subprocess.Process, position: int) -> None:
         self.process, self.position = process, position
+        self.refusal = b""
+        """The last refusal that it wrote to standard error: why it ended, where it said so."""
+        self._complaints: asyncio.Future[None] | None = None
 
     @classmethod
     async def start(cls, words: Sequence[str]) -> Child | None:
         """Starts the program: None where it ends before it has told its position."""
-        process = await asyncio.create_subprocess_exec(
-            *words, stdin=asyncio.subprocess.PIPE, stdout=asyncio.subprocess.PIPE, limit=LIMIT
-        )
-        assert process.stdout
+        pipe = asyncio.subprocess.PIPE
+        process = await asyncio.create_subprocess_exec(*words, stdin=pipe, stdout=pipe, stderr=pipe, limit=LIMIT)
+        assert process.stdin and process.stdout
+        with contextlib.suppress(OSError):
+            fcntl.fcntl(process.stdin.get_extra_info("pipe"), SET_PIPE_SIZE, PIPE)
+        child = cls(process, 0)
+        child._complaints = asyncio.ensure_future(child._hear())
         told = POSITION.fullmatch(await process.stdout.readline())
         if told:
-            return cls(process, int(told[1]))
-        await process.wait()
+            child.position = int(told[1])
+            return child
+        await child.end()
         logger.error("the store ended with status %s as it was opened", process.returncode)
         return None
+
+    async def _hear(self) -> None:
+        """Writes on what the program writes to standard error."""
+        assert self.process.stderr
+        while line := await self.process.stderr.readline():
+            if line.startswith(b"! "):
+                self.refusal = line.strip()
+            sys.stderr.write(line.decode("utf-8", "replace"))
+            sys.stderr.flush()
 
     @property
     def answers(self) -> asyncio.StreamReader:
         assert self.process.stdout
         return self.process.stdout
 
-    def send(self, frame: bytes) -> None:
+    def send(self, frames: bytes) -> None:
         assert self.process.stdin
-        self.process.stdin.write(frame)
+        self.process.stdin.write(frames)
 
     async def drain(self) -> None:
         """Waits until most of what was sent has gone."""
@@ -53,7 +78,10 @@ class Child:
         assert self.process.stdin
         self.process.stdin.close()
         try:
-            return await asyncio.wait_for(self.process.wait(), 10)
+            status = await asyncio.wait_for(self.process.wait(), 10)
         except asyncio.TimeoutError:
             self.process.kill()
-            return await self.process.wait()
+            status = await self.process.wait()
+        if self._complaints:
+            await asyncio.wait([self._complaints], timeout=1)
+        return status

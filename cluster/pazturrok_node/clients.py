@@ -4,31 +4,25 @@ from __future__ import annotations
 
 import asyncio
 import collections
-import contextlib
 import logging
 import socket
 import uuid
-from collections.abc import Awaitable, Coroutine
-from typing import Any
 
+from .appender import Appender, Placed, Refused
 from .etcd import EtcdError, PutBackError
-from .frames import LIMIT, NoFrameError, Request, answer, answer_at, read_request
-from .node import Appender, Node
+from .frames import LIMIT, REQUEST, Frames, NoFrameError, Request, answer, answer_at, request_of
+from .node import Node, Told
 
 logger = logging.getLogger(__name__)
 
 AT_ONCE = 1000
-"""How many requests of one client may be under way."""
+"""How many requests of one client may be under way, before more are read."""
 
 UNREAD = 1 << 24
 """A client that leaves so many bytes of answers unread is let go. It may ask again, under the names of its requests."""
 
 UNPLACED = 1 << 22
-"""And so many bytes of its forms may wait for etcd, before more are read."""
-
-BUFFER = LIMIT + 1024
-"""How many bytes of a request are held at most."""
-
+"""And so many bytes of its forms may wait for the log, before more are read."""
 
 MOST_CLIENTS = 10_000
 """How many may be connected."""
@@ -39,7 +33,7 @@ PROBES = ((socket.TCP_KEEPIDLE, 60), (socket.TCP_KEEPINTVL, 20), (socket.TCP_KEE
 
 class Clients:
     def __init__(self, node: Node, appender: Appender, most: int = MOST_CLIENTS) -> None:
-        self._node, self._appender, self._most = node, appender, most
+        self.node, self.appender, self._most = node, appender, most
         self._connected: collections.OrderedDict[Client, None] = collections.OrderedDict()
         """Those that are connected, by their last request."""
         self.requests: collections.Counter[str] = collections.Counter()
@@ -48,35 +42,26 @@ class Clients:
     def count(self) -> int:
         return len(self._connected)
 
-    async def serve(self, reader: asyncio.StreamReader, writer: asyncio.StreamWriter) -> None:
-        """Answers the requests of a client, until it goes or sends what is no frame."""
-        client = Client(self, self._node, self._appender, reader, writer)
-        if not self._make_room():
-            writer.close()
-            return
-        self._connected[client] = None
-        keep_alive(writer)
-        taker = asyncio.ensure_future(client.take())
-        try:
-            with contextlib.suppress(ConnectionError, asyncio.CancelledError, EtcdError, PutBackError):
-                await client.send()
-        finally:
-            self._connected.pop(client, None)
-            taker.cancel()
-            client.forget()
-            writer.close()
+    def serve(self) -> asyncio.Protocol:
+        """What answers the requests of one more client, until it goes or sends what is no frame."""
+        return Client(self)
 
-    def _make_room(self) -> bool:
-        """Where as many are connected as may be, the one goes that has asked nothing for longest. False where all wait for answers."""
+    def take(self, client: Client) -> bool:
+        """Takes one that has come. Where as many are connected as may be, the one goes that has asked nothing for longest; False where all
+        wait for answers."""
         while len(self._connected) >= self._most:
             idle = next((client for client in self._connected if client.is_idle), None)
             if idle is None:
                 logger.warning("%d clients wait for answers: another one is refused", len(self._connected))
                 return False
             logger.warning("%d clients are connected: one that has asked nothing for longest is let go", len(self._connected))
-            self._connected.pop(idle)
+            self.forget(idle)
             idle.let_go()
+        self._connected[client] = None
         return True
+
+    def forget(self, client: Client) -> None:
+        self._connected.pop(client, None)
 
     def heed(self, client: Client, kind: str) -> None:
         """A client has sent a request."""
@@ -85,92 +70,181 @@ class Clients:
             self._connected.move_to_end(client)
 
 
-def keep_alive(writer: asyncio.StreamWriter) -> None:
+def keep_alive(transport: asyncio.BaseTransport) -> None:
     """Has the system look whether the machine of a client is still there: one that is gone is let go after two minutes."""
-    one = writer.get_extra_info("socket")
+    one = transport.get_extra_info("socket")
     if one is not None and one.family in (socket.AF_INET, socket.AF_INET6):
         one.setsockopt(socket.SOL_SOCKET, socket.SO_KEEPALIVE, 1)
         for option, value in PROBES:
             one.setsockopt(socket.IPPROTO_TCP, option, value)
 
 
-class Client:
-    def __init__(
-        self, clients: Clients, node: Node, appender: Appender, reader: asyncio.StreamReader, writer: asyncio.StreamWriter
-    ) -> None:
-        self._clients, self._node, self._appender, self._reader, self._writer = clients, node, appender, reader, writer
-        self.pending: asyncio.Queue[asyncio.Task[bytes] | None] = asyncio.Queue(AT_ONCE)
-        self._unread = self._unplaced = self._unanswered = 0
+class Slot:
+    """A request that has no answer yet, or whose answer waits for those before it."""
+
+    __slots__ = ("answer", "is_begun", "request")
+
+    def __init__(self, request: Request) -> None:
+        self.request, self.is_begun = request, False
+        self.answer: bytes | None = None
+
+
+class Client(asyncio.Protocol):
+    def __init__(self, clients: Clients) -> None:
+        self._clients, self._node, self._appender = clients, clients.node, clients.appender
+        self._frames = Frames(REQUEST, LIMIT)
+        self._slots: collections.deque[Slot] = collections.deque()
+        self._transport: asyncio.Transport | None = None
+        self._reads: set[asyncio.Task[None]] = set()
+        self._unplaced = 0
+        self._is_over = self._is_slow = self._is_paused = self._is_due = False
 
     @property
     def is_idle(self) -> bool:
         """Whether it waits for no answer."""
-        return self._unanswered == 0
+        return not self._slots
 
     def let_go(self) -> None:
-        self._writer.close()
+        """Closes the connection, once what was answered is sent."""
+        if self._transport:
+            self._transport.close()
 
-    async def take(self) -> None:
-        """Takes requests, until the client sends no more, or what is no frame."""
-        with contextlib.suppress(NoFrameError, ConnectionError, asyncio.IncompleteReadError, ValueError):
-            await self._take_all()
-        await self.pending.put(None)
+    # What the loop tells of the connection
 
-    async def _take_all(self) -> None:
-        before: asyncio.Task[bytes] | None = None
-        while (request := await read_request(self._reader)) is not None:
-            self._unanswered += 1
-            self._clients.heed(self, request.kind)
-            if request.kind == "do":
-                work = await self._append((request.name or uuid.uuid4().hex).encode("ascii"), request.text)
-            else:
-                work = self._ask(request, before)
-            before = asyncio.ensure_future(work)
-            await self.pending.put(before)
+    def connection_made(self, transport: asyncio.BaseTransport) -> None:
+        assert isinstance(transport, asyncio.Transport)
+        self._transport = transport
+        if self._clients.take(self):
+            keep_alive(transport)
+        else:
+            transport.abort()
 
-    async def _append(self, name: bytes, text: bytes) -> Coroutine[Any, Any, bytes]:
-        """Has an entry put, and gives what waits for its answer."""
-        placed = self._appender.append(name, text)
-        self._unplaced += len(text)
-        placed.add_done_callback(lambda _: self._count_placed(len(text)))
-        if self._unplaced > UNPLACED:
-            await asyncio.wait([placed])
-        return self._answer_to(placed)
-
-    def _count_placed(self, size: int) -> None:
-        self._unplaced -= size
-
-    async def _answer_to(self, placed: Awaitable[int]) -> bytes:
-        number = await placed
-        return self._held(answer(number, await self._node.answers.answer_to(number)))
-
-    async def _ask(self, request: Request, before: Awaitable[bytes] | None) -> bytes:
-        # it sees what the same client has sent before
-        if before is not None:
-            await asyncio.wait([asyncio.ensure_future(before)])
-        if request.kind == "read":
-            return self._held(answer(None, (await self._node.read(request.text)).text))
-        told = await self._node.ask(request.text, request.number or 0)
-        return self._held(answer(None, told.text) if request.number is None else answer_at(told.position, told.text))
-
-    def _held(self, text: bytes) -> bytes:
-        self._unread += len(text)
-        if self._unread > UNREAD + len(text):
-            self._writer.transport.abort()
-        return text
-
-    async def send(self) -> None:
-        """Sends the answers, in the order of the requests."""
-        while (task := await self.pending.get()) is not None:
-            text = await task
-            self._writer.write(text)
-            await self._writer.drain()
-            self._unread -= len(text)
-            self._unanswered -= 1
-
-    def forget(self) -> None:
+    def connection_lost(self, exc: Exception | None) -> None:
         """Nobody waits for the answers any more. What is to be carried out will be."""
-        while not self.pending.empty():
-            task = self.pending.get_nowait()
-            if task is not None:
-                task.cancel()
+        self._clients.forget(self)
+        self._transport = None
+        self._slots.clear()
+        for task in self._reads:
+            task.cancel()
+
+    def data_received(self, data: bytes) -> None:
+        if self._is_over:
+            return
+        try:
+            for head, text in self._frames.split(data):
+                self._take(request_of(head, text))
+        except NoFrameError:
+            self._end()
+        self._pace()
+
+    def eof_received(self) -> bool:
+        self._end()
+        # a connection by TLS has no half that stays open
+        return self._transport is not None and self._transport.get_extra_info("sslcontext") is None
+
+    def pause_writing(self) -> None:
+        self._is_slow = True
+        self._pace()
+
+    def resume_writing(self) -> None:
+        self._is_slow = False
+        self._pace()
+
+    def _end(self) -> None:
+        """The client sends no more, or what is no frame: it goes once all that it asked before is answered."""
+        self._is_over = True
+        if self.is_idle:
+            self.let_go()
+
+    def _pace(self) -> None:
+        """Reads no more while too much is under way."""
+        if self._transport is None or self._is_over:
+            return
+        wants = self._is_slow or len(self._slots) >= AT_ONCE or self._unplaced > UNPLACED
+        if wants != self._is_paused:
+            self._is_paused = wants
+            if wants:
+                self._transport.pause_reading()
+            else:
+                self._transport.resume_reading()
+
+    # Requests
+
+    def _take(self, request: Request) -> None:
+        slot = Slot(request)
+        self._slots.append(slot)
+        self._clients.heed(self, request.kind)
+        if request.kind == "do":
+            slot.is_begun = True
+            self._unplaced += len(request.text)
+            name = request.name or uuid.uuid4().hex.encode("ascii")
+            self._appender.append(self, name, request.text, lambda placed: self._take_place(slot, placed))
+        else:
+            self._begin_first()
+
+    def _take_place(self, slot: Slot, placed: Placed) -> None:
+        """A form has come into the log, or will not."""
+        self._unplaced -= len(slot.request.text)
+        if placed is None:
+            self.let_go()
+        elif isinstance(placed, Refused):
+            self._answer(slot, answer(0, placed.answer))
+        else:
+            number = placed
+            self._node.answers.answer_to(number, lambda text: self._answer(slot, answer(number, text)))
+
+    def _begin_first(self) -> None:
+        """A question is asked once all before it is answered: so it sees what the same client has sent before."""
+        if not self._slots or self._slots[0].is_begun:
+            return
+        slot = self._slots[0]
+        slot.is_begun = True
+        if slot.request.kind == "read" or slot.request.number is not None and slot.request.number > self._node.position:
+            task = asyncio.ensure_future(self._ask_later(slot))
+            self._reads.add(task)
+            task.add_done_callback(self._reads.discard)
+        else:
+            self._ask(slot)
+
+    async def _ask_later(self, slot: Slot) -> None:
+        try:
+            if slot.request.kind == "read":
+                await self._node.reach_last()
+            else:
+                await self._node.reach(slot.request.number or 0)
+        except (EtcdError, PutBackError):
+            self.let_go()
+            return
+        self._ask(slot)
+
+    def _ask(self, slot: Slot) -> None:
+        def take(told: Told) -> None:
+            has_number = slot.request.number is not None
+            self._answer(slot, answer_at(told.position, told.text) if has_number else answer(None, told.text))
+
+        self._node.ask(slot.request.text, take)
+
+    # Answers
+
+    def _answer(self, slot: Slot, text: bytes) -> None:
+        slot.answer = text
+        if self._slots and self._slots[0] is slot and not self._is_due:
+            self._is_due = True
+            asyncio.get_running_loop().call_soon(self._send)
+
+    def _send(self) -> None:
+        """Sends the answers that have come, in the order of the requests."""
+        self._is_due = False
+        texts: list[bytes] = []
+        while self._slots and (text := self._slots[0].answer) is not None:
+            texts.append(text)
+            self._slots.popleft()
+        if self._transport is None or not texts:
+            return
+        self._transport.write(b"".join(texts))
+        if self._transport.get_write_buffer_size() > UNREAD + len(texts[-1]):
+            self._transport.abort()
+        self._begin_first()
+        if self._is_over and self.is_idle:
+            self.let_go()
+        self._pace()

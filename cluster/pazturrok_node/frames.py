@@ -1,19 +1,34 @@
-"""Frames and answers on streams (docs/run/protocol.md of the store)."""
+"""Frames and answers (docs/run/protocol.md of the store): bytes are split into them, and they are made."""
 
 from __future__ import annotations
 
-import asyncio
 import re
+from collections.abc import Iterator
 from typing import NamedTuple
 
 LIMIT = 1_048_576
-"""The greatest length of a text."""
+"""The greatest length of a text of a client."""
+
+LONGEST_HEAD = 200
+"""And that of the line before it."""
 
 NUMBER = r"(0|[1-9][0-9]{0,18})"
 NAME = r"([A-Za-z0-9._-]{1,100})"
 REQUEST = re.compile(rf"(?:do(?: {NAME})?|(ask|read)|ask {NUMBER}) {NUMBER}\n".encode())
 ANSWER = re.compile(rf"(?:{NUMBER}|ask) {NUMBER}\n".encode())
 POSITION = re.compile(rf"at {NUMBER}\n".encode())
+
+LOST = b"! 50 OLD-NUMBER"
+"""The answer to an entry that was carried out, once, and whose own answer nobody has any more."""
+
+SKIPPED = b"! 53 SKIPPED"
+"""The answer to an entry that all stores skip."""
+
+NO_ROOM = b"! 54 NO-ROOM"
+"""The answer to a form for which the log has no room: nothing of it was carried out, and its name is free."""
+
+NO_MEMORY = b"! 90 NO-MEMORY"
+"""The answer to a question beside which the store has ended twice: it is not asked again."""
 
 
 class NoFrameError(Exception):
@@ -24,41 +39,53 @@ class Request(NamedTuple):
     """A request of a client: `do`, with a name, if it has one; `ask`, with a number, if it has one; or `read`."""
 
     kind: str
-    name: str | None
+    name: bytes | None
     number: int | None
     text: bytes
 
 
-async def sized(reader: asyncio.StreamReader, size: int) -> bytes:
-    """So many bytes, and the newline after them."""
-    text = await reader.readexactly(size + 1)
-    if text[-1:] != b"\n":
-        raise NoFrameError("a text is longer than its length")
-    return text[:-1]
+class Frames:
+    """Bytes, as they come, split into frames: the match of each head, whose last group is a length, and the text after it."""
+
+    def __init__(self, head: re.Pattern[bytes], most: int | None = None) -> None:
+        self._head, self._most = head, most
+        self._length = head.groups
+        self._pieces: list[bytes] = []
+        self._missing = 0
+        """So many bytes have to come before another frame can be whole."""
+
+    def split(self, data: bytes) -> Iterator[tuple[re.Match[bytes], bytes]]:
+        """The frames that these bytes make whole; NoFrameError after those that stand before what is none."""
+        self._pieces.append(data)
+        self._missing -= len(data)
+        if self._missing > 0:
+            return
+        data, place = b"".join(self._pieces) if len(self._pieces) > 1 else data, 0
+        self._missing = 0
+        while head := self._head.match(data, place):
+            size = int(head[self._length])
+            if self._most is not None and size > self._most:
+                raise NoFrameError(f"a text of {size} bytes, and at most {self._most} are taken")
+            end = head.end() + size
+            if end >= len(data):
+                self._missing = end + 1 - len(data)
+                break
+            if data[end] != 10:
+                raise NoFrameError("a text is longer than its length")
+            yield head, data[head.end() : end]
+            place = end + 1
+        else:
+            line = data[place : place + LONGEST_HEAD]
+            if b"\n" in line or len(line) == LONGEST_HEAD:
+                raise NoFrameError(f"{line[:80]!r} is no head of a frame")
+        self._pieces = [data[place:]] if place < len(data) else []
 
 
-async def read_request(reader: asyncio.StreamReader) -> Request | None:
-    """The next request of a client. None at the end."""
-    line = await reader.readline()
-    if not line:
-        return None
-    head = REQUEST.fullmatch(line)
-    if not head or int(head[4]) > LIMIT:
-        raise NoFrameError(repr(line[:80]))
-    name, kind, number = (part.decode() if part else None for part in head.groups()[:3])
-    text = await sized(reader, int(head[4]))
-    return Request(kind or ("ask" if number else "do"), name, int(number) if number else None, text)
-
-
-async def read_answer(reader: asyncio.StreamReader) -> tuple[int | None, bytes] | None:
-    """An answer of a store: the number of its message, or None of a question, and its text. None at the end."""
-    line = await reader.readline()
-    if not line.endswith(b"\n"):
-        return None
-    head = ANSWER.fullmatch(line)
-    if not head:
-        raise NoFrameError(repr(line[:80]))
-    return int(head[1]) if head[1] else None, await sized(reader, int(head[2]))
+def request_of(head: re.Match[bytes], text: bytes) -> Request:
+    name, kind, number, _ = head.groups()
+    if kind:
+        return Request("ask" if kind == b"ask" else "read", None, None, text)
+    return Request("do", name, None, text) if number is None else Request("ask", None, int(number), text)
 
 
 def message(number: int, text: bytes) -> bytes:

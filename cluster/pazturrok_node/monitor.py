@@ -8,6 +8,8 @@ import json
 
 from . import VERSION
 from .clients import Clients
+from .journal import Journal
+from .log import Log
 from .node import Node
 
 PATIENCE = 10.0
@@ -57,7 +59,7 @@ class Monitor:
 
     def troubles(self) -> list[str]:
         """Why this node does not answer now; nothing where it is well."""
-        found, silent = [], self._node.log.etcd.silent_seconds
+        found, silent = [], self._node.log.silent_seconds
         if not self._node.is_admitted.is_set():
             found.append("the store was not opened yet")
         elif not self._node.is_running:
@@ -79,8 +81,8 @@ class Monitor:
         requests: list[Sample] = [(f'{{kind="{kind}"}}', self._clients.requests[kind]) for kind in ("do", "ask", "read")]
         return [
             ("info", "gauge", "Which node this is.", [(about, 1)]),
-            ("revision", "gauge", "The revision of the last entry that the store has answered.", [("", log.revision(node.position) if is_known else 0)]),
-            ("lasting_revision", "gauge", "A revision that an opening of the store would tell.", [("", log.revision(node.lasting) if is_known else 0)]),
+            ("revision", "gauge", "The revision of the last entry that the store has answered.", [("", log.place(node.position) if is_known else 0)]),
+            ("lasting_revision", "gauge", "A revision that an opening of the store would tell.", [("", log.place(node.lasting) if is_known else 0)]),
             ("entries_total", "counter", "Entries that the store has answered.", [("", node.count_of_entries)]),
             ("entries_under_way", "gauge", "Entries that were sent to the store and have no answer.", [("", node.under_way)]),
             ("requests_total", "counter", "Requests of clients.", requests),
@@ -88,8 +90,18 @@ class Monitor:
             ("store_up", "gauge", "Whether the store runs.", [("", node.is_running)]),
             ("store_ends_total", "counter", "How often the store has ended by itself.", [("", node.count_of_ends)]),
             ("stuck", "gauge", "Whether the store ends at one entry again and again.", [("", node.stuck > 0)]),
-            ("etcd_silent_seconds", "gauge", "For how long no member of etcd has answered.", [("", log.etcd.silent_seconds)]),
+            *figures_of(node.log),
         ]
+
+
+def figures_of(log: Log) -> list[tuple[str, str, str, list[Sample]]]:
+    """What is of one kind of log alone."""
+    if isinstance(log, Journal):
+        return [
+            ("journal_names", "gauge", "Names that are kept.", [("", log.names)]),
+            ("journal_bytes", "gauge", "Bytes of the journal.", [("", log.size)]),
+        ]
+    return [("etcd_silent_seconds", "gauge", "For how long no member of etcd has answered.", [("", log.silent_seconds)])]
 
 
 def figure(name: str, kind: str, about: str, samples: list[Sample]) -> str:

@@ -8,7 +8,7 @@ import logging
 from typing import Any
 
 from .etcd import EtcdError, decoded, encoded
-from .log import Log
+from .etcd_log import EtcdLog
 from .replica import Replica
 
 logger = logging.getLogger(__name__)
@@ -29,7 +29,7 @@ class TakenNameError(Exception):
 class Name:
     """A name, and the lease by which this node has it. What it wrote down of its lease beside the store tells its next life that it is the same."""
 
-    def __init__(self, log: Log, name: str, replica: Replica) -> None:
+    def __init__(self, log: EtcdLog, name: str, replica: Replica) -> None:
         self.text, self.lease = name, 0
         self._etcd, self._replica, self._before = log.etcd, replica, replica.lease
         self._key = encoded(log.prefix + b"names/" + name.encode("ascii"))

@@ -6,12 +6,12 @@ import sys
 from collections.abc import Sequence
 
 from .child import Child
-from .log import EPOCH, Log
+from .etcd_log import EPOCH, EtcdLog
 from .replica import Replica
 from .trim import Reports
 
 
-async def begin(log: Log, replica: Replica, words: Sequence[str]) -> int:
+async def begin(log: EtcdLog, replica: Replica, words: Sequence[str]) -> int:
     """Begins a log with a store, whatever it has come to elsewhere."""
     if await log.identify() is not None:
         return refused("etcd has a log of this name already")
@@ -26,7 +26,7 @@ async def begin(log: Log, replica: Replica, words: Sequence[str]) -> int:
     return 0
 
 
-async def skip(log: Log, number: int) -> int:
+async def skip(log: EtcdLog, number: int) -> int:
     """Has all nodes skip an entry, before which the store of each ends again and again."""
     if (identity := await log.identify()) is None or number // EPOCH != identity.epoch:
         return refused(f"{number} is no entry of this log")

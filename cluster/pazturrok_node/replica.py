@@ -12,7 +12,8 @@ import random
 from collections.abc import AsyncIterator
 from typing import Any
 
-from .log import EPOCH, LAST_EPOCH, Entry, Identity, Log
+from .etcd_log import EPOCH, LAST_EPOCH, EtcdLog, Identity
+from .log import Entry, Keeper, RefusedStoreError
 
 logger = logging.getLogger(__name__)
 
@@ -35,14 +36,10 @@ OTHER_ENTRY = "the log has another entry {} than this store carried out: etcd is
 SKIPPED = "the other stores skip entry {}, and this one may have carried it out"
 
 
-class RefusedStoreError(Exception):
-    """The store is no replica of the log as it stands; nothing was carried out."""
-
-
-class Replica:
+class Replica(Keeper):
     """A store in a folder. Before each opening the node looks at it, and after it asks whether it is one of the log."""
 
-    def __init__(self, log: Log, program: str, folder: str) -> None:
+    def __init__(self, log: EtcdLog, program: str, folder: str) -> None:
         self._log, self._program, self._folder = log, program, folder
         self._path = os.path.join(folder, NOTES)
         self._noted: dict[str, Any] = {}
@@ -53,7 +50,6 @@ class Replica:
         self._is_foreign = self._is_changed = False
 
     async def look(self) -> None:
-        """Looks at the files, while no program has them open."""
         last = rest = b""
         async for piece in self._told("log"):
             *lines, rest = (rest + piece).split(b"\n")
@@ -63,7 +59,6 @@ class Replica:
         self._is_changed = ended is not None and await self._figures() != figures_of(ended.split("; "))
 
     async def admit(self, position: int) -> None:
-        """A program has opened the store, at this position: RefusedStoreError where that is none of the log."""
         identity = await self._log.identify()
         if identity is None:
             if position:
@@ -84,12 +79,12 @@ class Replica:
 
     async def _compare(self, position: int, identity: Identity) -> None:
         """What the log has is what this store carried out, as far as that can be told."""
-        if self._log.revision(position) > await self._log.last():
+        if self._log.place(position) > await self._log.last():
             raise RefusedStoreError(AHEAD.format(position))
         seen = self._noted.get("seen")
         if seen and identity.epoch == seen["number"] // EPOCH:
             entry = await self._log.entry(seen["name"].encode("ascii"))
-            is_there = entry is not None or self._log.revision(seen["number"]) > await self._log.trimmed()
+            is_there = entry is not None or self._log.place(seen["number"]) > await self._log.trimmed()
             if is_there and (entry is None or mark(entry) != seen["mark"]):
                 raise RefusedStoreError(OTHER_ENTRY.format(seen["number"]))
         if not self._noted:
@@ -97,8 +92,7 @@ class Replica:
         await self.heed_skips(position)
 
     async def heed_skips(self, position: int) -> None:
-        """RefusedStoreError where all stores skip an entry that this one has carried out, as it has come to this position."""
-        for number in (await self._log.skipped()).difference(self._noted.get("skipped", ())):
+        for number in (await self._log.skipped()).keys() - set(self._noted.get("skipped", ())):
             if number <= position:
                 raise RefusedStoreError(SKIPPED.format(number))
 
@@ -109,15 +103,16 @@ class Replica:
             raise RefusedStoreError(f"no log can begin after {position}")
         return await self._log.begin(Identity(epoch, position, await self._world()))
 
+    async def ended_at(self, number: int, refusal: bytes) -> None:
+        """Nothing: an operator says whether all stores skip it."""
+
     # What is written down
 
     def will_skip(self, number: int) -> None:
-        """The store is about to skip an entry."""
         logger.warning("entry %d is skipped, as an operator said", number)
         self._write(skipped=sorted({*self._noted.get("skipped", ()), number}))
 
     def saw(self, entry: Entry) -> None:
-        """The store has answered an entry."""
         self._write(seen={"number": entry.number, "name": entry.name.decode("ascii"), "mark": mark(entry)})
 
     def note_lease(self, lease: int) -> None:
@@ -128,7 +123,6 @@ class Replica:
                 self._write()
 
     async def ended(self) -> None:
-        """The program has ended, and nobody will open the store but this node."""
         self._write(ended=await self._figures())
 
     def _write(self, **noted: Any) -> None:

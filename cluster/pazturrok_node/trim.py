@@ -8,13 +8,13 @@ import contextlib
 import json
 import logging
 import time
-import uuid
 from typing import Any
 
 from .etcd import CompactedError, EtcdError, among, decoded, encoded
-from .log import Log
+from .etcd_log import EtcdLog
+from .marks import Marker
 from .names import Name
-from .node import MARK, Appender, Node
+from .node import Node
 
 logger = logging.getLogger(__name__)
 
@@ -31,7 +31,7 @@ PAGE = 10_000
 class Reports:
     """What the nodes of a log tell of themselves, each under a lease."""
 
-    def __init__(self, log: Log) -> None:
+    def __init__(self, log: EtcdLog) -> None:
         self._log, self._prefix = log, log.prefix + b"nodes/"
 
     async def put(self, name: Name, told: dict[str, int]) -> None:
@@ -50,10 +50,10 @@ class Reports:
 class Trimmer:
     """Reports a node, and deletes old entries where no other node does. Entries stay `keep` seconds at least."""
 
-    def __init__(self, name: Name, node: Node, appender: Appender, keep: float) -> None:
-        self._name, self._node, self._appender, self._keep = name, node, appender, keep
-        self._log, self._etcd, self._reports = node.log, node.log.etcd, Reports(node.log)
-        self._holder = node.log.prefix + b"trimmer"
+    def __init__(self, log: EtcdLog, name: Name, node: Node, marker: Marker, keep: float) -> None:
+        self._name, self._node, self._marker, self._keep = name, node, marker, keep
+        self._log, self._etcd, self._reports = log, log.etcd, Reports(log)
+        self._holder = log.prefix + b"trimmer"
         self._seen: collections.deque[tuple[float, int]] = collections.deque()
         self._marked, self._trimmed = 0.0, 0
 
@@ -95,7 +95,7 @@ class Trimmer:
         least = min((told["lasting"] for told in (await self._reports.all()).values()), default=0)
         self._trimmed = self._trimmed or await self._log.trimmed()
         # what comes after a position may have its revision, so that one stays
-        upto = self._log.revision(min(least, self._position_before(time.monotonic() - self._keep))) - 1
+        upto = self._log.place(min(least, self._position_before(time.monotonic() - self._keep))) - 1
         if upto <= self._trimmed:
             return
         await self._log.will_trim(upto)
@@ -113,7 +113,7 @@ class Trimmer:
         now = time.monotonic()
         if self._node.position > self._node.lasting and now - self._marked > self._keep / 10:
             self._marked = now
-            await self._appender.append(uuid.uuid4().hex.encode("ascii"), MARK)
+            await self._marker.mark()
 
     async def _old_keys(self, ranged: dict[str, Any], upto: int) -> list[str]:
         found = await self._etcd.call("/v3/kv/range", {**ranged, "keys_only": True, "max_create_revision": str(upto), "limit": str(PAGE)})

@@ -1,4 +1,4 @@
-"""A store on several machines: its nodes, of which any answers."""
+"""A store for many clients: the node of one machine, or those of several, of which any answers."""
 
 from __future__ import annotations
 
@@ -39,14 +39,14 @@ OLD_NUMBER = 50
 
 
 class Connection:
-    """A connection to a node, HOST:PORT or the path of a socket."""
+    """A connection to a node, HOST:PORT or the path of a socket, with or without `unix:` before it."""
 
     def __init__(self, node: str, context: ssl.SSLContext | None, seconds: float) -> None:
         self._splitter = FrameSplitter(0)
-        if "/" in node:
+        if "/" in node or node.startswith("unix:"):
             self._socket = socket.socket(socket.AF_UNIX)
             self._socket.settimeout(seconds)
-            self._socket.connect(node)
+            self._socket.connect(node.removeprefix("unix:"))
         else:
             host, _, port = node.rpartition(":")
             self._socket = socket.create_connection((host.strip("[]"), int(port)), seconds)
@@ -98,12 +98,12 @@ class Connection:
 
 
 class NodeStore(Shared):
-    """A store on several machines. A request goes to one node, and to the next where that does not answer.
+    """A store for many clients. A request goes to one node, and to the next where that does not answer.
 
     A message is carried out once: it has a name, and is sent again under it. `ask` asks the store of one
     node, as far as it has come; `read` does so after all that was answered before, by any node, to anybody.
 
-    `nodes` are HOST:PORT, or paths of sockets; `context` is for TLS. A call raises NoNodeError where no node
+    `nodes` are HOST:PORT, or `unix:` and the path of a socket; `context` is for TLS. A call raises NoNodeError where no node
     answers within `time_limit` seconds; `patience` is how many seconds one of them may say nothing.
     """
 

@@ -1,0 +1,270 @@
+"""A node without etcd: many clients of a store of one machine. Each part gives what is wrong."""
+import os
+import random
+import signal
+import socket
+import subprocess
+import sys
+import threading
+import time
+
+import linear
+from cluster import LONG, NODE, Alone, Client, connected
+from refusals import ADD, LARGE, LOOK, NO_FRAMES, small_program
+
+PYTHON = os.path.join(os.path.dirname(os.path.abspath(__file__)), "..", "..", "clients", "python", "src")
+PROCESSES, FORMS = 30, 20
+WORK = """
+import sys
+from pazturrok import NodeStore
+with NodeStore([sys.argv[1]]) as store:
+    print(*[store.do("(INCF (GET 'COUNTER 'KY))", name=f"own-{sys.argv[2]}-{number}") for number in range(int(sys.argv[3]))])
+"""
+LOST, NO_MEMORY = "! 50 OLD-NUMBER", "! 90 NO-MEMORY"
+CLOSES = b"(SET-MACRO-CHARACTER #\\: :CLOSE)"
+"""After this form no name with a package can be read."""
+
+
+def begun(folder, program, **options):
+    node = Alone(folder, program, **options)
+    Client(node.places).request(b"do first", b"(SETF (GET 'COUNTER 'KY) 0)")
+    return node
+
+
+def value(node):
+    return Client(node.places).request(b"read", LOOK)[1]
+
+
+def blows(folder, program):
+    """The node and its store are killed and stopped at random: what clients saw is what one counter may have answered."""
+    return judged(begun(folder, program, options=("--snapshot-every", "200")))
+
+
+def blows_by_port(folder, program):
+    """The same at a port of this machine, with names that are kept for two seconds."""
+    with socket.socket() as one:
+        one.bind(("127.0.0.1", 0))
+        place = one.getsockname()
+    return judged(begun(folder, program, keep=30, place=place))
+
+
+def judged(node, seconds=12):
+    ended, calls, chance = threading.Event(), [], random.Random(1)
+    workers = [threading.Thread(target=work, args=(node, place, ended, calls)) for place in range(8)]
+    try:
+        for worker in workers:
+            worker.start()
+        until = time.monotonic() + seconds
+        while time.monotonic() < until:
+            time.sleep(chance.random())
+            blow(node, chance)
+        ended.set()
+        for worker in workers:
+            worker.join()
+        fault = linear.fault_of(calls, int(value(node)))
+        return [fault] if fault else []
+    finally:
+        ended.set()
+        node.end()
+
+
+def work(node, place, ended, calls):
+    client, chance, count = Client(node.places, patience=3.0), random.Random(place), 0
+    while not ended.is_set():
+        begin = time.monotonic()
+        if chance.random() < 0.7:
+            count += 1
+            _, text = client.request(b"do add-%d-%d" % (place, count), ADD)
+            calls.append(linear.Call(begin, time.monotonic(), "add", None if text == LOST else int(text)))
+        elif (text := client.request(b"read", LOOK)[1]) != NO_MEMORY:
+            calls.append(linear.Call(begin, time.monotonic(), "read", int(text)))
+
+
+def blow(node, chance):
+    kind, one = chance.random(), node.nodes[0]
+    if kind < 0.4:
+        process = node.store_process(0)
+        if process:
+            os.kill(process, signal.SIGKILL)
+    elif kind < 0.7:
+        one.kill()
+        one.start()
+    else:
+        one.signal(signal.SIGSTOP)
+        time.sleep(chance.random())
+        one.signal(signal.SIGCONT)
+
+
+def thirty(folder, program):
+    """Thirty processes at once: none is refused. Then each asks for its answers again, and has them word for word."""
+    node = begun(folder, program)
+    try:
+        faults = [] if sorted(answers_of_all(node)) == list(range(1, PROCESSES * FORMS + 1)) else ["thirty processes have other answers"]
+        once = [answers_of(node, place, FORMS) for place in range(3)]
+        faults += [] if once == [answers_of(node, place, FORMS) for place in range(3)] else ["who asks again has other answers"]
+        return faults + ([] if value(node) == str(PROCESSES * FORMS) else ["who asks again changes something"])
+    finally:
+        node.end()
+
+
+def process_of(node, place, count):
+    words = [sys.executable, "-c", WORK, node.places[0], str(place), str(count)]
+    return subprocess.Popen(words, stdout=subprocess.PIPE, text=True, env={**os.environ, "PYTHONPATH": PYTHON})
+
+
+def answers_of(node, place, count):
+    return [int(word) for word in process_of(node, place, count).communicate(timeout=2 * LONG)[0].split()]
+
+
+def answers_of_all(node):
+    processes = [process_of(node, place, FORMS) for place in range(PROCESSES)]
+    return [int(word) for one in processes for word in one.communicate(timeout=2 * LONG)[0].split()]
+
+
+def small(folder, program):
+    """A form for which the store has no memory is answered with 90, once and for all; the next ones go on."""
+    node = begun(folder, small_program(folder, program))
+    try:
+        client = Client(node.places)
+        faults = [] if client.request(b"do large", LARGE)[1] == NO_MEMORY else ["a form for which there is no memory is not 90"]
+        faults += [] if client.request(b"do after", ADD)[1] == "1" else ["the form after it is not carried out"]
+        faults += [] if client.request(b"ask", LARGE)[1] == NO_MEMORY else ["a question for which there is no memory is not 90"]
+        node.nodes[0].kill()
+        node.nodes[0].start()
+        faults += [] if client.request(b"do later", ADD)[1] == "2" else ["a node that is started again does not go on"]
+        again = client.request(b"do large", LARGE)[1]
+        return faults + ([] if again in (NO_MEMORY, LOST) else [f"the form that was passed is answered {again[:40]}"])
+    finally:
+        node.end()
+
+
+def segments(node):
+    folder = os.path.join(node.store(0), "journal")
+    return sorted(os.path.join(folder, name) for name in os.listdir(folder) if name != "lock")
+
+
+def torn(folder, program):
+    """What a crash leaves half written at the end of the journal goes; damage before it is refused; a record that was written stays."""
+    node = begun(folder, program)
+    one, client = node.nodes[0], Client(node.places)
+    try:
+        client.request(b"do add", ADD)
+        one.kill()
+        for rest in (b"do 3 torn 25 0123", b"do 3 torn 25 01234567\n(INCF (GET 'COUNTER 'KY))\n", b"\0" * 5000):
+            with open(segments(node)[-1], "ab") as file:
+                file.write(rest)
+            one.start()
+            faults = [] if value(node) == "1" else [f"after {rest[:20]!r} the counter is {value(node)}"]
+            one.kill()
+        one.start()
+        number, text = client.request(b"do more", ADD)
+        faults += [] if (number, text) == (3, "2") else [f"the next form is answered {number} {text}"]
+        faults += [] if client.request(b"do add", ADD)[1] in ("1", LOST) and value(node) == "2" else ["a name was forgotten"]
+        return faults
+    finally:
+        node.end()
+
+
+def put_back(folder, program):
+    """Halves of an older state beside the journal: what came since is carried out again; without the journal the store is what was put back."""
+    node = begun(folder, program)
+    one, client = node.nodes[0], Client(node.places)
+    try:
+        client.request(b"do add", ADD)
+        subprocess.run([program, "backup", node.store(0), os.path.join(folder, "kept")], check=True, capture_output=True)
+        for number in range(5):
+            client.request(b"do later-%d" % number, ADD)
+        one.finish()
+        os.rename(node.store(0), os.path.join(folder, "old"))
+        os.rename(os.path.join(folder, "kept"), node.store(0))
+        one.start()
+        faults = [] if value(node) == "1" else [f"a store that was put back has {value(node)}"]
+        one.finish()
+        os.rename(os.path.join(folder, "old", "journal"), os.path.join(folder, "journal"))
+        for path in segments(node):
+            os.unlink(path)
+        node.run(0, "run", "--messages", text="do 50 25\n(INCF (GET 'COUNTER 'KY))\n")
+        for path in os.listdir(os.path.join(folder, "journal")):
+            os.replace(os.path.join(folder, "journal", path), os.path.join(node.store(0), "journal", path))
+        one.start()
+        status = one.child.wait(LONG)
+        return faults + ([] if status == 4 and "by another way" in one.told() else [f"messages by another way: {status} {one.told()[-300:]}"])
+    finally:
+        node.end()
+
+
+def old(folder, program):
+    """Names go after their time, and so do segments, also where the store reads no name with a package; nothing is lost by that."""
+    node = begun(folder, program, keep=1)
+    one, client = node.nodes[0], Client(node.places)
+    try:
+        faults = []
+        for form, kept in ((ADD, "the journal"), (CLOSES, "the journal of a store that reads no colon")):
+            client.request(b"do", form)
+            first, deadline = segments(node)[0], time.monotonic() + LONG
+            while os.path.exists(first) and time.monotonic() < deadline:
+                client.request(b"do", ADD)
+                time.sleep(0.2)
+            faults += [f"{kept} only grows"] if os.path.exists(first) else []
+        before = value(node)
+        one.kill()
+        one.start()
+        faults += [] if value(node) == before else [f"the counter was {before}, and is {value(node)} after a kill"]
+        again = client.request(b"do first", ADD)[1]
+        return faults + ([] if int(again) == int(before) + 1 else [f"a name that is free again is answered {again}"])
+    finally:
+        node.end()
+
+
+def refused_words(folder, program):
+    """A second node of one folder, a place where something is, words that do not go together: each a sentence, and the first node goes on."""
+    node = begun(folder, program)
+    plain = os.path.join(folder, "plain")
+    with open(plain, "w", encoding="ascii") as file:
+        file.write("not a socket\n")
+    other, own = os.path.join(folder, "other"), node.store(0)
+    cases = (
+        (3, "another node serves this folder", own, "--alone", "--listen", f"unix:{plain}-2"),
+        (3, "it is no socket", other, "--alone", "--listen", f"unix:{plain}"),
+        (3, "somebody listens there", other, "--alone", "--listen", f"unix:{node.places[0]}"),
+        (2, "--etcd is for a node over etcd", other, "--alone", "--etcd", "http://127.0.0.1:1"),
+        (2, "is for a node that serves", "skip", "5", "--alone"),
+        (2, "beyond this machine", other, "--alone", "--listen", "0.0.0.0:7411"),
+        (2, "longer than the path of a socket", other, "--alone", "--listen", "unix:/" + "x" * 200),
+    )
+    try:
+        faults = []
+        for status, words, *order in cases:
+            told = subprocess.run([sys.executable, NODE, *order, "--program", program], capture_output=True, text=True, timeout=LONG)
+            faults += [] if told.returncode == status and words in told.stderr else [f"{order}: {told.returncode} {told.stderr[-200:]}"]
+        with open(plain, encoding="ascii") as file:
+            faults += [] if file.read() == "not a socket\n" else ["a file was taken away"]
+        return faults + ([] if value(node) == "0" else ["the first node does not go on"])
+    finally:
+        node.end()
+
+
+def strangers(folder, program):
+    """What is no frame, half a frame, clients that go: the others go on."""
+    node = begun(folder, program)
+    try:
+        held = [connected(node.places[0], LONG) for _ in NO_FRAMES]
+        for one, text in zip(held, NO_FRAMES):
+            one.sendall(text)
+        gone = [connected(node.places[0], LONG) for _ in range(100)]
+        for number, one in enumerate(gone):
+            one.sendall(b"do gone-%d %d\n%s\n" % (number, len(ADD), ADD))
+            one.close()
+        deadline = time.monotonic() + LONG
+        while value(node) != "100" and time.monotonic() < deadline:
+            time.sleep(0.1)
+        return [] if value(node) == "100" else [f"100 clients sent and went, and the counter is {value(node)}"]
+    finally:
+        node.end()
+
+
+LONG_ONES = ("alone by port",)
+PARTS = {
+    "alone": blows, "alone by port": blows_by_port, "alone thirty": thirty, "alone small": small, "alone torn": torn,
+    "alone put back": put_back, "alone old": old, "alone words": refused_words, "alone strangers": strangers,
+}  # fmt: skip

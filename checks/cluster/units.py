@@ -1,0 +1,273 @@
+"""The parts of a node by themselves: frames, answers, the journal, how requests come into a log."""
+import asyncio
+import errno
+import logging
+import os
+import socket
+import sys
+import tempfile
+import unittest
+from unittest import mock
+
+sys.path.insert(0, os.path.join(os.path.dirname(os.path.abspath(__file__)), "..", "..", "cluster"))
+
+from pazturrok_node import journal as journals  # noqa: E402
+from pazturrok_node.answers import Answers  # noqa: E402
+from pazturrok_node.appender import Appender, Refused  # noqa: E402
+from pazturrok_node.frames import ANSWER, LIMIT, LOST, NO_ROOM, REQUEST, Frames, NoFrameError, request_of  # noqa: E402
+from pazturrok_node.journal import Journal, records, written  # noqa: E402
+from pazturrok_node.log import BehindError, BusyError, FullError, Reached, RefusedStoreError  # noqa: E402
+from pazturrok_node.main import free_socket  # noqa: E402
+
+SENT = b"do own.name-1 5\n(A B)\nask 3\n(C)\nread 0\n\nask 17 1\nD\ndo 3\na\nb\n"
+
+
+class FramesTest(unittest.TestCase):
+    def requests(self, pieces):
+        frames = Frames(REQUEST, LIMIT)
+        return [request_of(*found) for piece in pieces for found in frames.split(piece)]
+
+    def test_pieces(self):
+        whole = self.requests([SENT])
+        self.assertEqual([one.kind for one in whole], ["do", "ask", "read", "ask", "do"])
+        self.assertEqual([one.text for one in whole], [b"(A B)", b"(C)", b"", b"D", b"a\nb"])
+        self.assertEqual([(one.name, one.number) for one in whole[:4]], [(b"own.name-1", None), (None, None), (None, None), (None, 17)])
+        for size in (1, 2, 7, 30):
+            self.assertEqual(self.requests([SENT[place : place + size] for place in range(0, len(SENT), size)]), whole)
+
+    def test_what_is_no_frame(self):
+        for text in (b"do x\n", b"do 5\n(A B)(", b"do 01\n", b"do 1048577\n", b"\0" * 200, b"do " + b"a" * 101 + b" 1\n", b"ask -1\n", b"do  1\n"):
+            with self.assertRaises(NoFrameError, msg=text):
+                self.requests([text])
+        self.assertEqual(self.requests([b"do " + b"a" * 100]), [])
+
+    def test_large(self):
+        text = b"x" * LIMIT
+        sent = b"do %d\n%s\n" % (LIMIT, text)
+        self.assertEqual(self.requests([sent[place : place + 60_000] for place in range(0, len(sent), 60_000)])[0].text, text)
+        self.assertEqual([head[1] for head, _ in Frames(ANSWER).split(b"7 1\nA\nask 1\nB\n")], [b"7", None])
+
+
+class AnswersTest(unittest.TestCase):
+    def test_once(self):
+        answers, taken = Answers(), []
+        answers.answer_to(2, taken.append)
+        answers.settled = 2
+        answers.resolve(2, b"two")
+        answers.answer_to(2, taken.append)
+        answers.answer_to(1, taken.append)
+        self.assertEqual(taken, [b"two", b"two", LOST])
+
+
+class JournalTest(unittest.IsolatedAsyncioTestCase):
+    def setUp(self):
+        room = tempfile.TemporaryDirectory()
+        self.addCleanup(room.cleanup)
+        self.room = room.name
+
+    def begun(self, position=0, keep=600.0):
+        one = Journal(self.room, keep)
+        self.addCleanup(one.close)
+        try:
+            one.open(position)
+        except BaseException:
+            one.close()
+            raise
+        return one
+
+    def segments(self):
+        folder = os.path.join(self.room, "journal")
+        return sorted(os.path.join(folder, name) for name in os.listdir(folder) if name != "lock")
+
+    async def given(self, journal, number):
+        """The entries after a number, as far as they go now."""
+        found = []
+        async for one in journal.watch(number):
+            if isinstance(one, Reached):
+                return found
+            found += [(entry.number, entry.name, entry.text) for entry in one]
+
+    async def test_names(self):
+        one = self.begun(7)
+        self.assertEqual(await one.append([(b"a", b"1"), (b"b", b"2")], 0), [8, 9])
+        self.assertEqual(await one.append([(b"b", b"other"), (b"c", b"3"), (b"a", b"1")], 0), [9, 10, 8])
+        one.close()
+        two = self.begun(9)
+        self.assertEqual(await two.append([(b"c", b"3")], 0), [10])
+        self.assertEqual(await self.given(two, 8), [(9, b"b", b"2"), (10, b"c", b"3")])
+
+    async def test_each_cut(self):
+        """At whatever byte a crash ends the last write, what was whole before it stays."""
+        whole = written(b"do", 1, b"a", b"first\n") + written(b"skip", 1, b"-", b"! 90 NO-MEMORY")
+        last = written(b"do", 2, b"b", b"second")
+        for cut in range(len(last)):
+            data = b"pazturrok journal 1\n" + whole + last[:cut]
+            self.assertEqual([one.number for one in records(data)], [1, 1])
+            for place in range(0, len(last), 3):
+                if place < cut:
+                    spoilt = bytearray(data)
+                    spoilt[len(data) - cut + place] ^= 1
+                    self.assertEqual(len(list(records(bytes(spoilt)))), 2)
+        with open(os.path.join(self.room, "cut"), "wb"):
+            one = self.begun()
+        path = self.segments()[0]
+        one.close()
+        for cut in (0, 5, len(whole) + 19, len(whole) + 30):
+            with open(path, "wb") as file:
+                file.write((b"pazturrok journal 1\n" + whole + last)[:cut])
+            two = self.begun()
+            self.assertEqual(await two.append([(b"c", b"3")], 0), [2 if cut > len(whole) else 1])
+            two.close()
+
+    async def test_damage(self):
+        one = self.begun()
+        await one.append([(b"a", b"1")], 0)
+        with mock.patch.object(journals, "SEGMENT", 0):
+            await one.append([(b"b", b"2")], 0)
+        one.close()
+        first, second = self.segments()
+        with open(first, "r+b") as file:
+            file.seek(25)
+            file.write(b"!")
+        with self.assertRaises(RefusedStoreError):
+            self.begun()
+        os.unlink(first)
+        with self.assertRaises(BehindError):
+            self.begun()
+        self.begun(1).close()
+        with self.assertRaises(RefusedStoreError):
+            self.begun(3)
+        os.unlink(second)
+        self.begun(3)
+
+    async def test_old(self):
+        one = self.begun(keep=0.0)
+        for number in range(4):
+            await one.append([(b"%d" % number, b"x")], 0)
+        self.assertEqual(len(self.segments()), 4)
+        await one.trim(2)
+        self.assertEqual((await one.trimmed(), one.names, len(self.segments())), (2, 2, 2))
+        self.assertEqual(await one.append([(b"0", b"again"), (b"3", b"x")], 0), [5, 4])
+        await one.trim(1000)
+        self.assertEqual(one.names, 1)
+        with self.assertRaises(BehindError):
+            one.open(1)
+
+    async def test_full(self):
+        one = self.begun()
+        with mock.patch.object(journals, "MOST_NAMES", 1):
+            await one.append([(b"a", b"1"), (b"b", b"2")], 0)
+            with self.assertRaises(FullError) as raised:
+                await one.append([(b"c", b"3"), (b"a", b"1")], 0)
+            self.assertEqual(raised.exception.numbers, {b"a": 1})
+            self.assertEqual(await one.append([(b"b", b"2")], 0), [2])
+        with mock.patch.object(journals.os, "write", side_effect=OSError(errno.ENOSPC, "No space left on device")), self.assertRaises(FullError):
+            await one.append([(b"c", b"3")], 0)
+        one._looked = -1.0
+        with mock.patch.object(journals.os, "statvfs", return_value=mock.Mock(f_bavail=1, f_frsize=1)), self.assertRaises(FullError):
+            await one.append([(b"c", b"3")], 0)
+        one._looked = -1.0
+        self.assertEqual(await one.append([(b"c", b"3")], 0), [3])
+        self.assertEqual(await self.given(one, 0), [(1, b"a", b"1"), (2, b"b", b"2"), (3, b"c", b"3")])
+
+    async def test_lock(self):
+        self.begun()
+        with self.assertRaises(OSError):
+            Journal(self.room, 600.0)
+
+
+class Slow:
+    """A log whose transactions end when they are let."""
+
+    most_entries, most_bytes, lanes = 3, 1000, 2
+
+    def __init__(self):
+        self.under_way, self.entries, self.error = [], [], None
+
+    async def append(self, entries, _floor):
+        if self.error:
+            error, self.error = self.error, None
+            raise error
+        let = asyncio.get_running_loop().create_future()
+        self.under_way.append(let)
+        await let
+        self.entries += entries
+        return list(range(len(self.entries) - len(entries) + 1, len(self.entries) + 1))
+
+
+class AppenderTest(unittest.IsolatedAsyncioTestCase):
+    async def asyncSetUp(self):
+        self.log, admitted = Slow(), asyncio.Event()
+        admitted.set()
+        self.appender = Appender(mock.Mock(log=self.log, is_admitted=admitted, position=0))
+        self.task = asyncio.ensure_future(self.appender.run())
+        self.taken = {}
+
+    async def asyncTearDown(self):
+        self.task.cancel()
+
+    async def send(self, *names):
+        for name in names:
+            self.appender.append(name[0], name.encode(), b"", lambda placed, name=name: self.taken.__setitem__(name, placed))
+        await asyncio.sleep(0.01)
+
+    async def let(self, place):
+        self.log.under_way.pop(place).set_result(None)
+        await asyncio.sleep(0.01)
+
+    async def test_order_of_each_sender(self):
+        await self.send("a1")
+        await self.send("a2", "b1", "a3")
+        self.assertEqual(len(self.log.under_way), 2)
+        await self.let(1)
+        await self.send("b2", "c1")
+        await self.let(1)
+        await self.let(0)
+        while self.log.under_way:
+            await self.let(0)
+        names = [name.decode() for name, _ in self.log.entries]
+        self.assertEqual(sorted(names), ["a1", "a2", "a3", "b1", "b2", "c1"])
+        for sender in "abc":
+            own = [name for name in names if name[0] == sender]
+            self.assertEqual(own, sorted(own))
+        self.assertEqual(self.taken, {name: place for place, name in enumerate(names, 1)})
+
+    async def test_refusals(self):
+        self.log.error = FullError("full", {b"b1": 7})
+        await self.send("a1")
+        self.assertEqual(self.taken, {"a1": Refused(NO_ROOM)})
+        self.log.error = BusyError("busy")
+        with mock.patch("pazturrok_node.appender.PAUSE", 0.01):
+            await self.send("a2")
+            await asyncio.sleep(0.03)
+        await self.let(0)
+        self.assertEqual(self.taken["a2"], 1)
+
+
+class SocketTest(unittest.TestCase):
+    def test_free(self):
+        with tempfile.TemporaryDirectory() as room:
+            path = os.path.join(room, "one")
+            free_socket(path)
+            with socket.socket(socket.AF_UNIX) as one:
+                one.bind(path)
+                one.listen()
+                self.assertRaises(OSError, free_socket, path)
+            free_socket(path)
+            self.assertFalse(os.path.exists(path))
+            os.mkdir(path)
+            self.assertRaises(OSError, free_socket, path)
+
+
+def units(_folder, _program):
+    tests = unittest.defaultTestLoader.loadTestsFromModule(sys.modules[__name__])
+    logging.disable(logging.CRITICAL)
+    try:
+        with open(os.devnull, "w", encoding="ascii") as nowhere:
+            result = unittest.TextTestRunner(stream=nowhere).run(tests)
+    finally:
+        logging.disable(logging.NOTSET)
+    return [f"{test}: {told}" for test, told in [*result.failures, *result.errors]]
+
+
+PARTS = {"units": units}

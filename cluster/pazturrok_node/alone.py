@@ -1,0 +1,65 @@
+"""A store on one machine for many clients: its log is the journal beside it."""
+
+from __future__ import annotations
+
+import asyncio
+import logging
+
+from .journal import Journal
+from .log import Entry, Keeper
+from .marks import Marker
+from .node import Node
+
+logger = logging.getLogger(__name__)
+
+BEAT = 1.0
+"""Seconds between two looks for what is old."""
+
+PASSED = (b"! 64 ", b"! 65 ", b"! 90 ")
+"""A form at which the store ends twice with one of these is answered so: it does not fit, and the next ones may."""
+
+
+class AloneKeeper(Keeper):
+    """The store is this node's alone, and nobody else has carried out what it has not."""
+
+    def __init__(self, journal: Journal) -> None:
+        self._journal = journal
+
+    async def look(self) -> None:
+        """Nothing: a store that was changed by another way is still the only one."""
+
+    async def admit(self, position: int) -> None:
+        await asyncio.get_running_loop().run_in_executor(None, self._journal.open, position)
+
+    async def heed_skips(self, position: int) -> None:
+        """Nothing: it is this node itself that skips."""
+
+    async def ended_at(self, number: int, refusal: bytes) -> None:
+        if refusal.startswith(PASSED):
+            logger.warning("the form with the number %d is answered with %s, and is not tried again", number, refusal.decode("ascii", "replace"))
+            await self._journal.skip(number, refusal)
+
+    def will_skip(self, number: int) -> None:
+        """Nothing: the journal has it."""
+
+    def saw(self, entry: Entry) -> None:
+        """Nothing: the position tells it."""
+
+    async def ended(self) -> None:
+        """Nothing is written down."""
+
+
+class Sweeper:
+    """Deletes what is old from the journal."""
+
+    def __init__(self, journal: Journal, node: Node, marker: Marker) -> None:
+        self._journal, self._node, self._marker = journal, node, marker
+
+    async def run(self) -> None:
+        await self._node.is_admitted.wait()
+        while True:
+            await asyncio.sleep(BEAT)
+            if self._journal.has_old:
+                await self._journal.trim(self._node.lasting)
+            if self._journal.has_old:
+                await self._marker.mark()

@@ -1,0 +1,129 @@
+"""What clients send is put into the log: all that came while others were being put is put at once."""
+
+from __future__ import annotations
+
+import asyncio
+import collections
+import logging
+from collections.abc import Callable, Sequence
+from typing import NamedTuple, Union
+
+from .frames import NO_ROOM
+from .log import BusyError, FullError
+from .node import Node
+
+logger = logging.getLogger(__name__)
+
+PAUSE = 1.0
+"""Seconds after which entries are put again that the log did not take for now."""
+
+
+class Refused(NamedTuple):
+    """A form is no entry and will be none, and this is its answer."""
+
+    answer: bytes
+
+
+Placed = Union[int, Refused, None]
+"""The number of an entry; or why it is none; or None, where it waited for so long that one of its name may be deleted already."""
+
+
+class Unplaced(NamedTuple):
+    """A request that is no entry yet, who sent it, and how far its node had come when it came."""
+
+    sender: object
+    name: bytes
+    text: bytes
+    position: int
+    take: Callable[[Placed], None]
+
+
+class Appender:
+    def __init__(self, node: Node) -> None:
+        self._node, self._log = node, node.log
+        self._waiting: collections.deque[Unplaced] = collections.deque()
+        self._senders: set[object] = set()
+        """Who has requests that are being put: no others of theirs are put beside them, and so they are in the log in their order."""
+        self._idle: list[asyncio.Future[None]] = []
+        """Lanes that have nothing to put."""
+        self._first = 0
+        """The position of the store as it was opened, before any of them came."""
+
+    def append(self, sender: object, name: bytes, text: bytes, take: Callable[[Placed], None]) -> None:
+        """Puts an entry into the log, once, however often it is tried, and after those of earlier calls of this sender."""
+        self._waiting.append(Unplaced(sender, name, text, self._node.position, take))
+        self._wake()
+
+    async def run(self) -> None:
+        """Puts them, for ever."""
+        await self._node.is_admitted.wait()
+        self._first = self._node.position
+        await asyncio.gather(*(self._work() for _ in range(self._log.lanes)))
+
+    async def _work(self) -> None:
+        while True:
+            while not (some := self._take()):
+                idle: asyncio.Future[None] = asyncio.get_running_loop().create_future()
+                self._idle.append(idle)
+                await idle
+            senders = {one.sender for one in some}
+            self._senders |= senders
+            try:
+                await self._place(some)
+            finally:
+                self._senders -= senders
+            self._wake()
+
+    def _wake(self) -> None:
+        """A lane looks for what it may put."""
+        while self._idle:
+            idle = self._idle.pop()
+            if not idle.done():
+                idle.set_result(None)
+                return
+
+    async def _place(self, some: list[Unplaced]) -> None:
+        numbers = None
+        while some and (numbers := await self._put(some)) is None:
+            some = await self._leave(some)
+        for one, number in zip(some, numbers or ()):
+            one.take(number)
+
+    async def _leave(self, some: Sequence[Unplaced]) -> list[Unplaced]:
+        """Lets go of those that came before entries which are deleted now: the client may have sent them to another node since."""
+        trimmed = await self._log.trimmed()
+        stay = [one for one in some if self._log.place(max(one.position, self._first)) > trimmed]
+        for one in some:
+            if one not in stay:
+                one.take(None)
+        logger.warning("%d requests waited for longer than entries are kept, and are left", len(some) - len(stay))
+        return stay
+
+    async def _put(self, some: Sequence[Unplaced]) -> list[Placed] | None:
+        floor = max(min(one.position for one in some), self._first)
+        while True:
+            try:
+                return list(await self._log.append([(one.name, one.text) for one in some], floor) or ()) or None
+            except BusyError as error:
+                logger.error("%s", error)
+                await asyncio.sleep(PAUSE)
+            except FullError as error:
+                logger.error("%s", error)
+                return [error.numbers.get(one.name, Refused(NO_ROOM)) for one in some]
+
+    def _take(self) -> list[Unplaced]:
+        """The first ones that wait, of different names, as many as may be appended at once."""
+        some: list[Unplaced] = []
+        size, names, later = 0, set(), []
+        while self._waiting and len(some) < self._log.most_entries:
+            one = self._waiting[0]
+            if one.sender in self._senders:
+                later.append(self._waiting.popleft())
+                continue
+            size += len(one.text)
+            if one.name in names or (some and size > self._log.most_bytes):
+                break
+            names.add(one.name)
+            some.append(self._waiting.popleft())
+        self._waiting.extendleft(reversed(later))
+        return some
