@@ -1,17 +1,15 @@
-"""A store over bytes in memory, by the exports of crates/pazturrok_c: each call, and the orders that it gave, carried out or cut short."""
+"""A store over bytes in memory, by the exports of crates/pazturrok_c: each call, and the orders that it gave, carried
+out or cut short."""
 import ctypes
 import os
-import shutil
-import subprocess
-import sys
+
+from embedded import orders
+from embedded.orders import CUTS, SYNCS, WRITES
+from hostile.power import File
+from lib import kit
+from lib.wanted import want
 
 HERE = os.path.dirname(os.path.abspath(__file__))
-CHECKS = os.path.dirname(HERE)
-sys.path[:0] = [os.path.join(CHECKS, "embedded"), os.path.join(CHECKS, "hostile")]
-
-import orders  # noqa: E402
-from orders import CUTS, SYNCS, WRITES  # noqa: E402
-from power import File  # noqa: E402
 
 # A limit that no half of a check comes near.
 AMPLE = 1 << 30
@@ -20,24 +18,12 @@ AMPLE = 1 << 30
 CRASHES = ("kept", "lost", 0xA5, 0)
 
 
-class Deviation(Exception):
-    """A call answered, or left, what it must not."""
-
-
-def want(holds, *what):
-    if not holds:
-        raise Deviation(" ".join(str(part) for part in what))
-
-
 def library(engine, folder):
     """The engine as a shared library whose growths of memory can be refused, linked by the tool's own compiler."""
-    kit = os.path.dirname(os.path.dirname(os.path.realpath(shutil.which("rt"))))
-    tool, code, built = os.path.join(kit, "toolchain", "bin"), os.path.join(folder, "growth.o"), os.path.join(folder, "engine.so")
-    subprocess.run([os.path.join(tool, "clang"), "-O2", "-fPIC", "-ffreestanding", "-nostdinc", "-c", os.path.join(HERE, "growth.c"), "-o", code],
-                   check=True)
-    subprocess.run([os.path.join(tool, "ld.lld"), "-shared", "--wrap=malloc", "--wrap=realloc", code, "--whole-archive", engine,
-                    "--no-whole-archive", os.path.join(kit, "c", "liblibc_c.a"), os.path.join(kit, "toolchain", "lib", "libgcc.a"), "-o", built],
-                   check=True)
+    c_library, of_compiler = (os.path.join(kit.folder(), it) for it in ("c/liblibc_c.a", "toolchain/lib/libgcc.a"))
+    whole = ["--whole-archive", engine, "--no-whole-archive", c_library, of_compiler]
+    wraps = ("--wrap=malloc", "--wrap=realloc")
+    built = kit.shared(os.path.join(HERE, "growth.c"), os.path.join(folder, "engine.so"), *whole, flags=wraps)
     made = orders.load(built)
     made.pzt_tell.argtypes, made.pzt_tell.restype = [ctypes.POINTER(orders.Slot), ctypes.POINTER(Told)], None
     made.refuse_growth.argtypes, made.refuse_growth.restype = [ctypes.c_ulong, ctypes.c_int], None
@@ -92,7 +78,8 @@ class Store:
         return found
 
     def together(self, texts):
-        """Of each form the number of the refusal, or 0, and the answer; or the number alone, where none was executed."""
+        """Of each form the number of the refusal, or 0, and the answer; or the number alone, where none was
+        executed."""
         number, held = self.engine.execute_all(texts)
         self.carry_out()
         if number:
@@ -144,7 +131,8 @@ def files_after(made, *texts, files=(b"", b""), limit=AMPLE):
     return store.close()
 
 
-# The bytes of a half before the text of its snapshot: a gate, the version, the generation, and the length of the text at the end.
+# The bytes of a half before the text of its snapshot: a gate, the version, the generation, and the length of the text
+# at the end.
 HEAD = 15
 
 

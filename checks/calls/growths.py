@@ -1,8 +1,9 @@
-"""Each growth of memory refused in turn, in each call of worked rows: what is refused with 90 gave no orders and changed nothing, and the same
-call made again gives what is wanted."""
+"""Each growth of memory refused in turn, in each call of worked rows: what is refused with 90 gave no orders and
+changed nothing, and the same call made again gives what is wanted."""
 import collections
 
-from calls import AMPLE, opened, Store, want, world
+from calls import AMPLE, opened, Store, world
+from lib.wanted import want
 
 NO_MEMORY, DEVICE, REOPEN = 90, 60, 61
 

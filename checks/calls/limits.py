@@ -1,6 +1,8 @@
-"""What fits a half and what does not, and how many records are left: each row is worked out by hand. A half with the first world has 154 bytes,
-a record of (SETF (GET 'A 'B) 7) has 26, and a snapshot after it 12 more than the first one."""
-from calls import AMPLE, SYNCS, Store, files_after, opened, want
+"""What fits a half and what does not, and how many records are left: each row is worked out by hand. A half with the
+first world has 154 bytes, a record of (SETF (GET 'A 'B) 7) has 26, and a snapshot after it 12 more than the first
+one."""
+from calls import AMPLE, SYNCS, Store, files_after, opened
+from lib.wanted import want
 
 SEVEN = b"(SETF (GET 'A 'B) 7)"
 EIGHT = b"(SETF (GET 'A 'B) 8)"
@@ -16,8 +18,8 @@ VERSION_1 = FIRST + b"\xa5\0\0\0\0\x14" + SEVEN + b"\0"
 
 TAKEN, FULL, TOO_LARGE = 0, 64, 65
 
-# The limit of the halves; the files; steps, each a form or None for a snapshot; the number that each gives; then the generation, the records and
-# the version, and the lengths of both halves.
+# The limit of the halves; the files; steps, each a form or None for a snapshot; the number that each gives; then the
+# generation, the records and the version, and the lengths of both halves.
 ROWS = [
     ("no room for the first world", 153, (b"", b""), [], [TOO_LARGE], None, None),
     ("room for it", 154, (b"", b""), [], [], (1, 0, 2), (154, 0)),

@@ -1,10 +1,11 @@
-"""The orders of calls cut short after each of them, with each kind of crash then: the files mean the world after the forms that were answered, or
-after the one under way too, and go on from there."""
+"""The orders of calls cut short after each of them, with each kind of crash then: the files mean the world after the
+forms that were answered, or after the one under way too, and go on from there."""
 import copy
 
-from calls import CRASHES, File, done, files_after, opened, want, world
+from calls import CRASHES, File, done, files_after, opened, world
+from lib.wanted import want
 from limits import BOTH, EIGHT, GET, NINE, SEVEN, VERSION_1
-from orders import CUTS, SYNCS, WRITES
+from embedded.orders import CUTS, SYNCS, WRITES
 
 SEVENTEEN = b"(SETF (GET 'A 'B) 17)"
 BRACKETS = [b"(SET-MACRO-CHARACTER #\\[ :SQUARE)", b"(SET-MACRO-CHARACTER #\\] :CLOSE)", b"(SETF (GET 'A 'V) [1 2])"]
@@ -75,7 +76,8 @@ class Course:
             want(store.form(step)[0] == 0, step, "is refused")
 
     def cut_short(self, halves, orders, was, will):
-        """Before each order and after the last one there is each kind of crash. What was answered before is there; and the step under way, or not."""
+        """Before each order and after the last one there is each kind of crash. What was answered before is there; and
+        the step under way, or not."""
         for count in range(len(orders) + 1):
             for kind in CRASHES:
                 left = [half.left(kind, None) for half in halves]
@@ -96,7 +98,8 @@ class Course:
         store.close()
 
 
-# What a half gets in an append, and in a start over a half of each kind: W writes, C cuts, S syncs; and the half, as in use or the other one.
+# What a half gets in an append, and in a start over a half of each kind: W writes, C cuts, S syncs; and the half, as in
+# use or the other one.
 APPEND = "W+ S+ W+ S+"
 STARTS = {
     "seven": "W- S- W- S- W- S-", "older": "W- S- C- S- W- S- W- S-", "closed": "C- S- W- S- W- S-", "version 1": "W- S- W- S- W- S-",

@@ -1,9 +1,10 @@
-"""Texts of worlds: with each byte altered the text is refused, or is that of another world; cut anywhere it is refused; and it is read under any
-seed of the hash."""
+"""Texts of worlds: with each byte altered the text is refused, or is that of another world; cut anywhere it is refused;
+and it is read under any seed of the hash."""
 import random
 
-from calls import Engine, opened, want, world
-from store import OPERATORS
+from calls import Engine, opened, world
+from lib.wanted import want
+from hostile.store import OPERATORS
 
 # The ways to alter a byte, by its bits. One of the first gives other worlds.
 BITS = (1, 2, 16, 128)

@@ -1,9 +1,10 @@
-"""What worlds hold: the first symbols and no other ones; as many packages and symbols as there can be, and none more; what a form wrote that is
-refused in the end is undone; and the numbers that have a name."""
+"""What worlds hold: the first symbols and no other ones; as many packages and symbols as there can be, and none more;
+what a form wrote that is refused in the end is undone; and the numbers that have a name."""
 import ctypes
 
-from calls import opened, snapshot_in, want, world
-from store import OPERATORS
+from calls import opened, snapshot_in, world
+from lib.wanted import want
+from hostile.store import OPERATORS
 
 OPERATOR_NAMES = b"""QUOTE PROGN IF LIST GET SETF REMPROP SYMBOL-PLIST INCF PUSH MAKE-PACKAGE IN-PACKAGE EXPORT IMPORT USE-PACKAGE INTERN
 COPY-READTABLE IN-READTABLE SET-SYNTAX-FROM-CHAR SET-MACRO-CHARACTER GET-MACRO-CHARACTER MAKE-DISPATCH-MACRO-CHARACTER
@@ -50,7 +51,8 @@ AT_LIMITS = [
 
 
 def check_limits(made):
-    """Packages and symbols up to the limits: those of a refused form count for nothing, and all are there after an opening."""
+    """Packages and symbols up to the limits: those of a refused form count for nothing, and all are there after an
+    opening."""
     store, first = opened(made), len(OPERATOR_NAMES + OTHER_NAMES + KEYWORDS)
     for number in range(3, PACKAGES):
         want(store.form(b'(MAKE-PACKAGE "%s")' % name_of(number))[0] == 0, "no package", number)
@@ -95,7 +97,8 @@ def text_now(store):
 
 
 def undone(made, files, form):
-    """Whether a form that is refused after it wrote what this one writes, alone and in a group, leaves the world of the files."""
+    """Whether a form that is refused after it wrote what this one writes, alone and in a group, leaves the world of the
+    files."""
     alone, together = opened(made, files), opened(made, files)
     text, number = b"(cl:progn %s (cl:t))" % form, REFUSED.get(form, 31)
     found = [alone.form(text)[0], together.together([b"1", text])[1][0]]

@@ -7,12 +7,16 @@ import sys
 import time
 
 HERE = os.path.dirname(os.path.abspath(__file__))
-CLIENT = os.path.join(os.path.dirname(os.path.dirname(HERE)), "clients", "python", "src")
+sys.path.append(os.path.join(os.path.dirname(os.path.dirname(HERE)), "clients", "python", "src"))
+
+from pazturrok import EmbeddedMessageStore, EmbeddedStore, FaultError, MessageStore  # noqa: E402
+
+# Only a program that hangs is waited for so many seconds.
+PATIENCE = 600
 
 
 def write_for_ever(library, folder, number):
     """Sets a property to the next numbers, alone and in groups, and writes each that was answered."""
-    from pazturrok import EmbeddedStore
     store = EmbeddedStore(folder, library)
     while True:
         group = [f"(SETF (GET 'A 'B) {value})" for value in range(number + 1, number + 4)]
@@ -25,8 +29,8 @@ def write_for_ever(library, folder, number):
 
 
 def feed_for_ever(library, folder):
-    """Adds to a counter by messages, alone and in groups, and writes the number of each that was answered: what the counter is then."""
-    from pazturrok import EmbeddedMessageStore
+    """Adds to a counter by messages, alone and in groups, and writes the number of each that was answered: what the
+    counter is then."""
     store = EmbeddedMessageStore(folder, library)
     while True:
         before = store.position
@@ -38,9 +42,8 @@ def feed_for_ever(library, folder):
 
 
 def run_messages(built, times):
-    """So many kills of who sends messages: what the position says was done, each once, and nothing else. Gives how many were answered."""
-    sys.path.insert(0, CLIENT)
-    from pazturrok import EmbeddedMessageStore, MessageStore
+    """So many kills of who sends messages: what the position says was done, each once, and nothing else. Gives how many
+    were answered."""
     folder, dice, position = built.folder(), random.Random(2), 0
     with EmbeddedMessageStore(folder, built.library) as store:
         store.do("(SETF (GET 'N 'N) 1)")
@@ -65,20 +68,18 @@ def run_messages(built, times):
 
 
 def value_in(library, folder):
-    from pazturrok import EmbeddedStore
     with EmbeddedStore(folder, library) as store:
         found = store.execute("(GET 'A 'B)")
     return found if isinstance(found, int) else 0
 
 
 def value_by_program(program, folder):
-    ran = subprocess.run([program, "run", folder], input=b"(GET 'A 'B)\n", capture_output=True, timeout=600)
+    ran = subprocess.run([program, "run", folder], input=b"(GET 'A 'B)\n", capture_output=True, timeout=PATIENCE)
     return int(ran.stdout) if ran.stdout.strip().isdigit() else 0
 
 
 def run(built, times):
     """So many kills. Gives their number, and how many forms were answered."""
-    sys.path.insert(0, CLIENT)
     folder, dice, last = built.folder(), random.Random(1), 0
     for turn in range(times):
         command = [sys.executable, "-B", os.path.abspath(__file__), built.library, folder, str(last)]
@@ -101,8 +102,6 @@ def run(built, times):
 
 def two_processes(built):
     """The program has a store, and the library is refused; the library has it, and the program is."""
-    sys.path.insert(0, CLIENT)
-    from pazturrok import EmbeddedStore, FaultError
     folder, program = built.folder(), os.path.join(built.code, "program")
     running = subprocess.Popen([program, "run", folder], stdin=subprocess.PIPE, stdout=subprocess.PIPE)
     running.stdin.write(b"(SETF (GET 'A 'B) 7)\n")
@@ -119,7 +118,7 @@ def two_processes(built):
     running.stdout.close()
     with EmbeddedStore(folder, built.library) as store:
         assert store.execute("(INCF (GET 'A 'B))") == 8
-        refused = subprocess.run([program, "run", folder], input=b"1\n", capture_output=True, timeout=600)
+        refused = subprocess.run([program, "run", folder], input=b"1\n", capture_output=True, timeout=PATIENCE)
         assert (refused.returncode, refused.stderr) == (3, b"! 60 DEVICE\nlocked by another process\n"), refused
         assert store.execute("(INCF (GET 'A 'B))") == 9
     assert value_by_program(program, folder) == 9
@@ -127,7 +126,6 @@ def two_processes(built):
 
 
 if __name__ == "__main__":
-    sys.path.insert(0, CLIENT)
     if len(sys.argv) > 3:
         write_for_ever(sys.argv[1], sys.argv[2], int(sys.argv[3]))
     feed_for_ever(sys.argv[1], sys.argv[2])

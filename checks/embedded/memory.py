@@ -1,7 +1,9 @@
 """Each growth of memory of the library refused in turn: that one alone, and it and all after it."""
 import collections
 
-from store import DEVICE, NO_MEMORY, check, courses, library, logged, want
+from hostile.store import check, courses, library, logged
+from lib.room import DEVICE, NO_MEMORY
+from lib.wanted import want
 
 
 def run(room, every, names):

@@ -1,5 +1,6 @@
-"""The orders of calls cut short at each place: the writes since the last sync of a file are lost, done, torn or replaced by any bytes, and the
-store is opened over what is left. Each answer that was passed on is there. By the exports of the engine, over bytes in memory."""
+"""The orders of calls cut short at each place: the writes since the last sync of a file are lost, done, torn or
+replaced by any bytes, and the store is opened over what is left. Each answer that was passed on is there. By the
+exports of the engine, over bytes in memory."""
 import ctypes
 import random
 

@@ -1,5 +1,5 @@
-"""The client for Python with the store in its own process. PAZTURROK_LIBRARY names the library, PAZTURROK_FOLDER a folder for the stores. The
-last line is `N passed, M failed`."""
+"""The client for Python with the store in its own process. PAZTURROK_LIBRARY names the library, PAZTURROK_FOLDER a
+folder for the stores. The last line is `N passed, M failed`."""
 
 from __future__ import annotations
 

@@ -1,26 +1,15 @@
 """The sessions of checks/sessions by the library: the same answers, and the same files as the program leaves."""
-import importlib.machinery
-import importlib.util
 import os
 import re
 import shutil
 import tempfile
 
-HERE = os.path.dirname(os.path.abspath(__file__))
-SESSIONS = os.path.join(os.path.dirname(HERE), "sessions")
+from lib import played
+from lib.places import MEMORY, files_of
 
 # What `run` takes that is no matter of the command line.
 OWN = ("--rescue", "--strict", "--existing", "--snapshot-every")
 UNSPLIT = 77
-
-
-def scripts_module():
-    """checks/sessions/run, as a module."""
-    loader = importlib.machinery.SourceFileLoader("sessions_run", os.path.join(SESSIONS, "run"))
-    spec = importlib.util.spec_from_loader("sessions_run", loader)
-    module = importlib.util.module_from_spec(spec)
-    loader.exec_module(module)
-    return module
 
 
 class Unplayable(Exception):
@@ -35,9 +24,10 @@ def is_played(step):
     return len(step.words) > 1 and step.words[0] == "run" and step.words[1].startswith("DIR") and all(word in OWN for word in options)
 
 
-def answered(module, step, player, folder):
-    """The status of a run by the library, and what it wrote. Where a line is wanted of the place of a refusal, it has none to tell."""
-    wanted = module.joined(step.wanted)
+def answered(step, player, folder):
+    """The status of a run by the library, and what it wrote. Where a line is wanted of the place of a refusal, it has
+    none to tell."""
+    wanted = played.joined(step.wanted)
     environment = dict(os.environ)
     if b"! 1 END-OF-FILE" in wanted:
         environment["PLAYER_UNREAD"] = "1"
@@ -47,31 +37,21 @@ def answered(module, step, player, folder):
     if status == 1 and not err:
         found = re.search(rb"standard error: (.*)", wanted, re.DOTALL)
         err = found[1] if found else b""
-    return module.text_of(status, out, err)
+    return played.text_of(status, out, err)
 
 
-def files_of(folder):
-    """The bytes of the files of a folder, and of the folders in it."""
-    found = {}
-    for place, _, names in os.walk(folder):
-        for name in names:
-            path = os.path.join(place, name)
-            with open(path, "rb") as file:
-                found[os.path.relpath(path, folder)] = file.read()
-    return found
-
-
-def difference(module, step, player, program, folder, other):
-    """What a step gives over the library in place of what is wanted, or None. The same step is done by the program in another folder."""
-    if not isinstance(step, module.Run):
+def difference(step, player, program, folder, other):
+    """What a step gives over the library in place of what is wanted, or None. The same step is done by the program in
+    another folder."""
+    if not isinstance(step, played.Run):
         step.difference(program, other)
         return step.difference(program, folder)
-    by_program = module.text_of(*step.answer(program, other))
+    by_program = played.text_of(*step.answer(program, other))
     if not is_played(step):
-        found = module.text_of(*step.answer(program, folder))
+        found = played.text_of(*step.answer(program, folder))
         return None if found == by_program.replace(other.encode(), folder.encode()) else f"{step.words}: {found!r}"
-    found = answered(module, step, player, folder)
-    wanted = module.joined(step.wanted)
+    found = answered(step, player, folder)
+    wanted = played.joined(step.wanted)
     if found != wanted and not (step.is_open and found.startswith(wanted)):
         return f"{step.words}: wanted {wanted[:300]!r}, found {found[:300]!r}"
     if files_of(folder) != files_of(other):
@@ -79,35 +59,33 @@ def difference(module, step, player, program, folder, other):
     return None
 
 
-def played(module, steps, player, program):
+def played_over(steps, player, program):
     """How many runs of a script the library played, and the first difference, or None."""
-    folder, other = (tempfile.mkdtemp(prefix="pazturrok-", dir=module.ROOM) for _ in range(2))
+    folder, other = (tempfile.mkdtemp(prefix="pazturrok-", dir=MEMORY) for _ in range(2))
     count = 0
     try:
         for step in steps:
-            found = difference(module, step, player, program, folder, other)
+            found = difference(step, player, program, folder, other)
             if found:
                 return count, found
-            count += isinstance(step, module.Run) and is_played(step)
+            count += isinstance(step, played.Run) and is_played(step)
     finally:
         shutil.rmtree(folder)
         shutil.rmtree(other)
     return count, None
 
 
-def run(player, program, paths):
+def run(player, program):
     """Plays all scripts. Gives how many runs were played, how many scripts were passed over, and the differences."""
-    module = scripts_module()
     runs = left = 0
     differences = []
-    for path in paths:
-        for name, steps in module.scripts_of(path):
-            try:
-                count, found = played(module, steps, player, program)
-            except Unplayable:
-                left += 1
-                continue
-            runs += count
-            if found:
-                differences.append(f"{os.path.basename(path)}: {name}: {found}")
+    for file, name, steps in played.scripts([]):
+        try:
+            count, found = played_over(steps, player, program)
+        except Unplayable:
+            left += 1
+            continue
+        runs += count
+        if found:
+            differences.append(f"{file}: {name}: {found}")
     return runs, left, differences

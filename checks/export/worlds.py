@@ -135,7 +135,8 @@ class Forms:
             self.text(self.package()), self.draw.choice([2, 8, 10, 16, 36]), self.draw.choice([":STANDARD", self.table()]))
 
     def all(self):
-        """Forms of all kinds, of which some are refused; those that come first make it likelier that later ones are not."""
+        """Forms of all kinds, of which some are refused; those that come first make it likelier that later ones are
+        not."""
         several = self.draw.choice([5, 20, 60])
         forms = ["(MAKE-PACKAGE %s)" % self.text(p) for p in self.packages[:-1]]
         forms += ["(COPY-READTABLE NIL %s)" % self.keyword(n) for n in self.tables]

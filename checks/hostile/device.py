@@ -1,13 +1,16 @@
 """Each call to the system failing, short, torn, interrupted, or the last one of the process."""
 import collections
 
-from store import DEVICE, INPUT, OUTPUT, check, courses, library, logged, want
+from hostile.store import check, courses, library, logged
+from lib.room import DEVICE, INPUT, OUTPUT
+from lib.wanted import want
 
-# an error once, want of room, an interrupt, an error from then on, half of the bytes, half of them and an error; an error of a read of
-# standard input, which comes in pieces; the end of the process before the call, after it, and in it
+# an error once, want of room, an interrupt, an error from then on, half of the bytes, half of them and an error; an
+# error of a read of standard input, which comes in pieces; the end of the process before the call, after it, and in it
 MODES = ("e5", "e28", "e4", "E5", "s", "t", "p5", "x", "y", "h")
 
-# a fault of the device: of a write of a half, a sync, a cut, a read, a lock; then of standard input and of standard output
+# a fault of the device: of a write of a half, a sync, a cut, a read, a lock; then of standard input and of standard
+# output
 TOLD = {"w": DEVICE, "s": DEVICE, "c": DEVICE, "r": DEVICE, "f": DEVICE, "R": INPUT, "W": OUTPUT}
 
 # calls that open a file, make the folder or ask how long a file is: a fault of the device too, or nothing is seen of it
@@ -34,7 +37,8 @@ def run(room, every, names=()):
 
 
 def needed(session):
-    """The calls without which a session cannot be: opening, locking, reading and syncing the files, reading forms, writing answers."""
+    """The calls without which a session cannot be: opening, locking, reading and syncing the files, reading forms,
+    writing answers."""
     return set("ofrsWR" if session.words[0] == "run" else "ofrsW")
 
 

@@ -1,4 +1,5 @@
-"""Odd folders: what is told of them, and that the store is as it was. Devices, other users and a full file system as root alone."""
+"""Odd folders: what is told of them, and that the store is as it was. Devices, other users and a full file system as
+root alone."""
 import ctypes
 import os
 import shutil
@@ -6,7 +7,9 @@ import socket
 import stat
 import subprocess
 
-from store import DEVICE, PATIENCE, Answer, want, without_cause
+from lib.places import PATIENCE, bytes_of
+from lib.room import DEVICE, Answer, without_cause
+from lib.wanted import want
 
 SET = b"(SETF (GET 'A 'B) 8)\n(GET 'A 'B)\n"
 GET = b"(GET 'A 'B)\n"
@@ -39,7 +42,8 @@ class Folder:
         return Answer(done.returncode, done.stdout, without_cause(done.stderr))
 
     def with_half(self, half, make, options):
-        """What is told of a store where this stands in place of a half, which is put back after it and was not touched."""
+        """What is told of a store where this stands in place of a half, which is put back after it and was not
+        touched."""
         self.anew()
         aside = half + "-aside"
         os.rename(half, aside)
@@ -55,11 +59,6 @@ class Folder:
         return got
 
 
-def bytes_of(path):
-    with open(path, "rb") as file:
-        return file.read()
-
-
 def a_socket(path):
     made = socket.socket(socket.AF_UNIX)
     made.bind(os.path.relpath(path))
@@ -67,7 +66,8 @@ def a_socket(path):
 
 
 def other_files(folder):
-    """What stands in place of a half, and what is told then, where files may be made and where they may not. Each is refused, and nothing is written."""
+    """What stands in place of a half, and what is told then, where files may be made and where they may not. Each is
+    refused, and nothing is written."""
     linked, no_file = b"half-a or half-b is a link, or has a second name\n", b"half-a or half-b is no regular file\n"
     kinds = [
         ("a folder", os.mkdir, no_file),

@@ -1,7 +1,9 @@
 """Each growth of memory refused in turn: that one alone, and it and all after it."""
 import collections
 
-from store import NO_MEMORY, check, courses, has_messages, library, logged, want
+from hostile.store import check, courses, has_messages, library, logged
+from lib.room import NO_MEMORY
+from lib.wanted import want
 
 
 REFUSED = NO_MEMORY.decode().strip()

@@ -1,5 +1,5 @@
-"""What is done to the program from outside: its streams are closed, a second one is started on its folder, its files may not grow, a half
-is full, it is killed at a random moment."""
+"""What is done to the program from outside: its streams are closed, a second one is started on its folder, its files
+may not grow, a half is full, it is killed at a random moment."""
 import os
 import random
 import resource
@@ -7,7 +7,10 @@ import signal
 import subprocess
 import time
 
-from store import DEVICE, OUTPUT, PATIENCE, Answer, message, want, without_cause
+from lib.frames import message
+from lib.places import PATIENCE
+from lib.room import DEVICE, OUTPUT, Answer, without_cause
+from lib.wanted import want
 
 NEW_STORE = 154
 HALF_LIMIT = 1_073_741_824
@@ -126,7 +129,8 @@ def full(room):
 
 
 def full_of_messages(room):
-    """A half has no room for the records of messages, or for that of the first position. A snapshot makes room, and they are carried out once."""
+    """A half has no room for the records of messages, or for that of the first position. A snapshot makes room, and
+    they are carried out once."""
     texts = [b"(SETF (GET 'A 'N) 1)", b"(INCF (GET 'A 'N))", b"(INCF (GET 'A 'N))"]
     sent = b"".join(message(number, text) for number, text in enumerate(texts, 1))
     for begun in (True, False):
@@ -145,7 +149,8 @@ def full_of_messages(room):
 
 
 def killed(room, times):
-    """The program is killed at a random moment, while it takes snapshots too. Reopened, it has each answered form, and at most one more."""
+    """The program is killed at a random moment, while it takes snapshots too. Reopened, it has each answered form, and
+    at most one more."""
     dice = random.Random(7)
     stored = between = 0
     with open(room.path("forms"), "w+b") as forms:
@@ -178,7 +183,8 @@ def killed(room, times):
 
 
 def run(room, kills, is_long):
-    """So many kills, and what needs 3 GB of memory where that is asked for. Gives how many runs there were, and of what."""
+    """So many kills, and what needs 3 GB of memory where that is asked for. Gives how many runs there were, and of
+    what."""
     kinds = {"closed streams": closed_streams(room), "readers that are gone": reader_gone(room), "second processes": two_processes(room), "files that may not grow": no_room(room)}
     if is_long:
         kinds["full halves"] = full(room) + full_of_messages(room)

@@ -1,10 +1,11 @@
-"""Hostile texts under a limit of memory and of processor time: the program ends by itself, with an answer, a refusal of the reader or want
-of memory, and what it answered is in a store that opens."""
+"""Hostile texts under a limit of memory and of processor time: the program ends by itself, with an answer, a refusal of
+the reader or want of memory, and what it answered is in a store that opens."""
 import os
 import resource
 import subprocess
 
-from store import NO_MEMORY, PLACE, want
+from lib.room import NO_MEMORY, PLACE
+from lib.wanted import want
 
 MEMORY = 2 << 30
 SECONDS = 60

@@ -1,5 +1,5 @@
-"""Looks into a store at bad moments: a session writes between two reads of a look; a backup is stopped, or finds no room; the files may not be
-written."""
+"""Looks into a store at bad moments: a session writes between two reads of a look; a backup is stopped, or finds no
+room; the files may not be written."""
 import os
 import re
 import resource
@@ -7,9 +7,13 @@ import shutil
 import signal
 import subprocess
 
-from store import PATIENCE, Answer, library, want
+from hostile.store import library
+from lib.places import PATIENCE
+from lib.room import Answer
+from lib.wanted import want
 
-# How the sessions are started that write: a form of the second and the third is followed by a snapshot, or each second one is.
+# How the sessions are started that write: a form of the second and the third is followed by a snapshot, or each second
+# one is.
 SESSIONS = [[], ["--group"], ["--snapshot-every", "1"], ["--snapshot-every", "2"]]
 LOOKS = ["show", "dump", "export", "backup"]
 BUSY = b"! 60 DEVICE\nthe store takes snapshots faster than they can be read\n"
@@ -35,7 +39,8 @@ class Writer:
 
 
 def looked(room, stops, words, act):
-    """What a look tells that is stopped before each of its reads, and how many there were. Before read n `act(n)` is done."""
+    """What a look tells that is stopped before each of its reads, and how many there were. Before read n `act(n)` is
+    done."""
     child = subprocess.Popen([room.program, *words], stdin=subprocess.DEVNULL, stdout=subprocess.PIPE, stderr=subprocess.PIPE,
                              env={**os.environ, "LD_PRELOAD": stops, "STOPS": "1"})
     reads = 0
@@ -78,8 +83,8 @@ def number_in(room, kind, got, *what):
 
 
 def seen_between(room, stops, kind, options, forms, moment):
-    """A look between two of whose reads so many forms are answered: before the read of this number, or, of `None`, before each of the first 40.
-    It tells a world that the store had meanwhile. Gives how many reads there were."""
+    """A look between two of whose reads so many forms are answered: before the read of this number, or, of `None`,
+    before each of the first 40. It tells a world that the store had meanwhile. Gives how many reads there were."""
     room.put(None)
     writer = Writer(room, options)
     writer.write(3)
@@ -117,7 +122,8 @@ def never_had(room, stops):
 
 
 def backups(room):
-    """A backup that finds no room tells why, and leaves nothing; one that was killed leaves a folder, which the next one names."""
+    """A backup that finds no room tells why, and leaves nothing; one that was killed leaves a folder, which the next
+    one names."""
     room.put(None)
     copy, partial = room.path("copy"), room.path("copy.partial")
     call(room, "run", room.store)
@@ -159,14 +165,15 @@ def without_rights(room):
     return runs + 1
 
 
-# Mounts a file system of its own, puts a store into it, and calls the program over that once nothing may be written there; and the mounts alone.
+# Mounts a file system of its own, puts a store into it, and calls the program over that once nothing may be written
+# there; and the mounts alone.
 MOUNTS = """mount -t tmpfs none "$1" && mount -o remount,ro "$1\""""
 READ_ONLY = """mount -t tmpfs none "$1" && cp -r "$2" "$1/store" && mount -o remount,ro "$1" && cd "$1" && shift 2 && exec "$@\""""
 
 
 def mounted_read_only(room):
-    """On a file system that is mounted to be read alone each look tells what it tells elsewhere, and what writes is 60. It wants a namespace of
-    its own, and to mount in it, which some systems allow to nobody."""
+    """On a file system that is mounted to be read alone each look tells what it tells elsewhere, and what writes is 60.
+    It wants a namespace of its own, and to mount in it, which some systems allow to nobody."""
     place = room.path("mounted")
     os.mkdir(place)
     if shutil.which("unshare") is None or subprocess.run(["unshare", "-rm", "sh", "-c", MOUNTS, "sh", place], capture_output=True).returncode:

@@ -2,7 +2,8 @@
 import os
 import random
 
-from store import answers, check_world, courses, library, want
+from hostile.store import answers, check_world, courses, library
+from lib.wanted import want
 
 NAMES = ("property", "brackets", "snapshots", "together", "more snapshots", "a closed half", "operators", "messages", "more messages", "snapshot", "version 1",
          "upgrade")
@@ -27,7 +28,8 @@ class File:
         self.synced, self.pending = self.now, []
 
     def left(self, kind, dice):
-        """What a crash of this kind leaves: all, nothing, or any bytes where something was written, and any length in between."""
+        """What a crash of this kind leaves: all, nothing, or any bytes where something was written, and any length in
+        between."""
         if kind == "kept":
             return self.now
         if kind == "lost":

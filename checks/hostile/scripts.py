@@ -1,39 +1,29 @@
 """The sessions of checks/sessions, where a growth of memory is refused at some places of each run."""
 import collections
-import glob
-import importlib.machinery
-import importlib.util
 import os
 import re
 import shutil
 
-from store import Answer, NO_MEMORY, OUTPUT, library, logged, want, without_cause
+from hostile.store import library, logged
+from lib import played
+from lib.room import NO_MEMORY, OUTPUT, Answer, without_cause
+from lib.wanted import want
 
 REFUSED = NO_MEMORY.decode().strip()
-FOLDER = os.path.join(os.path.dirname(os.path.dirname(os.path.abspath(__file__))), "sessions")
-
-
-def player():
-    """The module that plays these sessions."""
-    loader = importlib.machinery.SourceFileLoader("sessions", os.path.join(FOLDER, "run"))
-    module = importlib.util.module_from_spec(importlib.util.spec_from_loader("sessions", loader))
-    loader.exec_module(module)
-    return module
 
 
 def run(room, most):
     """At most so many growths of each run. Gives how many runs there were, and what came of them."""
-    play, loaded, kinds = player(), library("growth", room), collections.Counter()
-    for path in sorted(glob.glob(os.path.join(FOLDER, "*.txt"))):
-        for name, steps in play.scripts_of(path):
-            folder = room.path("played")
-            os.mkdir(folder)
-            for step in steps:
-                if isinstance(step, play.Run):
-                    kinds.update(outcomes(room, folder, name, step, loaded, most, sum(kinds.values())))
-                found = step.difference(room.program, folder)
-                want(not found, os.path.basename(path), name, found)
-            shutil.rmtree(folder)
+    loaded, kinds = library("growth", room), collections.Counter()
+    for file, name, steps in played.scripts([]):
+        folder = room.path("played")
+        os.mkdir(folder)
+        for step in steps:
+            if isinstance(step, played.Run):
+                kinds.update(outcomes(room, folder, name, step, loaded, most, sum(kinds.values())))
+            found = step.difference(room.program, folder)
+            want(not found, file, name, found)
+        shutil.rmtree(folder)
     want(kinds[REFUSED] > 0, "no growth was answered with 90")
     return sum(kinds.values()), dict(kinds)
 
@@ -44,7 +34,8 @@ def without_count(words, err):
 
 
 def shortages(words):
-    """What tells of want of memory. A quiet session gathers the lines of refusals, and where they find none its output has failed."""
+    """What tells of want of memory. A quiet session gathers the lines of refusals, and where they find none its output
+    has failed."""
     return (NO_MEMORY, OUTPUT) if "--quiet" in words else (NO_MEMORY,)
 
 
@@ -55,8 +46,8 @@ def is_without_tip(got, ample):
 
 
 def outcomes(room, folder, name, step, loaded, most, before_it):
-    """What came of a run where one growth of it is refused, after so many of other runs: the first one of it goes by these, so that
-    runs which begin alike are not all refused the same growths. The folder is left as it was."""
+    """What came of a run where one growth of it is refused, after so many of other runs: the first one of it goes by
+    these, so that runs which begin alike are not all refused the same growths. The folder is left as it was."""
     before, log = room.path("before"), room.path("growths")
     shutil.copytree(folder, before)
 

@@ -2,29 +2,21 @@
 import collections
 import os
 import re
-import shutil
 import subprocess
-import tempfile
 
-from undisturbed import WANTED
+from hostile.undisturbed import WANTED
+from lib import kit
+from lib.frames import framed, message, question
+from lib.room import Answer
+from lib.wanted import Deviation, want
 
 HERE = os.path.dirname(os.path.abspath(__file__))
 
-Answer = collections.namedtuple("Answer", "status out err")
 Session = collections.namedtuple("Session", "name words text base")
-# What a session does undisturbed: the files before it, its answer, the files after it, and after each number of its parts how many answers
-# there are, and the text of the world. `looked` has the files that were looked at, each with how many answers there were: what
-# was left by one run is looked at once, though many runs leave it.
+# What a session does undisturbed: the files before it, its answer, the files after it, and after each number of its
+# parts how many answers there are, and the text of the world. `looked` has the files that were looked at, each with how
+# many answers there were: what was left by one run is looked at once, though many runs leave it.
 Course = collections.namedtuple("Course", "session before ample after dumps looked")
-
-# Only a program that hangs is waited for so many seconds.
-PATIENCE = 600
-
-NO_MEMORY = b"! 90 NO-MEMORY\n"
-DEVICE = b"! 60 DEVICE\n"
-
-INPUT = b"! 67 INPUT\n"
-OUTPUT = b"! 68 OUTPUT\n"
 
 # A form that is read and accepted in every world, in Rescue mode.
 ONE_MORE = b"(COMMON-LISP:SETF (COMMON-LISP:GET 'COMMON-LISP-USER::A 'COMMON-LISP-USER::B) 9)\n"
@@ -60,16 +52,8 @@ NEWONE
 """
 
 
-
-def message(number, text):
-    return b"do %d %d\n%s\n" % (number, len(text), text)
-
-
-def question(text):
-    return b"ask %d\n%s\n" % (len(text), text)
-
-
-# Frames, of which the last one that is carried out writes: so the world tells one position however they are cut into batches.
+# Frames, of which the last one that is carried out writes: so the world tells one position however they are cut into
+# batches.
 MESSAGES = b"".join([
     message(1, b"(SETF (GET 'A 'B) 7)"),
     question(b"(GET 'A 'B)"),
@@ -128,23 +112,11 @@ SESSIONS = [
 ]
 
 
-class Deviation(Exception):
-    """Something was lost, changed or answered that must not be."""
-
-
-def want(holds, *what):
-    if not holds:
-        raise Deviation(" ".join(str(part) for part in what))
-
-
 def library(name, room):
-    """The library of this name, built without headers by the tool's own compiler, to be loaded before a program. It is put where it can be
-    loaded from: a folder in memory may hold no code."""
-    kit = os.path.join(os.path.dirname(os.path.dirname(os.path.realpath(shutil.which("rt")))), "toolchain", "bin")
+    """The library of this name, built without headers by the tool's own compiler, to be loaded before a program. It is
+    put where it can be loaded from: a folder in memory may hold no code."""
     for folder in (room.folder, room.code):
-        source, code, built = (os.path.join(place, name + end) for place, end in ((HERE, ".c"), (folder, ".o"), (folder, ".so")))
-        subprocess.run([os.path.join(kit, "clang"), "-O2", "-fPIC", "-ffreestanding", "-nostdinc", "-c", source, "-o", code], check=True)
-        subprocess.run([os.path.join(kit, "ld.lld"), "-shared", code, "-o", built], check=True)
+        built = kit.shared(os.path.join(HERE, f"{name}.c"), os.path.join(folder, f"{name}.so"))
         log = room.path("loaded")
         subprocess.run(["/bin/true"], env={"LD_PRELOAD": built, f"{name.upper()}_LOG": log}, capture_output=True, check=True)
         if os.path.exists(log):
@@ -162,84 +134,6 @@ def logged(log):
         return None
     os.unlink(log)
     return words
-
-
-# The line on the place of a refusal that ended a session, and the count after it that a quiet one ends with.
-PLACE = re.compile(rb"(?:line \d+, column \d+|after \d+ bytes)(: refused with .* in form \d+), which began .*\n(answers \d+ refusals \d+\n|)")
-
-
-def without_cause(faults):
-    """What was told of a fault without the line with its cause, and of a refusal without its lines, which want of memory may hide."""
-    if faults.startswith(DEVICE) and faults.count(b"\n") == 2:
-        return DEVICE
-    place = PLACE.fullmatch(faults)
-    return place[1] + place[2] if place else faults
-
-
-class Room:
-    """A folder for one store and for logs."""
-
-    def __init__(self, program, place=None):
-        self.program = program
-        in_memory = "/dev/shm" if os.access("/dev/shm", os.W_OK | os.X_OK) else None
-        self.folder = tempfile.mkdtemp(prefix="campaign-", dir=place or in_memory)
-        self.code = tempfile.mkdtemp(prefix="campaign-")
-        self.store = os.path.join(self.folder, "store")
-
-    def path(self, name):
-        return os.path.join(self.folder, name)
-
-    def clear(self):
-        shutil.rmtree(self.folder)
-        shutil.rmtree(self.code)
-
-    def program_for(self, become):
-        """The program, or a copy, where who `become` makes of a process may start it: folders above it may be their owner's alone, and one in
-        memory may hold no code."""
-        for folder in (self.folder, self.code):
-            os.chmod(folder, 0o755)
-        for program in (self.program, os.path.join(self.folder, "program"), os.path.join(self.code, "program")):
-            if not os.path.exists(program):
-                shutil.copy(self.program, program)
-            try:
-                subprocess.run([program, "--version"], preexec_fn=become, capture_output=True, check=True)
-            except OSError:
-                continue
-            return program
-        raise Deviation("another user may start no copy of the program")
-
-    def sweep(self):
-        """Removes the folders that tests left, which were stopped."""
-        for entry in os.scandir(self.folder):
-            if entry.is_dir(follow_symlinks=False) and entry.path != self.store:
-                shutil.rmtree(entry.path)
-
-    def files(self):
-        found = []
-        for name in ("half-a", "half-b"):
-            try:
-                with open(os.path.join(self.store, name), "rb") as file:
-                    found.append(file.read())
-            except FileNotFoundError:
-                found.append(None)
-        return found
-
-    def put(self, files):
-        """Makes the store anew, of these files; `None`: no folder."""
-        shutil.rmtree(self.store, ignore_errors=True)
-        if files is None:
-            return
-        os.mkdir(self.store)
-        for name, held in zip(("half-a", "half-b"), files):
-            if held is not None:
-                with open(os.path.join(self.store, name), "wb") as file:
-                    file.write(held)
-
-    def run(self, words, text=b"", environment=None):
-        command, *options = words
-        done = subprocess.run([self.program, command, self.store, *options], input=text, capture_output=True, timeout=PATIENCE,
-                              env=environment)
-        return Answer(done.returncode, done.stdout, without_cause(done.stderr))
 
 
 def course(room, session, before):
@@ -262,21 +156,9 @@ def has_messages(session):
     return "--messages" in session.words
 
 
-# The first line of a frame, and of an answer.
-HEAD = re.compile(rb"(?:do [0-9]+|ask|[0-9]+) ([0-9]+)\n")
-
-
-def framed(text):
-    """The frames or answers that stand whole at the front of bytes."""
-    found = []
-    while (head := HEAD.match(text)) and (size := head.end() + int(head[1]) + 1) <= len(text):
-        found.append(text[:size])
-        text = text[size:]
-    return found
-
-
 def parts_of(session):
-    """What a session answers one after the other: its lines; or that messages are begun, which it answers with the position, and each frame."""
+    """What a session answers one after the other: its lines; or that messages are begun, which it answers with the
+    position, and each frame."""
     return [b"", *framed(session.text)] if has_messages(session) else session.text.splitlines(keepends=True)
 
 
@@ -292,8 +174,8 @@ def courses(room, names=()):
 
 
 def check(room, one, got):
-    """What was answered is a prefix of what is answered undisturbed; the store is that of the forms that were answered, or of one more;
-    it is whole, and takes a form."""
+    """What was answered is a prefix of what is answered undisturbed; the store is that of the forms that were answered,
+    or of one more; it is whole, and takes a form."""
     want(got.status >= 0, one.session.name, "the program died:", got)
     want(one.ample.out.startswith(got.out), one.session.name, "the answers are no prefix:", got)
     check_world(room, one, answers(one, got.out))
@@ -323,8 +205,8 @@ def may_be_there(one, answered, apart):
 
 
 def check_world(room, one, answered, apart=True):
-    """A session with groups has one, of all its forms, and one of messages without snapshots has one of all frames: all of them may be there,
-    and not some, unless it was executed form by form (`apart`) as memory ran out in it."""
+    """A session with groups has one, of all its forms, and one of messages without snapshots has one of all frames: all
+    of them may be there, and not some, unless it was executed form by form (`apart`) as memory ran out in it."""
     left = (*room.files(), answered)
     if left in one.looked:
         return

@@ -1,16 +1,21 @@
-"""Each test of a built tests binary with growths of memory refused: it passes, or ends with that error, and no assertion fails."""
+"""Each test of a built tests binary with growths of memory refused: it passes, or ends with that error, and no
+assertion fails."""
 import collections
 import os
 import subprocess
 
-from store import PATIENCE, library, logged, want
+from hostile.store import library, logged
+from lib.places import PATIENCE
+from lib.wanted import want
 
 CRATES = ("program_tests", "reader_tests")
 
-# The modules of program_tests that call laws: they compare what came of a store with what a law says of it, where there is ample memory.
+# The modules of program_tests that call laws: they compare what came of a store with what a law says of it, where there
+# is ample memory.
 CALLERS_OF_LAWS = set("""again batches cuts exports fed_again keepers lives migration once reopened replicas room rounds same""".split())
 
-# What the error names with which a test ends that met want of memory. A disk in memory that finds none answers with a fault of the device.
+# What the error names with which a test ends that met want of memory. A disk in memory that finds none answers with a
+# fault of the device.
 ERRORS = (b"AllocError", b"AllocFailed", b"Memory", b"Device")
 
 # A test that asks for memory as often is run a few times alone.
@@ -27,7 +32,8 @@ def binaries(crates):
 
 
 def run(room, paths, most):
-    """At most so many growths of each test, each second one with all that come after it. Gives how many runs there were, and what came."""
+    """At most so many growths of each test, each second one with all that come after it. Gives how many runs there
+    were, and what came."""
     loaded = library("growth", room)
     kinds = collections.Counter()
     for path in paths:

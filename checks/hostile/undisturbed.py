@@ -1,5 +1,6 @@
-"""What each session of the campaign gives where nothing is disturbed: its status, and standard output. Taken from a run of the proved
-program and read against the rules of the language by one reader: it shows a change, and is no independent model."""
+"""What each session of the campaign gives where nothing is disturbed: its status, and standard output. Taken from a run
+of the proved program and read against the rules of the language by one reader: it shows a change, and is no independent
+model."""
 
 WANTED = {
     "property": (0, (

@@ -1,4 +1,4 @@
-"""Frames as bytes, the answers to them, and a program that takes them."""
+"""A program that takes frames, and its answers as they come."""
 import os
 import queue
 import re
@@ -6,47 +6,11 @@ import signal
 import subprocess
 import threading
 
-LIMIT = 600.0
+from lib.frames import Answers, question
+from lib.places import PATIENCE
+
+LIMIT = float(PATIENCE)
 """As many seconds as no answer takes, on a slow machine either."""
-
-
-def message(number, text):
-    return b"do %d %d\n%s\n" % (number, len(text), text)
-
-
-def question(text):
-    return b"ask %d\n%s\n" % (len(text), text)
-
-
-class Answers:
-    """Reads the position, and then answers, of bytes that come in pieces."""
-
-    def __init__(self):
-        self.held = b""
-        self.position = None
-
-    def feed(self, piece):
-        """The answers that are whole now: the number, or None of a question, and the text."""
-        self.held += piece
-        found = []
-        while True:
-            line, newline, rest = self.held.partition(b"\n")
-            if not newline:
-                return found
-            if self.position is None:
-                told = re.fullmatch(rb"at (0|[1-9][0-9]*)", line)
-                assert told, f"no position: {line!r}"
-                self.position = int(told[1])
-                self.held = rest
-                continue
-            head = re.fullmatch(rb"(ask|0|[1-9][0-9]*) (0|[1-9][0-9]*)", line)
-            assert head, f"no head of an answer: {line!r}"
-            size = int(head[2])
-            if len(rest) <= size:
-                return found
-            assert rest[size : size + 1] == b"\n", f"no newline after an answer of {size} bytes: {rest[: size + 1]!r}"
-            found.append((None if head[1] == b"ask" else int(head[1]), rest[:size].decode("latin-1")))
-            self.held = rest[size + 1 :]
 
 
 class Session:

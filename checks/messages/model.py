@@ -117,7 +117,8 @@ class Maker:
         return b"(INCF (GET '%s 'KY))" % self.chance.choice(COUNTERS)
 
     def text(self):
-        """Counters are made first. Then mostly they go on; or there is another change, a look, a text that is refused or cannot be read."""
+        """Counters are made first. Then mostly they go on; or there is another change, a look, a text that is refused
+        or cannot be read."""
         if self.first:
             return self.first.pop()
         if self.away:

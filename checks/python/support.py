@@ -10,12 +10,13 @@ from collections.abc import Iterator
 from typing import Any
 
 import pazturrok.program
+from lib.places import CHECKS, PATIENCE
 from pazturrok import Store
 
 PROGRAM = os.environ.get("PAZTURROK_PROGRAM", "pazturrok")
-FAKE = os.path.join(os.path.dirname(os.path.abspath(__file__)), "..", "lisp", "fake")
+FAKE = os.path.join(CHECKS, "lisp", "fake")
 
-LONG = 600.0
+LONG = float(PATIENCE)
 """As many seconds as nothing takes, on a slow machine either."""
 pazturrok.program.END_LIMIT = LONG
 
