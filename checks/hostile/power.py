@@ -35,30 +35,33 @@ class File:
         if kind == "lost":
             return self.synced
         shortest = longest = length = len(self.synced)
-        touched = set()
+        touched = []
         for start, end, is_cut in self.pending:
             if is_cut:
-                touched.update(range(start, length))
+                touched.append((start, length))
                 shortest, length = min(shortest, start), start
             else:
-                touched.update(range(start, end))
+                touched.append((start, end))
                 length = max(length, end)
                 longest = max(longest, length)
         count = longest if isinstance(kind, int) else dice.randint(shortest, longest)
         found = bytearray(self.synced[:count].ljust(count, b"\0"))
-        for place in range(count):
-            if place in touched or place >= len(self.synced):
-                found[place] = self.byte(kind, place, dice)
+        for start, end in [*touched, (len(self.synced), count)]:
+            end = min(end, count)
+            if start < end:
+                found[start:end] = self.mixed(kind, start, end, dice)
         return bytes(found)
 
-    def byte(self, kind, place, dice):
+    def mixed(self, kind, start, end, dice):
+        """What a crash of this kind leaves of a range in which any bytes may be left."""
         if isinstance(kind, int):
-            return kind
+            return bytes([kind]) * (end - start)
+        some = dice.randbytes(end - start)
         if kind == "any":
-            return dice.randrange(256)
-        old = self.synced[place] if place < len(self.synced) else 0
-        new = self.now[place] if place < len(self.now) else 0xA5
-        return dice.choice([old, new])
+            return some
+        old = self.synced[start:end].ljust(end - start, b"\0")
+        new = self.now[start:end].ljust(end - start, b"\xa5")
+        return bytes(was if one & 1 else now for one, was, now in zip(some, old, new))
 
 
 def traced(room, one, loaded):
