@@ -20,7 +20,7 @@ def drawn():
 def table_of_crates():
     """The page on the crates names each of them."""
     page = page_named("crates.md")
-    rows = re.findall(r"^\| ([a-z_]+) \|", read(page), flags=re.M)
+    rows = re.findall(r"^\| ([a-z0-9_]+) \|", read(page), flags=re.M)
     text = read(page)
     for crate in crates():
         if crate.endswith("_tests"):
@@ -51,7 +51,7 @@ def cited():
     """Each crate with the files of its proofs that other crates cite."""
     files = set()
     for name in names_of("crates/*/src/**/*.rt", "crates/*/specs/**/*.antt", "crates/*/proofs/**/*.antt"):
-        for crate, module in re.findall(r"\bRattle\.([a-z_]+)\.(proofs(?:\.\w+)+)", read(name)):
+        for crate, module in re.findall(r"\bRattle\.([a-z0-9_]+)\.(proofs(?:\.\w+)+)", read(name)):
             file = f"{module.replace('.', '/')}.antt"
             if crate != name.split("/")[1] and os.path.exists(os.path.join(TOP, "crates", crate, file)):
                 files.add((crate, file))

@@ -30,7 +30,7 @@ is_kept() {
 
 # The crates that are done, by what rt said: `rt ci` names each that is proved or kept, and `rt run` each as it begins with it.
 done_crates() {
-    sed -n 's/^rt: \([a-z_]*\) proved$/\1/p; s/^rt: \([a-z_]*\) is kept: .*/\1 kept/p; s/^crate \([a-z_]*\): modules.*/\1/p' "$log" |
+    sed -n 's/^rt: \([a-z0-9_]*\) proved$/\1/p; s/^rt: \([a-z0-9_]*\) is kept: .*/\1 kept/p; s/^crate \([a-z0-9_]*\): modules.*/\1/p' "$log" |
         awk '!seen[$1]++'
 }
 
@@ -39,7 +39,7 @@ plan_of_crates() {
     if has_schedule; then
         # shellcheck disable=SC2086 # a name each
         (cd "$room" && "$top/checks/schedule" --plan $names) 2>/dev/null |
-            sed -n 's|^schedule: \([a-z_]*\)/proof  *[0-9.]* to  *\([0-9.]*\) minutes.*|\2 \1|p' | sort -n
+            sed -n 's|^schedule: \([a-z0-9_]*\)/proof  *[0-9.]* to  *\([0-9.]*\) minutes.*|\2 \1|p' | sort -n
     fi
 }
 
@@ -76,7 +76,7 @@ tell_progress() {
 
 # Says why there is no program, and ends.
 refuse_build() {
-    at=$(sed -n 's/^rt: \([a-z_]*\) NOT PROVED$/\1/p; s/^rt: FAILED: //p' "$log" | head -n 1)
+    at=$(sed -n 's/^rt: \([a-z0-9_]*\) NOT PROVED$/\1/p; s/^rt: FAILED: //p' "$log" | head -n 1)
     last=$(done_crates | sed -n '$s/ .*//; $p')
     at=${at:-what comes after ${last:-nothing}}
     if grep -q 'disk is full\|No space left' "$log"; then

@@ -98,7 +98,7 @@ case $1 in
     doc) echo "%(folder)s/kit/START-HERE.md" ;;
     ci)
         echo "rt ci $*" >>"%(folder)s/order"
-        sed -n 's/^\\([a-z_]*\\)[ :].*/rt: \\1 is kept: nothing of it changed/p' crates.txt
+        sed -n 's/^\\([a-z0-9_]*\\)[ :].*/rt: \\1 is kept: nothing of it changed/p' crates.txt
         mkdir -p crates/store_program/out && cp "%(program)s" crates/store_program/out/store_program
         ;;
 esac
@@ -106,7 +106,7 @@ esac
 SCHEDULE = """#!/bin/sh
 echo "schedule $*" >>"%(folder)s/order"
 number=0
-for crate in $(sed -n 's/^\\([a-z_]*\\)[ :].*/\\1/p' crates.txt); do
+for crate in $(sed -n 's/^\\([a-z0-9_]*\\)[ :].*/\\1/p' crates.txt); do
     number=$((number + 1))
     case $1 in
         --plan) echo "schedule: $crate/proof   0.0 to   $number.0 minutes, 1 jobs, 1.0 GB" ;;
