@@ -113,7 +113,8 @@ class Store:
 def done(halves, order):
     """Carries an order out on these files."""
     kind, half, place, held = order
-    {WRITES: lambda: halves[half].write(place, held), CUTS: lambda: halves[half].cut(place), SYNCS: halves[half].sync}[kind]()
+    {WRITES: lambda: halves[half].write(place, held), CUTS: lambda: halves[half].cut(place),
+     SYNCS: halves[half].sync}[kind]()
 
 
 def opened(made, files=(b"", b""), limit=AMPLE):

@@ -13,7 +13,8 @@ ROWS = {
     "tokens": (AMPLE, [(False, b"'(\\1 |1| 1 1. -0 +4/6 1+)", 0, b"(|1| |1| 1 1 0 2/3 |1+|)")]),
     "brackets": (AMPLE, [
         (False, b"(SET-MACRO-CHARACTER #\\[ :SQUARE)", 0, b"T"), (False, b"(SET-MACRO-CHARACTER #\\] :CLOSE)", 0, b"T"),
-        (False, b"(SETF (GET 'A 'V) [1 2])", 0, b"#(1 2)"), (False, b"(GET 'A 'V)", 0, b"#(1 2)"), (False, b"]", 20, b""),
+        (False, b"(SETF (GET 'A 'V) [1 2])", 0, b"#(1 2)"), (False, b"(GET 'A 'V)", 0, b"#(1 2)"),
+        (False, b"]", 20, b""),
         (False, b"(PROGN (SETF (GET 'A 'V) [1 [2]]) 8)", 0, b"8")]),
     "rescue": (AMPLE, [
         (False, b"(SET-SYNTAX-FROM-CHAR #\\( #\\;)", 0, b"T"), (True, b"(COPY-READTABLE NIL :USER)", 0, b":USER"),
@@ -23,7 +24,8 @@ ROWS = {
         (False, b"(LIST #xFF #36rZ #b-1/10 #\\space)", 0, b"(255 35 -1/2 #\\Space)"),
         (False, b"'(#:a #'f #|x #|y|# z|# \"\")", 0, b"(#:A (FUNCTION F) \"\")")]),
     "dispatch": (AMPLE, [
-        (False, b"(MAKE-DISPATCH-MACRO-CHARACTER #\\@)", 0, b"T"), (False, b"(SET-DISPATCH-MACRO-CHARACTER #\\@ #\\s :SCALE)", 0, b"T"),
+        (False, b"(MAKE-DISPATCH-MACRO-CHARACTER #\\@)", 0, b"T"),
+        (False, b"(SET-DISPATCH-MACRO-CHARACTER #\\@ #\\s :SCALE)", 0, b"T"),
         (False, b"@3S14", 0, b"42"), (False, b"@S14", 20, b"")]),
 }
 
@@ -38,7 +40,9 @@ class Calls:
             self.each_opening(files)
             wanted = (number, b"" if number else answer)
             files = self.each(files, lambda store, rescue=rescue, text=text: plain(store.form(text, rescue)), wanted)
-            self.each(files, lambda store, rescue=rescue, text=text: plain_all(store.together([text]) if not rescue else 0), None)
+            self.each(files,
+                      lambda store, rescue=rescue, text=text: plain_all(store.together([text]) if not rescue else 0),
+                      None)
         self.each(files, lambda store: (store.snapshot(), b""), (0, b""))
 
     def each_opening(self, files):
@@ -86,10 +90,12 @@ class Calls:
             self.has_failed(store)
         elif found[0] == NO_MEMORY and store.orders:
             # the answer could not be printed: the form is there
-            want((store.figures(), store.files()) == (figures, after), "a call without memory for its answer left something else")
+            want((store.figures(), store.files()) == (figures, after),
+                 "a call without memory for its answer left something else")
             self.kinds["90, and done"] += 1
         elif found[0] == NO_MEMORY:
-            want(not store.orders and store.files() == own and store.figures() == was, "a call without memory did something")
+            want(not store.orders and store.files() == own and store.figures() == was,
+                 "a call without memory did something")
             want(self.world_now(files, call, number) == before, "a call without memory changed the world")
             want(call(store) == ample, "the call made again:", ample)
             want((store.figures(), store.files()) == (figures, after), "the call made again left something else")
@@ -114,7 +120,8 @@ class Calls:
         """After a fault of the device each call is refused, and the files are opened again."""
         left = store.files()
         found = [store.form(b"1")[0], store.together([b"1"]), store.snapshot()]
-        want(found == [REOPEN, [(REOPEN, b"")], REOPEN] and not store.orders and store.files() == left, "after a fault of the device:", found)
+        want(found == [REOPEN, [(REOPEN, b"")], REOPEN] and not store.orders and store.files() == left,
+             "after a fault of the device:", found)
         self.opens(left)
 
 

@@ -26,12 +26,16 @@ ROWS = [
     ("no room for a record", 165, (b"", b""), [SEVEN, GET], [FULL, FULL], (1, 0, 2), (154, 0)),
     ("room for a shorter one", 179, (b"", b""), [SEVEN, GET], [FULL, TAKEN], (1, 1, 2), (171, 0)),
     ("room for one", 180, (b"", b""), [SEVEN, EIGHT, GET], [TAKEN, FULL, TAKEN], (1, 1, 2), (180, 0)),
-    ("one that only reads is not logged", 180, (b"", b""), [SEVEN, GET, b"(REMPROP 'A 'A)", b"'C", SEVEN], [TAKEN, TAKEN, TAKEN, FULL, FULL],
+    ("one that only reads is not logged", 180, (b"", b""), [SEVEN, GET, b"(REMPROP 'A 'A)", b"'C", SEVEN],
+     [TAKEN, TAKEN, TAKEN, FULL, FULL],
      (1, 1, 2), (180, 0)),
-    ("a snapshot makes room", 202, (b"", b""), [SEVEN, EIGHT, GET, None, EIGHT], [TAKEN, FULL, TAKEN, TAKEN, TAKEN], (2, 1, 2), (180, 192)),
-    ("a snapshot without room", 224, (b"", b""), [b"(PROGN (SETF (GET 'A 'B) '#200(1)) 1)", None, b"(SETF (GET 'A 'C) 2)"],
+    ("a snapshot makes room", 202, (b"", b""), [SEVEN, EIGHT, GET, None, EIGHT], [TAKEN, FULL, TAKEN, TAKEN, TAKEN],
+     (2, 1, 2), (180, 192)),
+    ("a snapshot without room", 224, (b"", b""),
+     [b"(PROGN (SETF (GET 'A 'B) '#200(1)) 1)", None, b"(SETF (GET 'A 'C) 2)"],
      [TAKEN, TOO_LARGE, TAKEN], (1, 2, 2), (223, 0)),
-    ("version 1 is full, and renewed", 202, (VERSION_1, b""), [EIGHT, None, EIGHT], [FULL, TAKEN, TAKEN], (2, 1, 2), (len(VERSION_1), 192)),
+    ("version 1 is full, and renewed", 202, (VERSION_1, b""), [EIGHT, None, EIGHT], [FULL, TAKEN, TAKEN], (2, 1, 2),
+     (len(VERSION_1), 192)),
     ("a text is one form", AMPLE, (b"", b""), [b"1 2", b"", b"1 ", b" 1"], [26, 1, TAKEN, TAKEN], (1, 0, 2), (154, 0)),
 ]
 
@@ -76,7 +80,8 @@ def check_together(made):
     for limit, numbers, look, records in ((202, [TAKEN, FULL], FULL, 1), (AMPLE, [TAKEN, TAKEN], TAKEN, 2)):
         store = opened(made, limit=limit)
         want([number for number, _ in store.together([EIGHT, NINE])] == numbers, "together under", limit)
-        want((store.form(BOTH)[0], store.figures()) == (look, (1, records, 2)), "after two together under", limit, store.figures())
+        want((store.form(BOTH)[0], store.figures()) == (look, (1, records, 2)), "after two together under", limit,
+             store.figures())
         store.close()
 
 

@@ -102,7 +102,8 @@ class Course:
 # use or the other one.
 APPEND = "W+ S+ W+ S+"
 STARTS = {
-    "seven": "W- S- W- S- W- S-", "older": "W- S- C- S- W- S- W- S-", "closed": "C- S- W- S- W- S-", "version 1": "W- S- W- S- W- S-",
+    "seven": "W- S- W- S- W- S-", "older": "W- S- C- S- W- S- W- S-", "closed": "C- S- W- S- W- S-",
+    "version 1": "W- S- W- S- W- S-",
 }
 
 
@@ -130,7 +131,8 @@ def check_shapes(made, files):
 
 # The orders of an append that are done, and what is there after each kind of crash: the old value, or the new one.
 OLD, NEW = "old", "new"
-LEFT = [(0, OLD, OLD, OLD, OLD), (1, OLD, OLD, OLD, OLD), (2, OLD, OLD, OLD, OLD), (3, NEW, OLD, NEW, OLD), (4, NEW, NEW, NEW, NEW)]
+LEFT = [(0, OLD, OLD, OLD, OLD), (1, OLD, OLD, OLD, OLD), (2, OLD, OLD, OLD, OLD), (3, NEW, OLD, NEW, OLD),
+        (4, NEW, NEW, NEW, NEW)]
 
 
 def check_exactly(made, files, step, values):
@@ -160,7 +162,8 @@ def check_half(made, files, start):
         for kind in CRASHES:
             is_taken = count == len(orders) or count + 1 == len(orders) and kind in ("kept", 0xA5)
             again = opened(made, [half.left(kind, None) for half in halves])
-            want(again.figures() == (after if is_taken else before), start, "after", count, "orders and a crash:", kind, again.figures())
+            want(again.figures() == (after if is_taken else before), start, "after", count, "orders and a crash:", kind,
+                 again.figures())
             again.close()
         if count < len(orders):
             done(halves, orders[count])

@@ -44,8 +44,10 @@ def listed(numbers):
 # What is asked of a world that has as many packages and symbols as there can be. An import makes no symbol.
 AT_LIMITS = [
     (b'(MAKE-PACKAGE "ONE-MORE")', 46), (b'(MAKE-PACKAGE "CL-USER")', 35), (b'(MAKE-PACKAGE "")', 33),
-    (b'(INTERN "ONE-MORE")', 46), (b"'ONE-MORE", 46), (b":ONE-MORE", 46), (b'(INTERN "ONE-MORE" "CL")', 36), (b'(INTERN "ONE-MORE" "NO")', 34),
-    (b'(INTERN "LIST")', 0), (b'(INTERN "%s")' % name_of(SYMBOLS - 1), 0), (b"(IMPORT '%s \"KEYWORD\")" % name_of(SYMBOLS - 1), 36),
+    (b'(INTERN "ONE-MORE")', 46), (b"'ONE-MORE", 46), (b":ONE-MORE", 46), (b'(INTERN "ONE-MORE" "CL")', 36),
+    (b'(INTERN "ONE-MORE" "NO")', 34),
+    (b'(INTERN "LIST")', 0), (b'(INTERN "%s")' % name_of(SYMBOLS - 1), 0),
+    (b"(IMPORT '%s \"KEYWORD\")" % name_of(SYMBOLS - 1), 36),
     (b"(IMPORT '%s \"%s\")" % (name_of(SYMBOLS - 1), name_of(3)), 0),
 ]
 
@@ -64,7 +66,8 @@ def check_limits(made):
         found = store.form(text)[0]
         want(found == number, text, "at the limits gives", found)
     again = opened(made, store.files())
-    want(again.form(b"'ONE-MORE")[0] == 46 and again.form(b"'" + name_of(SYMBOLS - 1)) == (0, name_of(SYMBOLS - 1)), "other symbols after an opening")
+    want(again.form(b"'ONE-MORE")[0] == 46 and again.form(b"'" + name_of(SYMBOLS - 1)) == (0, name_of(SYMBOLS - 1)),
+         "other symbols after an opening")
     again.close()
     store.close()
 
@@ -127,7 +130,8 @@ def check_names(made):
         length = made.pzt_name(ctypes.c_uint16(number), room, ctypes.c_size_t(64))
         if length:
             names[number] = room.raw[:length]
-    want(set(names) == NUMBERS and len(set(names.values())) == len(NUMBERS), "the numbers with a name are", sorted(names))
+    want(set(names) == NUMBERS and len(set(names.values())) == len(NUMBERS), "the numbers with a name are",
+         sorted(names))
     want((names[1], names[30], names[90]) == (b"END-OF-FILE", b"NOT-A-FORM", b"NO-MEMORY"), "other names")
 
 

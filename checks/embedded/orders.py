@@ -33,7 +33,8 @@ def load(path):
     library.pzt_answer.argtypes = library.pzt_orders.argtypes = [slot, SIZE, text, SIZE]
     library.pzt_answer.restype = library.pzt_orders.restype = SIZE
     library.pzt_performed.argtypes, library.pzt_close.argtypes = [slot, SIZE], [slot]
-    for name in ("open", "execute", "execute_all", "begin_messages", "answer_requests", "snapshot", "performed", "close"):
+    for name in ("open", "execute", "execute_all", "begin_messages", "answer_requests", "snapshot", "performed",
+                 "close"):
         getattr(library, "pzt_" + name).restype = None
     return library
 
@@ -62,7 +63,8 @@ class Engine:
             at += len(text)
             ends.append(at)
         joined = b"".join(texts)
-        self.library.pzt_execute_all(self.slot, False, joined, len(joined), (ctypes.c_uint64 * len(ends))(*ends), len(ends), self.done)
+        self.library.pzt_execute_all(self.slot, False, joined, len(joined), (ctypes.c_uint64 * len(ends))(*ends),
+                                     len(ends), self.done)
         return self.done.number, self.fetched(self.library.pzt_answer, self.done.answer)
 
     def position(self):
@@ -160,7 +162,8 @@ class Course:
         self.crash(0, [])
 
     def crash(self, half, more):
-        left = [left_of(self.synced[one], self.pending[one] + (more if one == half else []), self.dice) for one in (0, 1)]
+        left = [left_of(self.synced[one], self.pending[one] + (more if one == half else []), self.dice)
+                for one in (0, 1)]
         again = Engine(self.library, left)
         self.crashes += 1
         if again.number:
@@ -193,7 +196,8 @@ class Course:
         requests = [*forms[:1], (None, b"(GET 'A 'B)"), (first, b"(SETF (GET 'A 'B) 0)"), *forms[1:]]
         number, told = self.engine.answer_requests(self.dice.randrange(self.position + 1), requests)
         texts = [b"%d" % value for value, _ in forms]
-        if number or told != [(True, texts[0]), (False, texts[0]), (False, b"! 50 OLD-NUMBER"), *((True, text) for text in texts[1:])]:
+        if number or told != [(True, texts[0]), (False, texts[0]), (False, b"! 50 OLD-NUMBER"),
+                              *((True, text) for text in texts[1:])]:
             raise AssertionError(f"messages: {number} {told}")
         self.messages = [(before, self.position), (self.sent, self.sent)]
         self.carry_out(self.sent)

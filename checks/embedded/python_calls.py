@@ -37,8 +37,10 @@ from pazturrok import (
 from pazturrok.library import Library
 
 VALUES: list[Any] = [
-    0, -7, Fraction(22, 7), 2**126, Character("a"), Character("\n"), "", "two\nlines \"quoted\" \\ |bars|", [], [1, [2, "x"]],
-    DottedList((1,), 2), (), (1, (2,), "x"), Symbol("APPLE"), Symbol("a b"), keyword("KEY"), Symbol("FREE", None), "a\0b",
+    0, -7, Fraction(22, 7), 2**126, Character("a"), Character("\n"), "", "two\nlines \"quoted\" \\ |bars|", [],
+    [1, [2, "x"]],
+    DottedList((1,), 2), (), (1, (2,), "x"), Symbol("APPLE"), Symbol("a b"), keyword("KEY"), Symbol("FREE", None),
+    "a\0b",
 ]  # fmt: skip
 
 
@@ -175,14 +177,16 @@ class Embedded(unittest.TestCase):
         with self.assertRaises(ClosedStoreError):
             feed.do("1")
         again = self.feed()
-        self.assertEqual((again.position, again.ask("(COMMON-LISP:GET 'COMMON-LISP-USER::N 'COMMON-LISP-USER::N)")), (position, 5002))
+        self.assertEqual((again.position, again.ask("(COMMON-LISP:GET 'COMMON-LISP-USER::N 'COMMON-LISP-USER::N)")),
+                         (position, 5002))
         with self.assertRaises(FaultError):
             self.feed()
 
     def test_messages_of_threads_and_what_is_no_position(self) -> None:
         feed = self.feed()
         feed.do("(SETF (GET 'N 'N) 0)")
-        threads = [threading.Thread(target=lambda: [feed.do("(INCF (GET 'N 'N))") for _ in range(200)]) for _ in range(4)]
+        threads = [threading.Thread(target=lambda: [feed.do("(INCF (GET 'N 'N))") for _ in range(200)])
+                   for _ in range(4)]
         for thread in threads:
             thread.start()
         for thread in threads:
@@ -254,7 +258,8 @@ class Embedded(unittest.TestCase):
     def test_each_call_within_another_is_refused(self) -> None:
         store, feed = self.store(), self.feed()
         for inner in (
-            lambda: store.execute("1"), lambda: store.execute_all(["1", "2"]), lambda: store.answer("1"), store.snapshot, store.figures,
+            lambda: store.execute("1"), lambda: store.execute_all(["1", "2"]), lambda: store.answer("1"),
+            store.snapshot, store.figures,
             store.close, store.reopen,
         ):  # fmt: skip
             self.assertEqual(self.within(lambda: store.execute("(LIST 1111)"), inner), [1111])
@@ -305,14 +310,16 @@ class Embedded(unittest.TestCase):
         copy = os.path.join(self.folder, "copy")
         subprocess.run(["cp", "-r", source, copy], check=True)
         ran = subprocess.run(
-            [sys.executable, "-m", "pip", "install", "--quiet", "--no-index", "--no-build-isolation", "--target", target, copy],
+            [sys.executable, "-m", "pip", "install", "--quiet", "--no-index", "--no-build-isolation", "--target",
+             target, copy],
             capture_output=True, text=True,
         )  # fmt: skip
         if ran.returncode:
             self.skipTest("pip cannot build here: " + ran.stderr.strip()[-200:])
         code = "import pazturrok; print(pazturrok.EmbeddedStore('store').execute('(LIST 1)'))"
         got = subprocess.run(
-            [sys.executable, "-c", code], cwd=self.folder, env={**os.environ, "PYTHONPATH": target}, capture_output=True, text=True
+            [sys.executable, "-c", code], cwd=self.folder, env={**os.environ, "PYTHONPATH": target},
+            capture_output=True, text=True
         )
         self.assertEqual(got.stdout, "[1]\n", got.stderr)
 

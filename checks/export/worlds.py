@@ -3,11 +3,14 @@ import random
 
 PLAIN = ["A", "B", "X", "FOO", "GET", "NIL", "T", "LIST", "USER", "N-1"]
 ODD = ["a", "1+", "12", "1/2", ".", "..", "A B", "A:B", ":", "|", "\\", "\"", "'", ";x", "#", "(", "",
-       "\n", "\t", "\x1b", "\x00", "\x7f", "*VAR*", "<=", "%", "~", "`", ",", "--", "-1", "+", "A\\B", "A|B", "z" * 40, "Q" * 300]
+       "\n", "\t", "\x1b", "\x00", "\x7f", "*VAR*", "<=", "%", "~", "`", ",", "--", "-1", "+", "A\\B", "A|B", "z" * 40,
+       "Q" * 300]
 PACKAGES = ["P", "Q", "R", "p", "P Q", "A|B", "X:Y", "-", "1", "Z" * 200, "USER"]
 LOCKED = ["COMMON-LISP", "KEYWORD", "CL", "CL-USER"]
-FUNCTIONS = ["STD-LIST", "STD-CLOSE", "STD-QUOTE", "STD-COMMENT", "STD-STRING", "STD-OUT", "STD-CHAR", "STD-FUNCTION", "STD-VECTOR",
-             "STD-UNINTERNED", "STD-BLOCK", "STD-BINARY", "STD-OCTAL", "STD-HEX", "STD-RADIX", "SQUARE", "CLOSE", "NOTE", "SKIP", "UNIT", "SCALE"]
+FUNCTIONS = ["STD-LIST", "STD-CLOSE", "STD-QUOTE", "STD-COMMENT", "STD-STRING", "STD-OUT", "STD-CHAR", "STD-FUNCTION",
+             "STD-VECTOR",
+             "STD-UNINTERNED", "STD-BLOCK", "STD-BINARY", "STD-OCTAL", "STD-HEX", "STD-RADIX", "SQUARE", "CLOSE",
+             "NOTE", "SKIP", "UNIT", "SCALE"]
 TABLES = ["R1", "R2", "lower", "A|B", "", "R" * 300]
 CASES = ["UPCASE", "DOWNCASE", "PRESERVE", "INVERT"]
 
@@ -58,9 +61,11 @@ class Forms:
 
     def value(self, depth):
         """The text of an object."""
-        atoms = [self.token, lambda: self.text(self.name()), lambda: "#:" + self.bars(self.name() or "X"), self.character,
+        atoms = [self.token, lambda: self.text(self.name()), lambda: "#:" + self.bars(self.name() or "X"),
+                 self.character,
                  lambda: str(self.draw.choice([0, 1, -1, 7, 2 ** 127 - 1, -(2 ** 127), self.draw.randrange(10 ** 9)])),
-                 lambda: "%d/%d" % (self.draw.randrange(-99, 99), self.draw.randrange(1, 99)), lambda: self.keyword(self.name()),
+                 lambda: "%d/%d" % (self.draw.randrange(-99, 99), self.draw.randrange(1, 99)),
+                 lambda: self.keyword(self.name()),
                  lambda: "()", lambda: self.draw.choice(PLAIN)]
         if depth == 0 or self.draw.random() < 0.5:
             return self.draw.choice(atoms)()
@@ -117,22 +122,27 @@ class Forms:
         return "(SETF (READTABLE-CASE %s) :%s)" % (self.table(), self.draw.choice(CASES))
 
     def likens(self):
-        return "(SET-SYNTAX-FROM-CHAR %s %s %s %s)" % (self.character(), self.character(), self.table(), self.draw.choice(["NIL", self.table()]))
+        return "(SET-SYNTAX-FROM-CHAR %s %s %s %s)" % (self.character(), self.character(), self.table(),
+                                                       self.draw.choice(["NIL", self.table()]))
 
     def macro(self):
-        return "(SET-MACRO-CHARACTER %s :%s %s %s)" % (self.character(), self.draw.choice(FUNCTIONS), self.draw.choice(["NIL", "T"]), self.table())
+        return "(SET-MACRO-CHARACTER %s :%s %s %s)" % (self.character(), self.draw.choice(FUNCTIONS),
+                                                       self.draw.choice(["NIL", "T"]), self.table())
 
     def dispatches(self):
-        return "(MAKE-DISPATCH-MACRO-CHARACTER %s %s %s)" % (self.character(), self.draw.choice(["NIL", "T"]), self.table())
+        return "(MAKE-DISPATCH-MACRO-CHARACTER %s %s %s)" % (self.character(), self.draw.choice(["NIL", "T"]),
+                                                             self.table())
 
     def sub(self):
         at = self.draw.choice(["#\\#", "#\\@", "#\\!", self.character()])
-        return "(SET-DISPATCH-MACRO-CHARACTER %s %s :%s %s)" % (at, self.character(), self.draw.choice(FUNCTIONS), self.table())
+        return "(SET-DISPATCH-MACRO-CHARACTER %s %s :%s %s)" % (at, self.character(), self.draw.choice(FUNCTIONS),
+                                                                self.table())
 
     def current(self):
         """The last form, as a form after it may not be read."""
         return "(PROGN (IN-PACKAGE %s) (SETF *READ-BASE* %d) (IN-READTABLE %s))" % (
-            self.text(self.package()), self.draw.choice([2, 8, 10, 16, 36]), self.draw.choice([":STANDARD", self.table()]))
+            self.text(self.package()), self.draw.choice([2, 8, 10, 16, 36]),
+            self.draw.choice([":STANDARD", self.table()]))
 
     def all(self):
         """Forms of all kinds, of which some are refused; those that come first make it likelier that later ones are
@@ -140,7 +150,8 @@ class Forms:
         several = self.draw.choice([5, 20, 60])
         forms = ["(MAKE-PACKAGE %s)" % self.text(p) for p in self.packages[:-1]]
         forms += ["(COPY-READTABLE NIL %s)" % self.keyword(n) for n in self.tables]
-        kinds = [self.interns, self.imports, self.exports, self.exports, self.uses, self.sets, self.sets, self.sets, self.pushes, self.counts,
+        kinds = [self.interns, self.imports, self.exports, self.exports, self.uses, self.sets, self.sets, self.sets,
+                 self.pushes, self.counts,
                  self.removes, self.copies, self.folds, self.likens, self.macro, self.dispatches, self.sub, self.sub]
         forms += [self.draw.choice(kinds)() for _ in range(several)]
         rest = [self.current()] if self.draw.random() < 0.8 else []

@@ -89,7 +89,8 @@ def other_files(folder):
         for name, make, cause in kinds + both:
             for options in (["--snapshot-every", "1"], ["--existing", "--snapshot-every", "1"]):
                 got = folder.with_half(half, make, options)
-                want(cause is None or folder.told == DEVICE + cause, os.path.basename(half), "is", name, options, folder.told)
+                want(cause is None or folder.told == DEVICE + cause, os.path.basename(half), "is", name, options,
+                     folder.told)
                 yield f"{os.path.basename(half)} is {name}: {options}", got, FAULT, b"7\n"
 
 
@@ -115,7 +116,8 @@ def other_names(folder):
     folder.anew()
     yield "a name with a slash", folder.run(folder.path + "/"), SERVED, b"8\n"
     folder.anew()
-    yield "a name with dots", folder.run(os.path.join(folder.path, "..", os.path.basename(folder.path), ".")), SERVED, b"8\n"
+    yield "a name with dots", folder.run(os.path.join(folder.path, "..", os.path.basename(folder.path),
+                                                      ".")), SERVED, b"8\n"
     folder.anew()
     yield "the folder is half A", folder.run(folder.a), FAULT, b"7\n"
     yield "the parent is missing", folder.run(os.path.join(folder.path + "-new", "x", "y")), SERVED, b"7\n"
@@ -209,9 +211,11 @@ def full_system(folder):
         path = os.path.join(place, "store")
         got = folder.run(path, text=b"".join(b"(SETF (GET 'A 'B) %d)\n" % number for number in range(1, 3001)))
         count = got.out.count(b"\n")
-        want(got.status == 3 and got.err == DEVICE and 0 < count < 3000, "a full file system:", got.status, got.err, count)
+        want(got.status == 3 and got.err == DEVICE and 0 < count < 3000, "a full file system:", got.status, got.err,
+             count)
         found = folder.run(path, text=GET)
-        want(found in (Answer(0, b"%d\n" % count, b""), Answer(0, b"%d\n" % (count + 1), b"")), count, "answered, and then", found)
+        want(found in (Answer(0, b"%d\n" % count, b""), Answer(0, b"%d\n" % (count + 1), b"")), count,
+             "answered, and then", found)
         yield "a full file system", FAULT, FAULT, None
     finally:
         system.umount(place.encode())

@@ -41,7 +41,8 @@ def closed_streams(room):
         before = room.files()
         closed = [number for number in range(3) if streams >> number & 1]
         feeds = 0 not in closed
-        child = subprocess.Popen([room.program, "run", room.store], stdin=subprocess.PIPE if feeds else None, stdout=subprocess.PIPE,
+        child = subprocess.Popen([room.program, "run", room.store], stdin=subprocess.PIPE if feeds else None,
+                                 stdout=subprocess.PIPE,
                                  stderr=subprocess.PIPE, preexec_fn=lambda: [os.close(number) for number in closed])
         child.communicate(b"(GET 'A 'N)\n(FROB)\n" if feeds else None, timeout=PATIENCE)
         want(child.returncode >= 0, "with", closed, "closed it ended by signal", -child.returncode)
@@ -57,7 +58,8 @@ def reader_gone(room):
     room.put(None)
     read, write = os.pipe()
     os.close(read)
-    child = subprocess.Popen([room.program, "run", room.store], stdin=subprocess.PIPE, stdout=write, stderr=subprocess.PIPE)
+    child = subprocess.Popen([room.program, "run", room.store], stdin=subprocess.PIPE, stdout=write,
+                             stderr=subprocess.PIPE)
     os.close(write)
     _, faults = child.communicate(form(1) + form(2), timeout=PATIENCE)
     want((child.returncode, faults) == (3, OUTPUT), "nobody reads:", child.returncode, faults)
@@ -68,7 +70,8 @@ def reader_gone(room):
 def two_processes(room):
     """A second process on the folder is refused; the first one goes on, and nothing of it is lost."""
     room.put(None)
-    first = subprocess.Popen([room.program, "run", room.store], stdin=subprocess.PIPE, stdout=subprocess.PIPE, stderr=subprocess.PIPE)
+    first = subprocess.Popen([room.program, "run", room.store], stdin=subprocess.PIPE, stdout=subprocess.PIPE,
+                             stderr=subprocess.PIPE)
     half, end = os.path.join(room.store, "half-a"), time.monotonic() + PATIENCE
     while not (os.path.exists(half) and os.path.getsize(half) == NEW_STORE) and time.monotonic() < end:
         time.sleep(0.01)
@@ -78,7 +81,8 @@ def two_processes(room):
         first.stdin.write(form(number))
         first.stdin.flush()
     answers, faults = first.communicate(timeout=PATIENCE)
-    want((first.returncode, answers, faults) == (0, b"1\n2\n", b""), "the first process:", first.returncode, answers, faults)
+    want((first.returncode, answers, faults) == (0, b"1\n2\n", b""), "the first process:", first.returncode, answers,
+         faults)
     want(count_in(room) == 2, "what the first process stored")
     return 2
 
@@ -164,7 +168,8 @@ def killed(room, times):
             forms.write(b"".join(form(stored + number + 1) for number in range(2000)))
             forms.seek(0)
             every = dice.choice(["1", "2", "7", "100", "1000000"])
-            child = subprocess.Popen([room.program, "run", room.store, "--snapshot-every", every], stdin=forms, stdout=subprocess.PIPE,
+            child = subprocess.Popen([room.program, "run", room.store, "--snapshot-every", every], stdin=forms,
+                                     stdout=subprocess.PIPE,
                                      stderr=subprocess.DEVNULL)
             # each second kill comes after some answers, however slow the machine is
             seen = [child.stdout.readline() for _ in range(dice.randrange(1, 100))] if turn % 2 else []
@@ -185,7 +190,8 @@ def killed(room, times):
 def run(room, kills, is_long):
     """So many kills, and what needs 3 GB of memory where that is asked for. Gives how many runs there were, and of
     what."""
-    kinds = {"closed streams": closed_streams(room), "readers that are gone": reader_gone(room), "second processes": two_processes(room), "files that may not grow": no_room(room)}
+    kinds = {"closed streams": closed_streams(room), "readers that are gone": reader_gone(room),
+             "second processes": two_processes(room), "files that may not grow": no_room(room)}
     if is_long:
         kinds["full halves"] = full(room) + full_of_messages(room)
     kinds["kills between two answers"] = killed(room, kills)

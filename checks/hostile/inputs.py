@@ -52,7 +52,8 @@ TEXTS = {
     "a numeric argument of zeros": b"#" + b"0" * 1_000_000 + b"(\n",
     "a large value": b"(SETF (GET 'A 'B) '#999999(A))\n(GET 'A 'B)\n",
     "40 large values": forms(b"(SETF (GET 'A 'B%d) '#999999(A))\n", range(40)),
-    "a list of 4,000 large values": forms(b"(SETF (GET 'A 'B%d) '#999999(A))\n", range(4)) + b"(LIST " + b"(GET 'A 'B0)" * 4000 + b")\n",
+    "a list of 4,000 large values": forms(b"(SETF (GET 'A 'B%d) '#999999(A))\n",
+                                          range(4)) + b"(LIST " + b"(GET 'A 'B0)" * 4000 + b")\n",
     "3,000 large lists": b"(PROGN " + b"(LIST '#999998(A))" * 3000 + b")\n",
     "a list that doubles": b"(SETF (GET 'A 'B) '(1))\n" + b"(SETF (GET 'A 'B) (LIST (GET 'A 'B) (GET 'A 'B)))\n" * 25,
     "case inverted": b"(SETF (READTABLE-CASE *READTABLE*) :INVERT)\n'" + b"aB" * 2048 + b"\n",
@@ -83,8 +84,10 @@ def tried(room, text):
     room.put(None)
     with open(room.path("input"), "wb") as file:
         file.write(text)
-    with open(room.path("input"), "rb") as given, open(room.path("output"), "wb") as answers, open(room.path("faults"), "wb") as faults:
-        child = subprocess.Popen([room.program, "run", room.store], stdin=given, stdout=answers, stderr=faults, preexec_fn=limited)
+    with open(room.path("input"), "rb") as given, open(room.path("output"),
+                                                       "wb") as answers, open(room.path("faults"), "wb") as faults:
+        child = subprocess.Popen([room.program, "run", room.store], stdin=given, stdout=answers, stderr=faults,
+                                 preexec_fn=limited)
         _, status, used = os.wait4(child.pid, 0)
         child.returncode = os.waitstatus_to_exitcode(status)
     with open(room.path("faults"), "rb") as file:

@@ -24,7 +24,8 @@ class Writer:
     """A session that sets a property to 1, 2 and so on, and counts."""
 
     def __init__(self, room, words):
-        self.session = subprocess.Popen([room.program, "run", room.store, *words], stdin=subprocess.PIPE, stdout=subprocess.PIPE)
+        self.session = subprocess.Popen([room.program, "run", room.store, *words], stdin=subprocess.PIPE,
+                                        stdout=subprocess.PIPE)
         self.number = 0
 
     def write(self, forms):
@@ -41,7 +42,8 @@ class Writer:
 def looked(room, stops, words, act):
     """What a look tells that is stopped before each of its reads, and how many there were. Before read n `act(n)` is
     done."""
-    child = subprocess.Popen([room.program, *words], stdin=subprocess.DEVNULL, stdout=subprocess.PIPE, stderr=subprocess.PIPE,
+    child = subprocess.Popen([room.program, *words], stdin=subprocess.DEVNULL, stdout=subprocess.PIPE,
+                             stderr=subprocess.PIPE,
                              env={**os.environ, "LD_PRELOAD": stops, "STOPS": "1"})
     reads = 0
     while True:
@@ -60,14 +62,16 @@ NUMBER = {"show": rb"^A N (\d+)$", "dump": rb"^\(\(A N (\d+)\)\)$", "export": rb
 
 
 def call(room, *words, **how):
-    done = subprocess.run([room.program, *words], stdin=subprocess.DEVNULL, capture_output=True, timeout=PATIENCE, **how)
+    done = subprocess.run([room.program, *words], stdin=subprocess.DEVNULL, capture_output=True, timeout=PATIENCE,
+                          **how)
     return Answer(done.returncode, done.stdout, done.stderr)
 
 
 def words_of(room, kind):
     """The words of a look, and where a backup goes to."""
     copy = room.path("copy")
-    return {"show": ["show", room.store], "backup": ["backup", room.store, copy]}.get(kind, [kind, room.store, "--existing"]), copy
+    return {"show": ["show", room.store],
+            "backup": ["backup", room.store, copy]}.get(kind, [kind, room.store, "--existing"]), copy
 
 
 def number_in(room, kind, got, *what):
@@ -89,7 +93,8 @@ def seen_between(room, stops, kind, options, forms, moment):
     writer = Writer(room, options)
     writer.write(3)
     before = writer.number
-    got, reads = looked(room, stops, words_of(room, kind)[0], lambda read: writer.write(forms) if read == moment or moment is None and read < 40 else None)
+    got, reads = looked(room, stops, words_of(room, kind)[0],
+                        lambda read: writer.write(forms) if read == moment or moment is None and read < 40 else None)
     number = number_in(room, kind, got, options, forms, "before read", moment)
     want(before <= number <= writer.number, kind, options, "shows", number, "of", before, "to", writer.number)
     writer.end()
@@ -128,9 +133,12 @@ def backups(room):
     copy, partial = room.path("copy"), room.path("copy.partial")
     call(room, "run", room.store)
     for most, wanted in ((100, b"! 60 DEVICE\nFile too large (os error 27)\n"), (1000, b"")):
-        got = call(room, "backup", room.store, copy, preexec_fn=lambda: (signal.signal(signal.SIGXFSZ, signal.SIG_IGN), resource.setrlimit(resource.RLIMIT_FSIZE, (most, most))))
+        got = call(room, "backup", room.store, copy,
+                   preexec_fn=lambda: (signal.signal(signal.SIGXFSZ, signal.SIG_IGN),
+                                       resource.setrlimit(resource.RLIMIT_FSIZE, (most, most))))
         want(got == Answer(3 if wanted else 0, b"", wanted), "a backup in files of", most, "bytes:", got)
-        want(os.path.exists(copy) == (not wanted) and not os.path.exists(partial), "a backup in files of", most, "bytes leaves something")
+        want(os.path.exists(copy) == (not wanted) and not os.path.exists(partial), "a backup in files of", most,
+             "bytes leaves something")
     shutil.rmtree(copy)
     os.mkdir(partial)
     got = call(room, "backup", room.store, copy)
@@ -155,7 +163,8 @@ def without_rights(room):
     os.chmod(room.store, 0o555)
     for half in ("half-a", "half-b"):
         os.chmod(os.path.join(room.store, half), 0o444)
-    for words in (["show"], ["info"], ["log"], ["dump", "--existing"], ["verify", "--existing"], ["export", "--existing"], ["dump", "--at", "0"]):
+    for words in (["show"], ["info"], ["log"], ["dump", "--existing"], ["verify", "--existing"],
+                  ["export", "--existing"], ["dump", "--at", "0"]):
         done = subprocess.run([program, words[0], room.store, *words[1:]], capture_output=True, preexec_fn=nobody)
         want((done.returncode, done.stderr) == (0, b""), words, "without the right to write:", done)
         runs += 1
@@ -176,29 +185,35 @@ def mounted_read_only(room):
     It wants a namespace of its own, and to mount in it, which some systems allow to nobody."""
     place = room.path("mounted")
     os.mkdir(place)
-    if shutil.which("unshare") is None or subprocess.run(["unshare", "-rm", "sh", "-c", MOUNTS, "sh", place], capture_output=True).returncode:
+    if shutil.which("unshare") is None or subprocess.run(["unshare", "-rm", "sh", "-c", MOUNTS, "sh", place],
+                                                         capture_output=True).returncode:
         os.rmdir(place)
         return 0
     room.put(None)
     subprocess.run([room.program, "run", room.store], input=b"(SETF (GET 'A 'N) 1)\n", capture_output=True)
 
     def there(*words):
-        call = ["unshare", "-rm", "sh", "-c", READ_ONLY, "sh", place, room.store, os.path.abspath(room.program), words[0], "store", *words[1:]]
+        call = ["unshare", "-rm", "sh", "-c", READ_ONLY, "sh", place, room.store, os.path.abspath(room.program),
+                words[0], "store", *words[1:]]
         done = subprocess.run(call, stdin=subprocess.DEVNULL, capture_output=True, timeout=PATIENCE)
         return Answer(done.returncode, done.stdout, done.stderr)
 
-    looks = (["show"], ["log"], ["dump", "--existing"], ["verify", "--existing"], ["export", "--existing"], ["dump", "--at", "1"])
+    looks = (["show"], ["log"], ["dump", "--existing"], ["verify", "--existing"], ["export", "--existing"],
+             ["dump", "--at", "1"])
     for words in looks:
-        want(there(*words) == call(room, words[0], room.store, *words[1:]), words, "on a file system that is read alone:", there(*words))
+        want(there(*words) == call(room, words[0], room.store, *words[1:]), words,
+             "on a file system that is read alone:", there(*words))
     writes = (["run", "--existing"], ["snapshot"], ["dump"], ["backup", "copy"])
     for words in writes:
-        want(there(*words) == Answer(3, b"", b"! 60 DEVICE\nRead-only file system (os error 30)\n"), words, "there:", there(*words))
+        want(there(*words) == Answer(3, b"", b"! 60 DEVICE\nRead-only file system (os error 30)\n"), words, "there:",
+             there(*words))
     os.rmdir(place)
     return len(looks) + len(writes)
 
 
 def run(room):
     stops = library("stops", room)
-    counts = {"between reads": between(room, stops), "without an end": never_had(room, stops), "backups": backups(room), "without rights": without_rights(room),
+    counts = {"between reads": between(room, stops), "without an end": never_had(room, stops), "backups": backups(room),
+              "without rights": without_rights(room),
               "read-only": mounted_read_only(room)}
     return sum(counts.values()), ", ".join(f"{count} {kind}" for kind, count in counts.items())

@@ -5,7 +5,8 @@ import random
 from hostile.store import answers, check_world, courses, library
 from lib.wanted import want
 
-NAMES = ("property", "brackets", "snapshots", "together", "more snapshots", "a closed half", "operators", "messages", "more messages", "snapshot", "version 1",
+NAMES = ("property", "brackets", "snapshots", "together", "more snapshots", "a closed half", "operators", "messages",
+         "more messages", "snapshot", "version 1",
          "upgrade")
 
 

@@ -65,7 +65,8 @@ def outcomes(room, folder, name, step, loaded, most, before_it):
     every = max(1, -(-total // most))
     for number in range(1 + before_it % every, total + 1, every):
         got, words = tried(number)
-        want(words is not None and words[1] == "1", name, step.words, "growth", number, "was not refused, or the program did not end")
+        want(words is not None and words[1] == "1", name, step.words, "growth", number,
+             "was not refused, or the program did not end")
         told = without_count(step.words, got.err)
         is_short = got.status == 3 and told in shortages(step.words) and ample.out.startswith(got.out)
         is_same = got == ample or is_without_tip(got, ample)

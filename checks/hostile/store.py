@@ -93,19 +93,24 @@ SESSIONS = [
             b"(SETF (GET 'A 'B) 9)\n(GET 'A 'B)\n(SETF (GET 'A 'C) 10)\n(INCF (GET 'A 'C))\n", "snapshots"),
     Session("sharp sign", ["run"], b"(LIST #xFF #36rZ #b-1/10 #\\space)\n'(#:a #'f #|x #|y|# z|# \"\")\n", None),
     Session("dispatch", ["run"],
-            b"(MAKE-DISPATCH-MACRO-CHARACTER #\\@)\n(SET-DISPATCH-MACRO-CHARACTER #\\@ #\\s :SCALE)\n@3S14\n@S14\n", None),
+            b"(MAKE-DISPATCH-MACRO-CHARACTER #\\@)\n(SET-DISPATCH-MACRO-CHARACTER #\\@ #\\s :SCALE)\n@3S14\n@S14\n",
+            None),
     Session("a closed half", ["run", "--snapshot-every", "1"], b"(SETF (GET 'A 'B) 7)\n(SETF (GET 'A 'B) 8)\n", CLOSED),
     Session("operators", ["run", "--snapshot-every", "3"], OPERATORS, None),
     Session("messages", ["run", "--messages"], MESSAGES, None),
     Session("more messages", ["run", "--messages", "--snapshot-every", "1"],
-            message(9, b"(INCF (GET 'A 'B) 10)") + question(b"(GET 'A 'B)") + message(10, b"(SETF (GET 'A 'C) 9)"), "messages"),
-    Session("after operators", ["run", "--snapshot-every", "1"], b"(setf (get 'b 'x) (symbol-plist 'a))\n(get 'b 'x)\n", "operators"),
+            message(9, b"(INCF (GET 'A 'B) 10)") + question(b"(GET 'A 'B)") + message(10, b"(SETF (GET 'A 'C) 9)"),
+            "messages"),
+    Session("after operators", ["run", "--snapshot-every", "1"], b"(setf (get 'b 'x) (symbol-plist 'a))\n(get 'b 'x)\n",
+            "operators"),
     Session("dump", ["dump"], b"", "operators"),
     Session("verify", ["verify"], b"", "operators"),
     Session("snapshot", ["snapshot"], b"", "operators"),
     Session("a further snapshot", ["snapshot", "--existing"], b"", "snapshot"),
-    Session("strict", ["run", "--strict"], b"(SETF (GET 'A 'B) 7)\n(SETF (GET 'A 'B) 8)\n(FROB)\n(SETF (GET 'A 'B) 9)\n", None),
-    Session("version 1", ["run", "--snapshot-every", "2"], b"(SETF (GET 'A 'B) 8)\n(SETF (GET 'A 'B) 17)\n(SETF (GET 'A 'B) 18)\n", VERSION_1),
+    Session("strict", ["run", "--strict"],
+            b"(SETF (GET 'A 'B) 7)\n(SETF (GET 'A 'B) 8)\n(FROB)\n(SETF (GET 'A 'B) 9)\n", None),
+    Session("version 1", ["run", "--snapshot-every", "2"],
+            b"(SETF (GET 'A 'B) 8)\n(SETF (GET 'A 'B) 17)\n(SETF (GET 'A 'B) 18)\n", VERSION_1),
     Session("upgrade", ["upgrade"], b"", VERSION_1),
     Session("export", ["export"], b"", "operators"),
     Session("export of data", ["export", "--data"], b"", "operators"),
@@ -118,7 +123,8 @@ def library(name, room):
     for folder in (room.folder, room.code):
         built = kit.shared(os.path.join(HERE, f"{name}.c"), os.path.join(folder, f"{name}.so"))
         log = room.path("loaded")
-        subprocess.run(["/bin/true"], env={"LD_PRELOAD": built, f"{name.upper()}_LOG": log}, capture_output=True, check=True)
+        subprocess.run(["/bin/true"], env={"LD_PRELOAD": built, f"{name.upper()}_LOG": log}, capture_output=True,
+                       check=True)
         if os.path.exists(log):
             os.unlink(log)
             return built
@@ -220,6 +226,7 @@ def check_world(room, one, answered, apart=True):
     want(verified.status == 0, one.session.name, "not verified:", verified)
     if one.session.words[0] == "upgrade":
         again = room.run(["upgrade"])
-        want(again == Answer(0, b"version 2\n", b"") and room.run(["dump"]).out == dump.out, one.session.name, "not made whole:", again)
+        want(again == Answer(0, b"version 2\n", b"") and room.run(["dump"]).out == dump.out, one.session.name,
+             "not made whole:", again)
     more = room.run(["run", "--rescue"], ONE_MORE)
     want(more == Answer(0, b"9\n", b""), one.session.name, "one more form:", more)

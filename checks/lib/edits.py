@@ -16,8 +16,8 @@ Hunk = tuple[int, int, list[str]]
 
 
 class Function(NamedTuple):
-    """A function of a file: the end of its name in a check, its cycle if it is of one, and the lines at which it begins,
-    its body begins, and it ends."""
+    """A function of a file: the end of its name in a check, its cycle if it is of one, and the lines at which it, its
+    body and its end stand."""
 
     path: str
     cycle: str | None

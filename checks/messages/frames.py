@@ -101,7 +101,8 @@ def dump(program, folder):
     """What a store holds, without the position."""
     told = subprocess.run([*program, "dump", folder], capture_output=True, timeout=LIMIT)
     assert told.returncode == 0, f"dump: {told.stderr!r}"
-    return re.sub(rb"[0-9]+", b"N", b"\n".join(line for line in told.stdout.split(b"\n") if b"position" in line)), b"\n".join(
+    return re.sub(rb"[0-9]+", b"N",
+                  b"\n".join(line for line in told.stdout.split(b"\n") if b"position" in line)), b"\n".join(
         line for line in told.stdout.split(b"\n") if b"position" not in line
     )
 

@@ -138,11 +138,13 @@ class Maker:
 
     def other_change(self):
         if self.chance.random() < 0.3:
-            return self.chance.choice([b"(INCF (GET 'TEXT 'KY))", b"(NOTHING)", b"(SETF (GET '|position| '|position|) 5)"])
+            return self.chance.choice([b"(INCF (GET 'TEXT 'KY))", b"(NOTHING)",
+                                       b"(SETF (GET '|position| '|position|) 5)"])
         if self.chance.random() < 0.3:
             return b"(PUSH %d (GET 'LIST%d 'KY))" % (self.chance.randrange(8), self.chance.randrange(100))
         words = [b"one\n", b"! 31 two", b"do 1 2\n", b"(three", b"ask"]
-        return b"(SETF (GET 'TEXT 'KY) \"%s\")" % b" ".join(self.chance.choice(words) for _ in range(self.chance.randrange(4)))
+        return b"(SETF (GET 'TEXT 'KY) \"%s\")" % b" ".join(self.chance.choice(words)
+                                                            for _ in range(self.chance.randrange(4)))
 
     def setting(self):
         """What changes how the next forms are read, and what would show the position."""
