@@ -1,10 +1,10 @@
 -- PUSH before a list that is moved.
 --     within_depth      how deep an item is
---     before_depth, before_size      how deep and how large a list is with a value more in front
+--     before_depth, before_size, pushed_size, pushed_depth      how deep and how large a list is with a value more in front
 --     list_within      how deep a property is
 --     pair_held      a property that is a pair
 --     too_deep, too_large, built_up      what comes of a value that is built
-use Rattle.std.proofs.Common.{◌≡◌, ◌≤◌, ◌+◌, ◌-◌, ◌^◌, ℕ, true, false, max, min, nat_lt, unwrap_or, cond, Some, Err, refl, sym, ap, subst, ◌∙◌, arith}
+use Rattle.std.proofs.Common.{◌≡◌, ◌≤◌, ◌+◌, ◌-◌, ◌^◌, ℕ, true, false, max, min, nat_lt, unwrap_or, cond, Bool, Option, None, Some, Err, refl, sym, ap, subst, ◌∙◌, arith}
 use Rattle.std.proofs.lemmas.Bool.{false≢true}
 use Rattle.std.proofs.lemmas.Bool.Decides.{nat_tests}
 use Rattle.lisp_object.specs.Object.{Object, integer, rational, character, text, symbol, uninterned, pair, vector, nil, object_depth, object_size, depth_along, size_along}
@@ -12,7 +12,7 @@ use Rattle.plist_state.specs.Properties.{Symbol}
 use Rattle.plist_state.specs.State.{WorldState}
 use Rattle.plist_state.specs.Changes.{property}
 use Rattle.plist_state.specs.Sound.{IsSound}
-use Rattle.plist_state.specs.Pushed.{holds_pair}
+use Rattle.plist_state.specs.Pushed.{holds_pair, pair_size, pushed}
 use Rattle.lisp_object.specs.declared.refusal.TheConstants.{VALUE_TOO_DEEP, LIMIT}
 use Rattle.lisp_operators.specs.Kinds.{is_pair}
 use Rattle.lisp_operators.specs.Evaluation.{Evaluation}
@@ -36,24 +36,53 @@ before_depth a (symbol h n) some within = absurd (false≢true some)
 before_depth a (uninterned n) some within = absurd (false≢true some)
 before_depth a (vector xs) some within = absurd (false≢true some)
 
-together : (x y z : ℕ) → nat_lt 1000000 (min (min x (2 ^ 64 - 1) + min (y + z + 1) (2 ^ 64 - 1)) (2 ^ 64 - 1)) ≡ nat_lt 1000000 (x + (y + z) + 1)
-together x y z = grind (arith, nat_tests)
+together : (x y z n : ℕ) → min (y + z + 1) (2 ^ 64 - 1) ≡ n → min (min x (2 ^ 64 - 1) + n) (2 ^ 64 - 1) ≡ min (x + (y + z) + 1) (2 ^ 64 - 1)
+together x y z n is = grind (arith, nat_tests, is)
 
-pub before_size : (a list : Object) → holds_pair (Some list) ≡ true
-    → nat_lt 1000000 (min (min (object_size a) (2 ^ 64 - 1) + min (object_size list) (2 ^ 64 - 1)) (2 ^ 64 - 1)) ≡ nat_lt 1000000 (object_size (pair a list))
-before_size a (pair b c) some = together (object_size a) (object_size b) (size_along c)
-before_size a (integer n) some = absurd (false≢true some)
-before_size a (rational n d) some = absurd (false≢true some)
-before_size a (character c) some = absurd (false≢true some)
-before_size a (text b) some = absurd (false≢true some)
-before_size a (symbol h n) some = absurd (false≢true some)
-before_size a (uninterned n) some = absurd (false≢true some)
-before_size a (vector xs) some = absurd (false≢true some)
+-- a value that has the size of a pair is one
+pub sized_pair : (x : Object) (n : ℕ) → pair_size (Some x) ≡ Some n → holds_pair (Some x) ≡ true
+sized_pair (pair a b) n is = refl
+sized_pair (integer k) n is = absurd (cc)
+sized_pair (rational k d) n is = absurd (cc)
+sized_pair (character k) n is = absurd (cc)
+sized_pair (text b) n is = absurd (cc)
+sized_pair (symbol h k) n is = absurd (cc)
+sized_pair (uninterned k) n is = absurd (cc)
+sized_pair (vector xs) n is = absurd (cc)
+
+-- the size of a list with an item more in front
+pub before_size : (a : Object) (old : Option Object) (n : ℕ) → pair_size old ≡ Some n
+    → pair_size (Some (pushed a old)) ≡ Some (min (min (object_size a) (2 ^ 64 - 1) + n) (2 ^ 64 - 1))
+before_size a None n is = absurd (cc)
+before_size a (Some (pair b c)) n is = ap Some (sym (together (object_size a) (object_size b) (size_along c) n (ap (λ o. unwrap_or o n) is)))
+before_size a (Some (integer k)) n is = absurd (cc)
+before_size a (Some (rational k d)) n is = absurd (cc)
+before_size a (Some (character k)) n is = absurd (cc)
+before_size a (Some (text b)) n is = absurd (cc)
+before_size a (Some (symbol h k)) n is = absurd (cc)
+before_size a (Some (uninterned k)) n is = absurd (cc)
+before_size a (Some (vector xs)) n is = absurd (cc)
+
+within_size : (x n : ℕ) → min x (2 ^ 64 - 1) ≡ n → nat_lt 1000000 x ≡ nat_lt 1000000 n
+within_size x n is = grind (arith, nat_tests, is)
+
+pub pushed_size : (a : Object) (old : Option Object) (n : ℕ) → pair_size (Some (pushed a old)) ≡ Some n → nat_lt 1000000 (object_size (pushed a old)) ≡ nat_lt 1000000 n
+pushed_size a old n is = within_size (object_size (pushed a old)) n (ap (λ o. unwrap_or o n) is)
 
 -- the property of a sound state is within the depth of what may be stored
 pub list_within : (s : WorldState) (x i : Symbol) (list : Object) → IsSound s → Some list ≡ property s x i → object_depth list ≤ 100
 list_within s x i list sound is =
     subst (λ o. object_depth (unwrap_or o nil) ≤ 100) (sym is) ((property_value s x i nil sound (nil_value s.packages sound.packages)).depth)
+
+-- how deep the list is with a value more in front, where its size is known
+pub pushed_depth : (s : WorldState) (x i : Symbol) (v : Object) (n : ℕ) (deep : Bool) → IsSound s → pair_size (property s x i) ≡ Some n
+    → ((list : Object) → holds_pair (Some list) ≡ true → object_depth list ≤ 100 → deep ≡ nat_lt 100 (object_depth (pair v list)))
+    → deep ≡ nat_lt 100 (object_depth (pushed v (property s x i)))
+pushed_depth s x i v n deep sound is before =
+    elim (property s x i) as (λ o. property s x i ≡ o → pair_size o ≡ Some n → deep ≡ nat_lt 100 (object_depth (pushed v o))) [
+      | None ↦ λ e t. absurd (cc)
+      | Some list ↦ λ e t. before list (sized_pair list n t) (list_within s x i list sound (sym e))
+    ] refl is
 
 pub pair_held : (x : Object) → holds_pair (Some x) ≡ is_pair x
 pair_held (integer n) = refl

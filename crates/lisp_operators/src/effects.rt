@@ -1,9 +1,9 @@
 //! GET, SETF and PUSH of a property, where the value that they give is not asked for. The property that GET finds, the value
 //! of SETF, and a list to which PUSH adds, are not copied.
-ghost use Rattle.std.specs.Prelude.{◌≡◌, true, IfErr};
+ghost use Rattle.std.specs.Prelude.{◌≡◌, Some, IfErr};
 ghost use Rattle.lisp_object.specs.Datum.{object_of};
 ghost use Rattle.plist_state.specs.Changes.{property};
-ghost use Rattle.plist_state.specs.Pushed.{holds_pair};
+ghost use Rattle.plist_state.specs.Pushed.{pair_size};
 ghost use Rattle.plist_state.specs.Shown.{symbol_of};
 ghost use Rattle.plist_state.specs.Sound.{IsSymbol};
 ghost use Rattle.lisp_operators.specs.Properties.{get, set, push};
@@ -13,7 +13,9 @@ ghost use Rattle.lisp_operators.specs.Evaluated.{AreArgumentsOf, IsArgument, obj
 use crate::EvaluationError::Refused;
 use crate::arguments::is_given;
 use crate::owned_arguments::{three, two_and_rest};
-use crate::properties::{has_list, property_key, pushed};
+use crate::properties::{property_key, pushed};
+use crate::sizes::size_before;
+use crate::values::LARGEST_SIZE;
 use crate::{EvaluationError, kinds, values};
 use lisp_object::Datum;
 use lisp_object::refusal::{LIMIT, VALUE_TOO_DEEP};
@@ -46,17 +48,18 @@ pub fn set(world: &mut World, values: Vec<Datum>) -> Result<bool, EvaluationErro
     Ok(true)
 }
 
-// PUSH of a value before the list that a property is.
+// PUSH of a value before the list that a property is, which has this size. The list is not looked at.
 fn put_before(
     world: &mut World,
     symbol: &Symbol,
     indicator: &Symbol,
     value: Datum,
+    list: u64,
 ) -> Result<bool, EvaluationError>
     requires symbol { IsSymbol world.old.0.packages (symbol_of symbol.now) }
     requires indicator { IsSymbol world.old.0.packages (symbol_of indicator.now) }
-    requires list { holds_pair
-        (property world.old.0 (symbol_of symbol.now) (symbol_of indicator.now)) ≡ true }
+    requires list { pair_size
+        (property world.old.0 (symbol_of symbol.now) (symbol_of indicator.now)) ≡ Some list }
     requires value { IsArgument world.old.0.packages value }
     ensures gives { Leaves result world.new.0
         (pushes world.old.0 (symbol_of symbol.now) (symbol_of indicator.now) (object_of value)) }
@@ -64,16 +67,14 @@ fn put_before(
     ensures marked { world.new.1 ≡ world.old.1 }
 {
     world.soundness();
-    let Some(list) = world.get(symbol, indicator) else {
-        unreachable!()
-    };
     if values::is_too_deep_within(&value) {
         return Err(Refused(VALUE_TOO_DEEP));
     }
-    if values::is_too_large_before(&value, list) {
+    let size = size_before(&value, list);
+    if size > LARGEST_SIZE {
         return Err(Refused(LIMIT));
     }
-    world.push(symbol, indicator, value)?;
+    world.push(symbol, indicator, value, size)?;
     Ok(true)
 }
 
@@ -115,9 +116,8 @@ pub fn push(alloc: Global, world: &mut World, values: Vec<Datum>) -> Result<bool
 {
     let (value, symbol, indicator) = three(values)?;
     let (symbol, indicator) = property_key(symbol, indicator)?;
-    if has_list(world, &symbol, &indicator) {
-        put_before(world, &symbol, &indicator, value)
-    } else {
-        put_pair(alloc, world, &symbol, indicator, &value)
+    match world.list_size(&symbol, &indicator) {
+        Some(list) => put_before(world, &symbol, &indicator, value, list),
+        None => put_pair(alloc, world, &symbol, indicator, &value),
     }
 }

@@ -14,6 +14,7 @@ ghost use Rattle.lisp_operators.specs.Evaluated.{IsOfKind, IsPropertyKey, object
 use crate::EvaluationError::Refused;
 use crate::arguments::given_or_nil;
 use crate::owned_arguments::{one, three, two, two_and_rest};
+use crate::values::LARGEST_SIZE;
 use crate::{Evaluated, EvaluationError, kinds, values};
 use lisp_object::Datum;
 use lisp_object::refusal::{ARGUMENT_KIND, INTEGER_RANGE, LIMIT, VALUE_TOO_DEEP};
@@ -196,8 +197,8 @@ pub fn increment(
     })
 }
 
-/// Whether a property is a list with an item.
-pub(crate) fn has_list(world: &World, symbol: &Symbol, indicator: &Symbol) -> bool
+// Whether a property is a list with an item.
+fn has_list(world: &World, symbol: &Symbol, indicator: &Symbol) -> bool
     ensures { result ≡ holds_pair (property world.now.0 (symbol_of symbol.now) (symbol_of indicator.now)) }
 {
     match world.get(symbol, indicator) {
@@ -241,7 +242,8 @@ pub fn push(
     if values::is_too_deep(&value) {
         return Err(Refused(VALUE_TOO_DEEP));
     }
-    if values::is_too_large(&value) {
+    let size = value.size();
+    if size > LARGEST_SIZE {
         return Err(Refused(LIMIT));
     }
     world.soundness();
@@ -249,6 +251,6 @@ pub fn push(
         return store(alloc, world, &symbol, indicator, value);
     }
     // The list that is there is moved, and the answer is its only copy.
-    world.push(&symbol, &indicator, first)?;
+    world.push(&symbol, &indicator, first, size)?;
     Ok(Evaluated { value, wrote: true })
 }

@@ -1,7 +1,8 @@
 //! How large lists are. Where most items are atoms it costs less than `Datum::size`, which calls itself for each.
-ghost use Rattle.std.specs.Prelude.{◌≡◌, ◌-◌, ◌^◌, min, sum, map};
-ghost use Rattle.lisp_object.specs.Object.{object_size};
+ghost use Rattle.std.specs.Prelude.{◌≡◌, ◌-◌, ◌^◌, min, sum, map, Option, Some};
+ghost use Rattle.lisp_object.specs.Object.{Object, object_size};
 ghost use Rattle.lisp_object.specs.Datum.{object_of, size};
+ghost use Rattle.plist_state.specs.Pushed.{pair_size, pushed};
 ghost use Rattle.lisp_operators.specs.Evaluated.{IsProper};
 
 use lisp_object::Datum;
@@ -43,4 +44,14 @@ pub(crate) fn size_of(datum: &Datum) -> u64
         }
         _ => datum.size(),
     }
+}
+
+/// The size of a list of this size with an item more in front.
+#[tactic(auto, using(crate::proofs::Pushes::before_size))]
+pub(crate) fn size_before(first: &Datum, list: u64) -> u64
+    requires { IsProper first.now }
+    ensures { (old : Option Object) → pair_size old ≡ Some list
+        → pair_size (Some (pushed (object_of first.now) old)) ≡ Some result }
+{
+    size_of(first).saturating_add(list)
 }

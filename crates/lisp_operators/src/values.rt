@@ -10,7 +10,6 @@ ghost use Rattle.lisp_operators.specs.Properties.{t, list};
 ghost use Rattle.lisp_operators.specs.Evaluated.{Answers, done, IsProper, IsProperValue, IsAscii, objects};
 
 use crate::EvaluationError::Refused;
-use crate::sizes::size_of;
 use crate::{Evaluated, EvaluationError};
 use lisp_object::refusal::{LIMIT, VALUE_TOO_DEEP};
 use lisp_object::{Bytes, Datum, Items};
@@ -96,17 +95,6 @@ pub fn is_too_deep_within(item: &Datum) -> bool
         → result ≡ nat_lt 100 (object_depth (pair (object_of item.now) list)) }
 {
     item.depth() > MOST_LEVELS_WITHIN
-}
-
-/// Whether a list with an item more in front is larger than one that is built may be.
-#[tactic(auto, using(crate::proofs::Pushes::before_size))]
-pub(crate) fn is_too_large_before(first: &Datum, list: &Datum) -> bool
-    requires first { IsProper first.now }
-    requires list { IsProper list.now }
-    requires pair { holds_pair (Some (object_of list.now)) ≡ true }
-    ensures { result ≡ nat_lt 1000000 (object_size (pair (object_of first.now) (object_of list.now))) }
-{
-    size_of(first).saturating_add(size_of(list)) > LARGEST_SIZE
 }
 
 /// LIST: the list of these values.

@@ -35,6 +35,7 @@ module _ (a : Inside) (tables : BTreeMap (Vec ℕ) Table) (marks : Vec (Vec Note
       record {
         values = kept.values;
         indexed = kept.indexed;
+        sizes = kept.sizes;
         owned = kept.owned;
         sound = kept_gives r (state_in (numbered a.packages) (rest_of a.stored)) (readtables_of tables) said gives unchanged kept.sound sound;
         marked = kept_continued a.packages.1.marked (marks_of a.marks.items) (rest_of a.stored) rows kept.marked (marks_of marks.items) _ rows

@@ -19,3 +19,4 @@ pub mod Marking
 pub mod Left
 pub mod Viewed
 pub mod Pushed
+pub mod Sized

@@ -2,11 +2,14 @@
 --     length_marked, marked_push, marked_take, marked_get      as many, one more, the first ones, one of them
 --     world_same, refused_same      a world that was left as it was
 --     kept_none, kept_continued, kept_push, kept_back      what is kept of the marks
+--     nothing_since      the newest mark, since which nothing was noted
 --     state_at, sound_at, owned_at, gone_back      the state that is gone back to, and the whole world
-use Rattle.std.proofs.Common.{◌≡◌, ℕ, zero, suc, Some, List, [], ◌∷◌, ◌++◌, length, take, Result, Ok, Err, refl, sym, ap, subst, ◌∙◌, arith}
+use Rattle.std.proofs.Common.{◌≡◌, ℕ, zero, suc, ◌+◌, ◌-◌, Some, List, [], ◌∷◌, ◌++◌, length, take, Result, Ok, Err, refl, sym, ap, subst, ◌∙◌, arith}
 use Rattle.std.specs.Prelude.{All, IfErr}
 use Rattle.std.specs.List.{slice_get}
 use Rattle.std.proofs.lemmas.Option.{slice_get_within, get_or_from_slice_get}
+use Rattle.std.specs.Global.{Vec}
+use Rattle.std.proofs.lemmas.List.{length-map, length_push, map_push}
 use Rattle.std.proofs.lemmas.List.Elements.{All-nil, All-push, All-take}
 use Rattle.package_table.specs.Numbers.{Numbered, Tables, numbered}
 use Rattle.plist_state.specs.declared.note.Note.{Note}
@@ -15,11 +18,12 @@ use Rattle.plist_state.specs.Lists.{IsOwned}
 use Rattle.plist_state.specs.Shown.{NumberedRest, Rows}
 use Rattle.plist_state.specs.Kept.{IsWider}
 use Rattle.plist_state.specs.Undoing.{rests_at}
-use Rattle.plist_state.specs.Journal.{Fits, IsJournal, Continues}
+use Rattle.plist_state.specs.Journal.{marks_of, Fits, IsJournal, Continues}
 use Rattle.plist_state.specs.Marked.{state_in, marked_states, AreOwned, AreKept}
 use Rattle.plist_state.specs.Sound.{IsSound}
 use Rattle.package_table.proofs.Names.{same_some}
-use Rattle.plist_state.proofs.Notes.{rests_push, length-rests, journal_put, journal_wider}
+use Rattle.plist_state.proofs.Restored.{ends_with}
+use Rattle.plist_state.proofs.Notes.{notes_of, rests_push, length-rests, journal_put, journal_wider}
 
 pub length_marked : (ts : List Numbered) (rs : List NumberedRest) → length ts ≡ length rs → length (marked_states ts rs) ≡ length ts
 length_marked [] rs e = refl
@@ -170,3 +174,15 @@ gone_back w new later old mark past now is count =
     let states : new.1 ≡ w.1 = past ∙ (λ i. take (sym count i) (is i)) ∙ first_marks w.1 w.0 later in
     let state : Some new.0 ≡ Some w.0 = sym now ∙ (λ i. slice_get (is i) (sym count i)) ∙ this_mark w.1 w.0 later in
     (λ i. (same_some new.0 w.0 state i, states i))
+
+-- since the newest mark nothing was noted
+pub nothing_since : (ms : List (Vec Note)) (newest : Vec Note) → Some newest ≡ slice_get ms (length ms - 1) → newest.items ≡ [] → (mark : ℕ) → mark + 1 ≡ length ms
+    → (r : NumberedRest) → slice_get (rests_at (marks_of ms) r) mark ≡ Some r
+nothing_since ms newest is none mark last r =
+    let split : (before : List (Vec Note)) × (ms ≡ before ++ newest ∷ []) = ends_with ms newest is in
+    let marks : marks_of ms ≡ marks_of split.0 ++ [] ∷ [] = ap marks_of split.1 ∙ map_push notes_of split.0 newest ∙ ap (λ ns. marks_of split.0 ++ ns ∷ []) none in
+    let rests : rests_at (marks_of ms) r ≡ rests_at (marks_of split.0) r ++ r ∷ [] = ap (λ ks. rests_at ks r) marks ∙ rests_push (marks_of split.0) [] r in
+    let before : length (rests_at (marks_of split.0) r) ≡ length split.0 = length-rests (marks_of split.0) r ∙ length-map split.0 notes_of in
+    let all : length ms ≡ length split.0 + 1 = ap length split.1 ∙ length_push split.0 newest in
+    let is_mark : mark ≡ length (rests_at (marks_of split.0) r) = omega (arith, before, all, last) in
+    (λ i. slice_get (rests i) (is_mark i)) ∙ this_mark (rests_at (marks_of split.0) r) r []

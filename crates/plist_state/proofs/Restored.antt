@@ -242,7 +242,7 @@ any_taken test (suc k) (x ∷ xs) some =
 pub any_within : {A : Type 0} (test : A → Bool) (a b : ℕ) (xs : List A) → list_any test (slice_range xs a b) ≡ true → list_any test xs ≡ true
 any_within test a b xs some = any_later test a xs (any_taken test (b - a) (drop a xs) some)
 
-ends_with : {A : Type 0} (xs : List A) (x : A) → Some x ≡ slice_get xs (length xs - 1) → (before : List A) × (xs ≡ before ++ x ∷ [])
+pub ends_with : {A : Type 0} (xs : List A) (x : A) → Some x ≡ slice_get xs (length xs - 1) → (before : List A) × (xs ≡ before ++ x ∷ [])
 ends_with [] x is = absurd (cc)
 ends_with (y ∷ []) x is = ([], ap (λ z. z ∷ []) (same_some (sym is)))
 ends_with {A} (y ∷ z ∷ zs) x is =

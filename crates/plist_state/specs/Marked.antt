@@ -9,6 +9,7 @@ use Rattle.plist_state.specs.Lists.{lists, IsOwned}
 use Rattle.plist_state.specs.Shown.{NumberedRest, Rows, rest_of}
 use Rattle.plist_state.specs.Kept.{IsProperRows}
 use Rattle.plist_state.specs.Indexed.{AreIndexed}
+use Rattle.plist_state.specs.Sizes.{AreSizes}
 use Rattle.plist_state.specs.Undoing.{rests_at}
 use Rattle.plist_state.specs.Journal.{marks_of, IsJournal}
 
@@ -51,10 +52,11 @@ pub record AreKept (ss : List Numbered) (ms : List (List Note)) (r : NumberedRes
   pub owned : AreOwned ss (rests_at ms r)
   pub sound : All IsSound (marked_states ss (rests_at ms r))
 
--- each value is proper, each index is that of its row, each list has its symbol, and the world is sound, now and at each mark
+-- each value is proper, each index is that of its row, each size that of its list, each list has its symbol, and the world is sound, now and at each mark
 pub record IsKept (a : Inside) : Type 0 where
   pub values : IsProperRows a.stored.properties.entries
   pub indexed : AreIndexed a.stored.properties.entries a.stored.indexes.entries
+  pub sizes : AreSizes (rest_of a.stored).properties a.sizes.entries
   pub owned : IsOwned (numbered a.packages) (rest_of a.stored).properties
   pub sound : IsSound (state_in (numbered a.packages) (rest_of a.stored))
   pub marked : AreKept a.packages.1.marked (marks_of a.marks.items) (rest_of a.stored) a.stored.properties.entries

@@ -1,6 +1,6 @@
 -- A value before the one that a property has (standard 14.2, PUSH).
-use Rattle.std.specs.Prelude.{ℕ, Bool, true, false, List, Option, Some, unwrap_or}
-use Rattle.lisp_object.specs.Object.{Object, pair, nil}
+use Rattle.std.specs.Prelude.{ℕ, ◌-◌, ◌^◌, Bool, true, false, min, List, Option, None, Some, unwrap_or}
+use Rattle.lisp_object.specs.Object.{Object, pair, nil, object_size}
 use Rattle.plist_state.specs.Properties.{Symbol, value_by, with_value_by}
 use Rattle.plist_state.specs.State.{WorldState}
 use Rattle.plist_state.specs.Changes.{property, with_property}
@@ -10,6 +10,11 @@ use Rattle.plist_state.specs.Lists.{NumberedLists, same_number, row_of, with_row
 abbrev pub holds_pair : Option Object → Bool
 holds_pair (Some (pair x xs)) = true
 holds_pair _ = false
+
+-- the size of a value that is a pair. More than 2^64-1 counts as that.
+abbrev pub pair_size : Option Object → Option ℕ
+pair_size (Some (pair x xs)) = Some (min (object_size (pair x xs)) (2 ^ 64 - 1))
+pair_size _ = None
 
 -- a value, with another one before it. Where there is none, NIL stands for it.
 abbrev pub pushed : Object → Option Object → Object

@@ -29,13 +29,14 @@
 //! - `error`: `ReadtableError`
 //! - `stored`: what a world keeps besides its packages, over `rows` (property lists by number; `row_index`: the indexes of
 //!   long ones) and `tables` (readtables by name; `copies`: those that are copied)
+//! - `sizes`: how large lists are that items were put before
 //!
 //! # Definitions for the crates above
 //!
 //! - specs/State.antt: `WorldState`, `Worlds`, `Readtables`, `initial`, `first_readtables`, `first_base`, `standard_name`, `user_name`
 //! - specs/Properties.antt: `Symbol`, `Plist`, `Properties`, `symbol_cmp`, `same_symbol`, `value_at`, `with_value`, `list_at`,
 //!   `with_list`
-//! - specs/Changes.antt: what each call makes of a state; specs/Pushed.antt: `pushed`, `with_pushed`, `holds_pair`
+//! - specs/Changes.antt: what each call makes of a state; specs/Pushed.antt: `pushed`, `with_pushed`, `holds_pair`, `pair_size`
 //! - specs/Sound.antt: what holds of each state; specs/Readers.antt: the lists that a world gives
 //! - specs/Shown.antt: `symbol_of`, `symbol_named`, `property_of`; specs/Refused.antt: `number_of`; specs/Codes.antt: `state_code`
 //!
@@ -66,6 +67,7 @@ mod readers;
 mod readtables;
 mod row_index;
 mod rows;
+mod sizes;
 mod stored;
 mod symbol;
 mod tables;

@@ -1,12 +1,41 @@
 //! Going back to a state as it was: `mark`, `back_to`, `settle`.
-ghost use Rattle.std.specs.Prelude.{◌≡◌, ◌<◌, ◌++◌, [], ◌∷◌, List, length, take, Some, IfOk, IfErr};
+ghost use Rattle.std.specs.Prelude.{◌≡◌, ◌<◌, ◌++◌, true, [], ◌∷◌, List, length, take, Some, IfOk, IfErr};
 ghost use Rattle.std.specs.List.{slice_get};
+ghost use Rattle.plist_state.specs.Journal.{marks_of};
+ghost use Rattle.plist_state.specs.Shown.{NumberedRest};
+ghost use Rattle.plist_state.specs.Sizes.{AreSizes};
 ghost use Rattle.plist_state.specs.State.{WorldState, Worlds};
+ghost use Rattle.plist_state.specs.Undoing.{rests_at};
 
 use crate::World;
+use crate::note::Note;
+use crate::sizes::ListSizes;
 use crate::stored::tidy;
 use crate::undo::undo_to;
 use std::alloc::AllocError;
+
+// Whether nothing was noted since this mark, which is the newest.
+fn is_unchanged(marks: &[Vec<Note>], mark: usize) -> bool
+    requires { mark < length marks.now }
+    ensures { result ≡ true → (r : NumberedRest) → slice_get (rests_at (marks_of marks.now) r) mark ≡ Some r }
+{
+    match marks.last() {
+        Some(newest) => newest.is_empty() && mark + 1 == marks.len(),
+        None => false,
+    }
+}
+
+// Forgets the sizes that are noted, where something was noted since this mark.
+fn forget_since(sizes: &mut ListSizes, marks: &[Vec<Note>], mark: usize)
+    requires { mark < length marks.now }
+    ensures { (r u : NumberedRest) → slice_get (rests_at (marks_of marks.now) r) mark ≡ Some u
+        → AreSizes r.properties sizes.old.entries → AreSizes u.properties sizes.new.entries }
+{
+    if is_unchanged(marks, mark) {
+        return;
+    }
+    sizes.clear();
+}
 
 impl World {
     /// Marks the state as it is, so that `back_to` can go back to it, and gives its index among the marks. Nothing is
@@ -43,6 +72,7 @@ impl World {
             → self.old.1 ≡ w.1 ++ w.0 ∷ later → length w.1 ≡ mark → self.new ≡ w }
     {
         self.packages.back_to(mark);
+        forget_since(&mut self.sizes, self.marks.as_slice(), mark);
         undo_to(&mut self.stored, &mut self.marks, mark);
     }
 

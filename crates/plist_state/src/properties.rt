@@ -1,13 +1,13 @@
 //! The calls that change properties.
-ghost use Rattle.std.specs.Prelude.{◌≡◌, true, is_some, IfOk, OnOk, OnErr};
+ghost use Rattle.std.specs.Prelude.{◌≡◌, true, Some, is_some, IfOk, OnOk, OnErr};
 ghost use Rattle.lisp_object.specs.Datum.{object_of, is_proper};
 ghost use Rattle.plist_state.specs.Changes.{property, with_property, without_property};
-ghost use Rattle.plist_state.specs.Pushed.{holds_pair, pushed, with_pushed};
+ghost use Rattle.plist_state.specs.Pushed.{holds_pair, pair_size, pushed, with_pushed};
 ghost use Rattle.plist_state.specs.Shown.{symbol_of, symbol_named};
 ghost use Rattle.plist_state.specs.Sound.{IsSymbol, IsValue};
 
 use crate::numbers::number;
-use crate::{BorrowedSymbol, Symbol, World, stored};
+use crate::{BorrowedSymbol, Symbol, World, sizes, stored};
 use lisp_object::Datum;
 use std::alloc::AllocError;
 
@@ -50,6 +50,7 @@ impl World {
         self.packages.numbering();
         let owner = number(&self.packages, symbol);
         let indicator = number(&self.packages, indicator);
+        sizes::forget(&mut self.sizes, owner, indicator);
         stored::put(
             self.alloc,
             &mut self.stored,
@@ -61,13 +62,14 @@ impl World {
     }
 
     /// Puts a value before the one beside an indicator of a symbol, which is a list with an item (standard 14.2, `push`). The
-    /// list is not copied. Both symbols are there, the value is proper, and the list that is made may be stored. After out of
-    /// memory nothing has changed.
+    /// list is not copied. Both symbols are there, the value is proper, and the list that is made may be stored and has this
+    /// size. After out of memory nothing has changed.
     pub fn push(
         &mut self,
         symbol: &Symbol,
         indicator: &Symbol,
         first: Datum,
+        size: u64,
     ) -> Result<(), AllocError>
         requires symbol { IsSymbol self.old.0.packages (symbol_of symbol.now) }
         requires indicator { IsSymbol self.old.0.packages (symbol_of indicator.now) }
@@ -76,6 +78,8 @@ impl World {
         requires proper { is_proper first ≡ true }
         requires value { let old = property self.old.0 (symbol_of symbol.now) (symbol_of indicator.now) in
             IsValue self.old.0.packages (pushed (object_of first) old) }
+        requires size { let old = property self.old.0 (symbol_of symbol.now) (symbol_of indicator.now) in
+            pair_size (Some (pushed (object_of first) old)) ≡ Some size }
         ensures ok { OnOk result (self.new
             ≡ (with_pushed self.old.0 (symbol_of symbol.now) (symbol_of indicator.now) (object_of first), self.old.1)) }
         ensures err { OnErr result (self.new ≡ self.old) }
@@ -90,7 +94,9 @@ impl World {
             owner,
             indicator,
             first,
-        )
+        )?;
+        sizes::note(&mut self.sizes, owner, indicator, size);
+        Ok(())
     }
 
     /// Removes the property of an indicator from the list of a symbol, and answers whether it was there (standard 10.2,
@@ -111,6 +117,7 @@ impl World {
         let Some(indicator) = self.packages.number_of(indicator.home(), indicator.name()) else {
             return Ok(false);
         };
+        sizes::forget(&mut self.sizes, owner, indicator);
         stored::remove(&mut self.stored, &mut self.marks, owner, indicator)
     }
 }

@@ -4,17 +4,20 @@ ghost use Rattle.std.specs.Option.{option_map};
 ghost use Rattle.std.specs.FinMap as finite;
 ghost use Rattle.lisp_object.specs.Datum.{object_of, is_proper};
 ghost use Rattle.plist_state.specs.Changes.{plist, property};
+ghost use Rattle.plist_state.specs.Pushed.{pair_size};
 ghost use Rattle.plist_state.specs.Shown.{symbol_of, symbol_named};
 ghost use Rattle.plist_state.specs.Sound.{IsSoundWorld};
 ghost use Rattle.plist_state.specs.State.{initial};
 
 use crate::note::Note;
+use crate::sizes::ListSizes;
 use crate::stored::{Stored, first_stored};
-use crate::{BorrowedSymbol, PropertyList, Symbol, rows, tables};
+use crate::{BorrowedSymbol, PropertyList, Symbol, rows, sizes, tables};
 use lisp_object::Datum;
 use package_table::{Packages, Seed};
 use readtable_core::Readtable;
 use std::alloc::{AllocError, Global};
+use std::collections::BTreeMap;
 use std::marker::Model;
 
 /// A world: packages, the property lists of symbols, readtables by name, the current package and the current readtable.
@@ -25,6 +28,8 @@ pub struct World {
     pub(crate) stored: Stored,
     // What changed in the rest since each mark, up to the next one. The packages have marks of their own, as many.
     pub(crate) marks: Vec<Vec<Note>>,
+    // How large long lists are that items were put before.
+    pub(crate) sizes: ListSizes,
 }
 
 // A call, so that a crate above does not see what is kept at each exit of a function that owns a world.
@@ -35,6 +40,7 @@ impl Drop for World {
             packages: _,
             stored: _,
             marks: _,
+            sizes: _,
         } = self;
     }
 }
@@ -74,6 +80,7 @@ impl World {
             packages,
             stored: first_stored(alloc)?,
             marks: Vec::new(alloc),
+            sizes: BTreeMap::new(alloc),
         })
     }
 
@@ -140,6 +147,29 @@ impl World {
         };
         let stored = &self.stored;
         rows::value(&stored.properties, &stored.indexes, owner, indicator)
+    }
+
+    /// How large the value beside an indicator of a symbol is, where it is a list with an item: it and its parts, as
+    /// `Datum::size` counts them. A long list that an item was put before is not looked at. Takes no memory.
+    pub fn list_size(&self, symbol: &Symbol, indicator: &Symbol) -> Option<u64>
+        ensures { result
+            ≡ pair_size (property self.now.0 (symbol_of symbol.now) (symbol_of indicator.now)) }
+    {
+        self.packages.numbering();
+        let Some(owner) = self.packages.number_of(symbol.home(), symbol.name()) else {
+            return None;
+        };
+        let Some(indicator) = self.packages.number_of(indicator.home(), indicator.name()) else {
+            return None;
+        };
+        if let Some(size) = sizes::noted(&self.sizes, owner, indicator) {
+            return Some(size);
+        }
+        let stored = &self.stored;
+        match rows::value(&stored.properties, &stored.indexes, owner, indicator) {
+            Some(value) => sizes::counted(value),
+            None => None,
+        }
     }
 
     /// The property list of a symbol (standard 10.2, `symbol-plist`). Takes no memory.

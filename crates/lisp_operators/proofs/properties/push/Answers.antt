@@ -1,5 +1,5 @@
-use Rattle.std.proofs.Common.{◌≡◌, nat_lt, refl, sym, ap, ◌∙◌}
-use Rattle.lisp_object.specs.Object.{pair, object_depth}
+use Rattle.std.proofs.Common.{◌≡◌, ◌-◌, ◌^◌, min, Some, nat_lt, refl, sym, ap, ◌∙◌}
+use Rattle.lisp_object.specs.Object.{pair, object_depth, object_size}
 use Rattle.lisp_object.specs.Datum.{object_of}
 use Rattle.plist_state.specs.Shown.{symbol_of}
 use Rattle.plist_state.specs.Changes.{property}
@@ -50,3 +50,12 @@ push-requires-clause-value c =
     let is : object_of c.in_ok-value.value ≡ pushed v (property s x i) = c.in_ok-value.ensures.value ∙ ap (λ o. pair v (or_nil o)) c.get.ensures.value in
     pushed_value s x i v (pushed v (property s x i)) c.soundness.ensures.present (c.in_ok-first.ensures.arguments s.packages c.requires).0.value refl
     (ap (λ y. nat_lt 100 (object_depth y)) (sym is) ∙ sym c.is_too_deep.ensures ∙ c.if-is_too_deep.false)
+
+pub push-requires-clause-size : goal.push-requires-clause-size
+push-requires-clause-size c =
+    let s = c.args.world.now.0 in
+    let x = symbol_of c.in_ok-symbol.symbol in
+    let i = symbol_of c.in_ok-symbol.indicator in
+    let v = object_of c.in_ok-first.first in
+    let is : object_of c.in_ok-value.value ≡ pushed v (property s x i) = c.in_ok-value.ensures.value ∙ ap (λ o. pair v (or_nil o)) c.get.ensures.value in
+    ap Some (ap (λ y. min (object_size y) (2 ^ 64 - 1)) (sym is) ∙ sym (c.size-size.ensures.object c.in_ok-value.ensures.proper))

@@ -1,6 +1,7 @@
-use Rattle.std.proofs.Common.{◌≡◌, List, length, take, sym, ap, subst, ◌∙◌, arith}
+use Rattle.std.proofs.Common.{◌≡◌, List, Some, length, take, sym, ap, subst, ◌∙◌, arith}
 use Rattle.std.proofs.lemmas.List.{length-map}
 use Rattle.std.specs.List.{slice_get}
+use Rattle.std.specs.Global.{Vec}
 use Rattle.package_table.specs.Numbers.{Numbered, numbered}
 use Rattle.plist_state.specs.declared.note.Note.{Note}
 use Rattle.plist_state.specs.State.{Worlds}
@@ -18,6 +19,14 @@ back_to-requires c =
     let as_many : length (marks_of a.marks.items) ≡ length c.args.self.now.1 =
     sym (states_many a.packages.1.marked (marks_of a.marks.items) (rest_of a.stored) a.stored.properties.entries c.self.invariant.marked) ∙ ap (λ (w : Worlds). length w.1) c.self.view_is in
     omega (arith, as_many, c.self.invariant.marked.as_many, c.requires)
+
+pub forget_since-requires : goal.forget_since-requires
+forget_since-requires c =
+    let a = c.self.inside in
+    let as_many : length (marks_of a.marks.items) ≡ length c.args.self.now.1 =
+    sym (states_many a.packages.1.marked (marks_of a.marks.items) (rest_of a.stored) a.stored.properties.entries c.self.invariant.marked) ∙ ap (λ (w : Worlds). length w.1) c.self.view_is in
+    let seen : length c.as_slice.result.now ≡ length a.marks.items = ap length c.as_slice.ensures.value in
+    omega (arith, as_many, seen, length-map a.marks.items notes_of, c.requires)
 
 pub undo_to-requires-clause-mark : goal.undo_to-requires-clause-mark
 undo_to-requires-clause-mark c =
@@ -38,6 +47,8 @@ invariant_of-self c =
     record {
       values = c.undo_to.ensures.wider.values c.self.invariant.values;
       indexed = c.undo_to.ensures.indexed;
+      sizes = c.forget_since.ensures r u
+          (subst (λ (vs : List (Vec Note)). slice_get (rests_at (marks_of vs) r) c.args.mark ≡ Some u) (sym c.as_slice.ensures.value) c.undo_to.ensures.now) c.self.invariant.sizes;
       owned = owned_at ts ms r rows c.self.invariant.marked c.args.mark (numbered c.back_to.new.self) u c.back_to.ensures.now c.undo_to.ensures.now;
       sound = sound_at ts ms r rows c.self.invariant.marked c.args.mark (numbered c.back_to.new.self) u c.back_to.ensures.now c.undo_to.ensures.now;
       marked = subst (λ us. AreKept us ns u c.undo_to.new.stored.properties.entries) (sym c.back_to.ensures.past)

@@ -27,6 +27,7 @@ invariant_of-self-2 c =
     record {
       values = c.self.invariant.values;
       indexed = c.self.invariant.indexed;
+      sizes = c.self.invariant.sizes;
       owned = subst (λ (us : Tables). IsOwned (numbered us) r.properties) (sym changed) c.self.invariant.owned;
       sound = subst (λ (us : Tables). IsSound (state_in (numbered us) r)) (sym changed) c.self.invariant.sound;
       marked = subst (λ (us : Tables). AreKept us.1.marked (marks_of c.push_reserved.new.self.items) r rows) (sym changed)

@@ -9,6 +9,7 @@ use Rattle.plist_state.specs.Sound.{IsSymbol, IsValue, IsSound}
 use Rattle.plist_state.specs.Lists.{same_number, row_of, IsNumber, named, IsOwned}
 use Rattle.plist_state.specs.Journal.{marks_of}
 use Rattle.plist_state.specs.Marked.{state_in}
+use Rattle.plist_state.specs.Sizes.{AreSizes}
 use Rattle.plist_state.proofs.InState.{with_changed_row, state_listed, world_listed, world_same_err}
 use Rattle.plist_state.proofs.KeptWorld.{kept_rest}
 use Rattle.plist_state.proofs.Listed.{owned_put}
@@ -16,6 +17,7 @@ use Rattle.plist_state.proofs.Lists.{all_with}
 use Rattle.plist_state.proofs.Marking.{kept_continued}
 use Rattle.plist_state.proofs.Named.{number_is, with_named}
 use Rattle.plist_state.proofs.Notes.{fits_now}
+use Rattle.plist_state.proofs.Sized.{same_others, others_with}
 use Rattle.plist_state.proofs.Soundness.{sound_put}
 use Rattle.plist_state.proofs.world.World.put_at.Goals as goal
 
@@ -47,6 +49,9 @@ invariant_of-self c =
     record {
       values = c.put.ensures.wider.values c.self.invariant.values;
       indexed = c.put.ensures.indexed;
+      sizes = kept_rest c.put.result (λ q. AreSizes q.properties c.forget.new.sizes.entries) r made u c.put.ensures.ok c.put.ensures.err
+          (c.forget.ensures r.properties (same_others r.properties n j a.sizes.entries c.self.invariant.sizes))
+          (c.forget.ensures made.properties (others_with r.properties n j a.sizes.entries c.self.invariant.sizes v));
       owned = kept_rest c.put.result (λ q. IsOwned s q.properties) r made u c.put.ensures.ok c.put.ensures.err c.self.invariant.owned
           (owned_put s (symbol_count s.0) c.numbering.ensures r.properties x n _ c.number-owner.ensures numbers c.self.invariant.owned);
       marked = kept_continued a.packages.1.marked (marks_of a.marks.items) r a.stored.properties.entries c.self.invariant.marked (marks_of c.put.new.marks.items) u c.put.new.stored.properties.entries

@@ -12,6 +12,7 @@ use Rattle.plist_state.specs.Sound.{IsSymbol, IsSound}
 use Rattle.plist_state.specs.Lists.{same_number, row_of, IsNumber, named, IsOwned}
 use Rattle.plist_state.specs.Journal.{marks_of}
 use Rattle.plist_state.specs.Marked.{state_in}
+use Rattle.plist_state.specs.Sizes.{AreSizes}
 use Rattle.plist_state.proofs.InState.{with_changed_row, state_listed, world_listed, world_same_err, property_seen, no_property, property_out}
 use Rattle.plist_state.proofs.KeptWorld.{kept_rest}
 use Rattle.plist_state.proofs.Listed.{owned_put}
@@ -19,6 +20,7 @@ use Rattle.plist_state.proofs.Lists.{all_without}
 use Rattle.plist_state.proofs.Marking.{kept_continued}
 use Rattle.plist_state.proofs.Named.{number_by, without_named}
 use Rattle.plist_state.proofs.Notes.{fits_now}
+use Rattle.plist_state.proofs.Sized.{same_others, others_without}
 use Rattle.plist_state.proofs.Soundness.{sound_removed}
 use Rattle.plist_state.proofs.world.World.remove.Goals as goal
 
@@ -65,6 +67,9 @@ invariant_of-self c =
     record {
       values = c.remove.ensures.wider.values c.self.invariant.values;
       indexed = c.remove.ensures.indexed;
+      sizes = kept_rest c.remove.result (λ q. AreSizes q.properties c.forget.new.sizes.entries) r made u c.remove.ensures.ok c.remove.ensures.err
+          (c.forget.ensures r.properties (same_others r.properties n j a.sizes.entries c.self.invariant.sizes))
+          (c.forget.ensures made.properties (others_without r.properties n j a.sizes.entries c.self.invariant.sizes));
       owned = kept_rest c.remove.result (λ q. IsOwned s q.properties) r made u c.remove.ensures.ok c.remove.ensures.err c.self.invariant.owned
           (owned_put s (symbol_count s.0) c.numbering.ensures r.properties x n _ owner_is
           (all_without same_number (λ p. IsNumber s p.0) row j (c.self.invariant.owned.indicators n)) c.self.invariant.owned);

@@ -25,6 +25,7 @@ invariant_of-self-2 c =
     record {
       values = c.self.invariant.values;
       indexed = c.self.invariant.indexed;
+      sizes = c.self.invariant.sizes;
       owned = c.self.invariant.owned;
       sound = subst (λ n. IsSound (record s { current_readtable = n })) (sym named) (sound_in_readtable s c.args.name.now c.self.invariant.sound there);
       marked = kept_continued a.packages.1.marked (marks_of a.marks.items) r a.stored.properties.entries c.self.invariant.marked (marks_of c.push_note.new.marks.items) u a.stored.properties.entries

@@ -18,6 +18,7 @@ invariant_of-self-2 c =
     record {
       values = c.self.invariant.values;
       indexed = c.self.invariant.indexed;
+      sizes = c.self.invariant.sizes;
       owned = c.self.invariant.owned;
       sound = sound_base (state_in (numbered a.packages) r) c.args.base c.self.invariant.sound c.requires.lowest_base c.requires.highest_base;
       marked = kept_continued a.packages.1.marked (marks_of a.marks.items) r a.stored.properties.entries c.self.invariant.marked (marks_of c.push_note.new.marks.items) u a.stored.properties.entries

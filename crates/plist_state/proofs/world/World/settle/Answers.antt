@@ -4,6 +4,7 @@ use Rattle.plist_state.specs.State.{Worlds}
 use Rattle.plist_state.specs.Lists.{IsOwned}
 use Rattle.plist_state.specs.Shown.{NumberedRest, rest_of}
 use Rattle.plist_state.specs.Sound.{IsSound}
+use Rattle.plist_state.specs.Sizes.{AreSizes}
 use Rattle.plist_state.specs.Undoing.{rests_at}
 use Rattle.plist_state.specs.Journal.{marks_of}
 use Rattle.plist_state.specs.Marked.{state_in, marked_states}
@@ -21,6 +22,7 @@ invariant_of-self c =
     record {
       values = c.tidy.ensures.wider.values c.self.invariant.values;
       indexed = c.tidy.ensures.indexed;
+      sizes = subst (λ (q : NumberedRest). AreSizes q.properties a.sizes.entries) (sym rest) c.self.invariant.sizes;
       owned = subst (λ (p : Numbered × NumberedRest). IsOwned p.0 p.1.properties) (sym both) c.self.invariant.owned;
       sound = subst (λ (p : Numbered × NumberedRest). IsSound (state_in p.0 p.1)) (sym both) c.self.invariant.sound;
       marked = kept_none c.settle.new.self.1.marked (marks_of c.clear.new.self.items) u c.tidy.new.stored.properties.entries

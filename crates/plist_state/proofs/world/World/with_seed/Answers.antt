@@ -9,6 +9,7 @@ use Rattle.plist_state.specs.Journal.{marks_of}
 use Rattle.plist_state.specs.Marked.{state_in, marked_states}
 use Rattle.plist_state.proofs.Listed.{owned_empty}
 use Rattle.plist_state.proofs.Marking.{kept_none}
+use Rattle.plist_state.proofs.Sized.{no_sizes}
 use Rattle.plist_state.proofs.FirstWorld.{first_sound, first_state}
 use Rattle.plist_state.proofs.world.World.with_seed.Goals as goal
 
@@ -19,6 +20,7 @@ invariant_of-result c =
     record {
       values = c.in_ok-first_stored.ensures.values;
       indexed = c.in_ok-first_stored.ensures.indexed;
+      sizes = no_sizes r.properties c.new-2.result.entries c.new-2.ensures.empty;
       owned = subst (λ (q : NumberedRest). IsOwned (numbered ps) q.properties) (sym c.in_ok-first_stored.ensures.first) (owned_empty (numbered ps));
       marked = kept_none ps.1.marked (marks_of c.new.result.items) r c.in_ok-first_stored.field-0.properties.entries c.in_ok-packages.ensures.marked (ap marks_of c.new.ensures.items);
       sound = subst IsSound (sym (first_state (numbered ps) r c.in_ok-packages.ensures.table c.in_ok-first_stored.ensures.first)) first_sound;
