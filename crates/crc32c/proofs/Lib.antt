@@ -1,0 +1,4 @@
+pub mod Steps
+pub mod Bits
+pub mod Entries
+pub mod Texts
