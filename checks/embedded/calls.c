@@ -56,6 +56,29 @@ static void modes(void) {
     EXPECT(pazturrok_close(store) == 0);
 }
 
+static void properties(void) {
+    pazturrok_store store = opened("properties");
+    const char *answer;
+    size_t length;
+    EXPECT(pazturrok_get(store, "APPLE", "PRICE", &answer, &length) == 0 && strcmp(answer, "NIL") == 0 && length == 3);
+    EXPECT(pazturrok_put(store, "APPLE", "PRICE", "7", 1) == 0);
+    EXPECT(pazturrok_put(store, "a |strange\\ name", "IT IS", "(1 . #(\"two\"))", 14) == 0);
+    EXPECT(answers(store, "(GET 'APPLE 'PRICE)", "7"));
+    EXPECT(pazturrok_get(store, "a |strange\\ name", "IT IS", &answer, &length) == 0 && strcmp(answer, "(1 . #(\"two\"))") == 0);
+    EXPECT(answers(store, "(SET-SYNTAX-FROM-CHAR #\\( #\\;)", "T"));
+    EXPECT(pazturrok_put(store, "APPLE", "NAME", "COX", 3) == 0);
+    EXPECT(pazturrok_plist(store, "APPLE", &answer, NULL) == 0 && strcmp(answer, "(PRICE 7 NAME COX)") == 0);
+    EXPECT(pazturrok_put(store, "APPLE", "PRICE", "1 2", 3) == 32);
+    EXPECT(pazturrok_put(store, "APPLE", "PRICE", "", 0) == 32);
+    EXPECT(pazturrok_put(store, "APPLE", "PRICE", ")", 1) != 0);
+    EXPECT(pazturrok_get(store, "M\xc3\xbcller", "PRICE", &answer, &length) == 2 && length == 0);
+    EXPECT(pazturrok_get(store, NULL, "PRICE", &answer, &length) == PAZTURROK_MISUSE);
+    EXPECT(pazturrok_put(store, "APPLE", NULL, "1", 1) == PAZTURROK_MISUSE);
+    EXPECT(pazturrok_plist(store, NULL, &answer, &length) == PAZTURROK_MISUSE);
+    EXPECT(pazturrok_get(0, "APPLE", "PRICE", &answer, &length) == PAZTURROK_REOPEN);
+    EXPECT(pazturrok_close(store) == 0);
+}
+
 static void bad_arguments(void) {
     pazturrok_store store = opened("bad"), other = 1;
     pazturrok_fault fault;
@@ -360,6 +383,7 @@ int main(int count, char **words) {
     is_slow = count > 2;
     forms();
     modes();
+    properties();
     bad_arguments();
     stale_numbers();
     long_texts();

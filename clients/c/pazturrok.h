@@ -93,6 +93,16 @@ int pazturrok_execute(pazturrok_store store, int mode, const char *text, size_t 
 int pazturrok_execute_all(pazturrok_store store, int mode, const char *const *texts, const size_t *lengths, size_t count,
                           pazturrok_outcome *outcomes);
 
+/* The property of a symbol, as pazturrok_execute gives it: NIL where it has none. Names are of COMMON-LISP-USER, as they are printed,
+   with a zero at their end: the symbol apple of a form is "APPLE". */
+int pazturrok_get(pazturrok_store store, const char *symbol, const char *indicator, const char **answer, size_t *answer_length);
+
+/* Sets the property of a symbol to an object, by the text of that one object, as (1 2), which is not evaluated. */
+int pazturrok_put(pazturrok_store store, const char *symbol, const char *indicator, const char *value, size_t length);
+
+/* The property list of a symbol: indicators and properties in turn. */
+int pazturrok_plist(pazturrok_store store, const char *symbol, const char **answer, size_t *answer_length);
+
 /* Gives the position: the number of the last message of which the store holds what it wrote, and of every one before it. Whoever opens
    a store again sends what is over its position once more: nothing is done twice, and nothing is left out. In a store that never had
    a message it is 0, which is logged. 52 where the property that is to be the position is no number, or

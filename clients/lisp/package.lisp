@@ -13,7 +13,9 @@
    ;; Messages: each once
    "FEED" "OPEN-FEED" "CLOSE-FEED" "WITH-FEED" "FEED-FORM" "FEED-ALL" "ASK" "FEED-LAST" "FEED-SNAPSHOT"
    "LOST-ANSWER" "LOST-ANSWER-NUMBER"
-   ;; A store on several machines
+   ;; Properties
+   "PROPERTY" "PROPERTIES"
+   ;; The node of a machine, or of several
    "OPEN-NODES" "WITH-NODES" "SEND-NAMED" "ASK-FRESH" "NO-NODE" "NO-NODE-SECONDS" "NO-NODE-REASON"
    ;; Of a store in this process
    "SNAPSHOT" "FIGURES"

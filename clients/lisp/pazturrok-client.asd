@@ -14,7 +14,8 @@
                (:file "library")
                (:file "store")
                (:file "messages")
-               (:file "nodes"))
+               (:file "nodes")
+               (:file "properties"))
   :in-order-to ((test-op (test-op "pazturrok-client/tests"))))
 
 (defsystem "pazturrok-client/tests"
@@ -30,6 +31,7 @@
                (:file "store")
                (:file "messages")
                (:file "nodes")
+               (:file "properties")
                (:file "hostile"))
   :perform (test-op (operation component)
              (uiop:symbol-call "PAZTURROK-CHECK" "TEST")))

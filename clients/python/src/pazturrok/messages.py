@@ -19,6 +19,7 @@ from .errors import (
 from .naming import NAMING_QUESTION, Naming, until_naming
 from .printer import FORM_LIMIT, check_characters, printed
 from .program import Program
+from .properties import Properties
 from .store import Form, Outcome, changes_naming
 from .values import Value
 
@@ -81,7 +82,7 @@ class FrameSplitter:
         return end
 
 
-class MessageStore(Shared):
+class MessageStore(Shared, Properties):
     """A program over a folder that carries out messages, of which each has a number, and answers questions.
 
     A message is carried out once. Where the program was killed it is started again: it tells which message it
@@ -154,6 +155,12 @@ class MessageStore(Shared):
     def ask(self, form: Form) -> Value:
         """Asks for the value of a form, which may change nothing."""
         return self._naming.value(self._ask(text_of(form)))
+
+    def _put_form(self, form: list[Value]) -> Value:
+        return self.do(form)
+
+    def _look_form(self, form: list[Value]) -> Value:
+        return self.ask(form)
 
     # Sending
 

@@ -24,6 +24,7 @@ from .errors import (
 )
 from .messages import FrameSplitter, question, text_of
 from .naming import NAMING_QUESTION, Naming, until_naming
+from .properties import Properties
 from .store import Form, Outcome, changes_naming
 from .values import Value
 
@@ -97,7 +98,7 @@ class Connection:
         self._socket.close()
 
 
-class NodeStore(Shared):
+class NodeStore(Shared, Properties):
     """A store for many clients. A request goes to one node, and to the next where that does not answer.
 
     A message is carried out once: it has a name, and is sent again under it. `ask` asks the store of one
@@ -166,6 +167,12 @@ class NodeStore(Shared):
     def read(self, form: Form) -> Value:
         """Asks after all that was answered before, anywhere: what it gives was so within this call."""
         return self._question("read", form)
+
+    def _put_form(self, form: list[Value]) -> Value:
+        return self.do(form)
+
+    def _look_form(self, form: list[Value]) -> Value:
+        return self.read(form)
 
     # Sending
 

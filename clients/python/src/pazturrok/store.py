@@ -23,6 +23,7 @@ from .errors import (
 )
 from .printer import FORM_LIMIT, check_characters, packages_of, printed, string_text
 from .program import Program
+from .properties import Properties
 from .texts import is_one_form
 from .values import LISP, OPERATORS, Symbol, Value
 
@@ -57,7 +58,7 @@ class State(enum.Enum):
     CLOSED = "the store was closed"
 
 
-class Store(Shared):
+class Store(Shared, Properties):
     """A program over a folder. Threads may share it: each waits until the one before it has its answers.
 
     `time_limit` is how many seconds an answer may take, `opening_time_limit` how many the opening, None for
@@ -112,6 +113,12 @@ class Store(Shared):
         self, kind: type[BaseException] | None, error: BaseException | None, traceback: TracebackType | None
     ) -> None:
         self.close()
+
+    def _put_form(self, form: list[Value]) -> Value:
+        return self.execute(form)
+
+    def _look_form(self, form: list[Value]) -> Value:
+        return self.execute(form)
 
     # Opening and closing
 

@@ -1,0 +1,67 @@
+"""Properties by calls, over a pipe, by messages, and by a node of this machine, which other processes use at the same time."""
+
+from __future__ import annotations
+
+import os
+import subprocess
+import sys
+import time
+from typing import Union
+
+from pazturrok import MessageStore, NodeStore, Store, StoreError, Symbol, keyword
+from support import LONG, PROGRAM, StoreTest
+
+NODE = os.path.join(os.path.dirname(os.path.abspath(__file__)), "..", "..", "cluster", "pazturrok-node")
+WORK = """
+import contextlib, sys
+from pazturrok import LostAnswerError, NodeStore
+with NodeStore([sys.argv[1]]) as store:
+    for number in range(50):
+        with contextlib.suppress(LostAnswerError):
+            store.put(sys.argv[2], "NUMBER", number)
+        with contextlib.suppress(LostAnswerError):
+            store.do("(INCF (GET 'ALL 'NUMBER))")
+"""
+
+
+class Calls(StoreTest):
+    def has_calls(self, store: Union[Store, MessageStore, NodeStore]) -> None:
+        pear = Symbol("pear, of a strange name")
+        self.assertEqual([], store.get("APPLE", "PRICE"))
+        self.assertEqual(5, store.get("APPLE", "PRICE", 5))
+        self.assertEqual([], store.plist("APPLE"))
+        self.assertEqual(7, store.put("APPLE", "PRICE", 7))
+        self.assertEqual((1, "two"), store.put("APPLE", keyword("OTHER"), (1, "two")))
+        self.assertEqual([pear, [1]], store.put(pear, Symbol("PRICE"), [pear, [1]]))
+        self.assertEqual((7, [pear, [1]]), (store.get("APPLE", "PRICE", 5), store.get(pear, "PRICE")))
+        self.assertEqual([(Symbol("PRICE"), 7), (keyword("OTHER"), (1, "two"))], store.plist("APPLE"))
+        with self.assertRaises(StoreError):
+            store.put("APPLE", Symbol("X", "NO-PACKAGE"), 1)
+
+    def test_pipe(self) -> None:
+        self.has_calls(self.store())
+
+    def test_messages(self) -> None:
+        with MessageStore(os.path.join(self.folder, "messages"), PROGRAM, time_limit=LONG) as store:
+            self.has_calls(store)
+
+    def test_node(self) -> None:
+        place = f"unix:{self.folder}/socket"
+        words = [NODE, os.path.join(self.folder, "nodes"), "--alone", "--listen", place, "--program", PROGRAM]
+        node = subprocess.Popen([sys.executable, *words], stderr=subprocess.DEVNULL)
+        self.addCleanup(node.wait)
+        self.addCleanup(node.terminate)
+        with NodeStore([place], time_limit=LONG) as store:
+            self.has_calls(store)
+            store.put("ALL", "NUMBER", 0)
+            way = {**os.environ, "PYTHONPATH": os.pathsep.join(sys.path)}
+            workers = [subprocess.Popen([sys.executable, "-c", WORK, place, f"OF-{count}"], env=way) for count in range(5)]
+            time.sleep(0.1)
+            node.kill()
+            node.wait()
+            node = subprocess.Popen([sys.executable, *words], stderr=subprocess.DEVNULL)
+            self.addCleanup(node.wait)
+            self.addCleanup(node.terminate)
+            self.assertEqual([0] * 5, [worker.wait() for worker in workers])
+            self.assertEqual(250, store.get("ALL", "NUMBER"))
+            self.assertEqual([49] * 5, [store.get(f"OF-{count}", "NUMBER") for count in range(5)])

@@ -1,0 +1,27 @@
+;;;; Properties of symbols by calls, each one form: of a store over a pipe or in this process, of a feed, and of nodes.
+
+(in-package "PAZTURROK-CLIENT")
+
+(defgeneric put-form (store form)
+  (:documentation "The value of a form that writes.")
+  (:method ((store store) form) (send store form))
+  (:method ((feed feed) form) (feed-form feed form)))
+
+(defgeneric look-form (store form)
+  (:documentation "The value of a form that writes nothing; of nodes after all that was answered before.")
+  (:method ((store store) form) (send store form))
+  (:method ((feed feed) form) (ask feed form))
+  (:method ((feed node-feed) form) (ask-fresh feed form)))
+
+(defun property (store symbol indicator &optional default)
+  "The property of a symbol in STORE, which is a store or a feed; or DEFAULT, where the symbol has none."
+  (look-form store `(get ',symbol ',indicator ',default)))
+
+(defun (setf property) (value store symbol indicator)
+  "Sets the property of a symbol in STORE. INCF or PUSH of a PROPERTY is two forms, and others may come between: send them as one form."
+  (put-form store `(setf (get ',symbol ',indicator) ',value))
+  value)
+
+(defun properties (store symbol)
+  "The property list of a symbol in STORE: indicators and properties in turn."
+  (look-form store `(symbol-plist ',symbol)))

@@ -1,0 +1,49 @@
+"""Properties of symbols by calls of Python, each one form."""
+
+from __future__ import annotations
+
+from typing import Union
+
+from .errors import MalformedAnswerError
+from .printer import printed
+from .values import NIL, Symbol, Value, quote
+
+Name = Union[Symbol, str]
+"""A symbol, or the name of one in COMMON-LISP-USER, as it is printed."""
+
+GET, SETF, SYMBOL_PLIST = Symbol("GET"), Symbol("SETF"), Symbol("SYMBOL-PLIST")
+
+
+class Properties:
+    """What has the properties of symbols. Names are as they are printed: the symbol apple of a form is "APPLE"."""
+
+    def _put_form(self, form: list[Value]) -> Value:
+        """The value of a form that writes."""
+        raise NotImplementedError
+
+    def _look_form(self, form: list[Value]) -> Value:
+        """The value of a form that writes nothing."""
+        raise NotImplementedError
+
+    def get(self, name: Name, indicator: Name, default: Value = NIL) -> Value:
+        """The property of a symbol, or the default where it has none."""
+        return self._look_form([GET, *both(name, indicator), quote(default)])
+
+    def put(self, name: Name, indicator: Name, value: Value) -> Value:
+        """Sets the property of a symbol, and gives the value back, as the store has it."""
+        return self._put_form([SETF, [GET, *both(name, indicator)], quote(value)])
+
+    def plist(self, name: Name) -> list[tuple[Value, Value]]:
+        """The indicators of a symbol, each with its property."""
+        found = self._look_form([SYMBOL_PLIST, quote(symbol(name))])
+        if not isinstance(found, list) or len(found) % 2:
+            raise MalformedAnswerError(printed(found), "it is no property list")
+        return list(zip(found[::2], found[1::2]))
+
+
+def symbol(name: Name) -> Symbol:
+    return Symbol(name) if isinstance(name, str) else name
+
+
+def both(name: Name, indicator: Name) -> tuple[Value, Value]:
+    return quote(symbol(name)), quote(symbol(indicator))
