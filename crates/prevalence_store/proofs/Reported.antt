@@ -1,6 +1,6 @@
 -- A call that takes no form, and leaves a disk that holds what it held.
 use Rattle.std.proofs.Common.{◌≡◌, [], Some, None, refl, subst, arith}
-use Rattle.disk_trait.specs.Disk.{Image, State}
+use Rattle.disk_trait.specs.Disk.{State}
 use Rattle.disk_trait.specs.Moments.{weaker}
 use Rattle.gate_log.specs.Step.{Rests}
 use Rattle.plist_state.specs.State.{WorldState}

@@ -1,8 +1,57 @@
 // Why a form was not accepted, inside the crate.
 ghost use Rattle.std.specs.Prelude.{◌≡◌};
-ghost use Rattle.prevalence_store.specs.steps.Failure.{is_device, failure_number};
+ghost use Rattle.prevalence_store.specs.steps.Failure.{failure_number};
 
 use lisp_object::refusal::{DEVICE, LOG_FULL, NO_MEMORY};
+
+/// Why a form was not added to a batch.
+#[derive(Clone, Copy)]
+pub(crate) enum Unadded {
+    /// Evaluation refused it, with this number.
+    Refused(u16),
+    /// There was no memory.
+    OutOfMemory,
+}
+
+/// Why a batch was not logged.
+#[derive(Clone, Copy)]
+pub(crate) enum Unlogged {
+    /// Its records would pass the half's limit.
+    Full,
+    /// The device failed.
+    DeviceFault,
+    /// There was no memory.
+    OutOfMemory,
+}
+
+impl From<Unadded> for Failure {
+    ghost use Rattle.std.specs.Prelude.{◌≡◌};
+    ghost use Rattle.prevalence_store.specs.steps.Failure.{of_unadded};
+
+    ghost from_gives = { λ cause failure. failure ≡ of_unadded cause };
+
+    fn from(cause: Unadded) -> Failure {
+        match cause {
+            Unadded::Refused(number) => Failure::Refused(number),
+            Unadded::OutOfMemory => Failure::OutOfMemory,
+        }
+    }
+}
+
+impl From<Unlogged> for Failure {
+    ghost use Rattle.std.specs.Prelude.{◌≡◌};
+    ghost use Rattle.prevalence_store.specs.steps.Failure.{of_unlogged};
+
+    ghost from_gives = { λ cause failure. failure ≡ of_unlogged cause };
+
+    fn from(cause: Unlogged) -> Failure {
+        match cause {
+            Unlogged::Full => Failure::Full,
+            Unlogged::DeviceFault => Failure::DeviceFault,
+            Unlogged::OutOfMemory => Failure::OutOfMemory,
+        }
+    }
+}
 
 /// Why a form that was read was not accepted.
 #[derive(Clone, Copy)]
@@ -27,16 +76,6 @@ impl Failure {
             Failure::Full => LOG_FULL,
             Failure::DeviceFault => DEVICE,
             Failure::OutOfMemory => NO_MEMORY,
-        }
-    }
-
-    /// Whether the device failed.
-    pub(crate) fn is_device(self) -> bool
-        ensures { result ≡ is_device self }
-    {
-        match self {
-            Failure::DeviceFault => true,
-            Failure::Refused(_) | Failure::Full | Failure::OutOfMemory => false,
         }
     }
 }

@@ -23,7 +23,7 @@ use Rattle.prevalence_store.specs.declared.messages.request.TheConstants.{ANSWER
 use Rattle.prevalence_store.specs.calls.ExecuteAll.{left_by, told_of}
 use Rattle.prevalence_store.specs.calls.Store.{StoreView}
 use Rattle.prevalence_store.specs.meaning.Acceptance.{accepts}
-use Rattle.prevalence_store.specs.messages.Answers.{Round, answer_in, answer_to_question, answered, begun, by_number, cleared, closed, each_request, one_request, with_message, with_old, with_own, wrote_by}
+use Rattle.prevalence_store.specs.messages.Answers.{Round, answer_in, answer_to_question, begun, by_number, cleared, closed, each_request, one_request, with_message, with_old, with_own, wrote_by}
 use Rattle.prevalence_store.specs.messages.Calls.{AnswersRequests, RefusesOwn, RefusesRequest}
 use Rattle.prevalence_store.specs.messages.Fronts.{AnswersFirst, answer_length, first_of, is_full, is_none_left, room_left}
 use Rattle.prevalence_store.specs.messages.Position.{position_property}

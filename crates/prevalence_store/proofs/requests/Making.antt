@@ -21,7 +21,8 @@ use Rattle.package_table.specs.Symbols.{are_there, symbols}
 use Rattle.package_table.specs.Table.{Name}
 use Rattle.plist_state.specs.State.{WorldState}
 use Rattle.prevalence_store.specs.declared.batch.Batch.{Batch}
-use Rattle.prevalence_store.specs.declared.failure.Failure.{Failure}
+use Rattle.prevalence_store.specs.declared.failure.Unadded.{Unadded}
+use Rattle.prevalence_store.specs.declared.failure.Unadded.TheVariants as unadded
 use Rattle.prevalence_store.specs.declared.failure.Failure.TheVariants.{Refused}
 use Rattle.prevalence_store.specs.declared.messages.own.Own.{Own}
 use Rattle.prevalence_store.specs.declared.messages.own.Own.TheVariants.{Clearing, Position}
@@ -35,6 +36,7 @@ use Rattle.prevalence_store.specs.messages.Answers.{Round, answer_in, answer_to_
 use Rattle.prevalence_store.specs.messages.Position.{own_form, own_left, own_text, position_property, with_position, without_position}
 use Rattle.prevalence_store.specs.messages.Rounds.{IsMade, IsNeeded, IsOwnForm, round_in, told_in}
 use Rattle.prevalence_store.specs.steps.Batch.{IsNotAdded, entries_in, entry_of}
+use Rattle.prevalence_store.specs.steps.Failure.{of_unadded}
 use Rattle.prevalence_store.specs.steps.Group.{IsTurn}
 use Rattle.prevalence_store.proofs.steps.Grouping.{fit_both, one_replayed}
 use Rattle.prevalence_store.proofs.steps.Taking.{one_record}
@@ -44,11 +46,11 @@ use Rattle.user_macros.specs.Functions.{Functions}
 -- ---- by a result
 
 -- what follows where it is no error
-pub done_on : {X : Type 0} (result : Result Unit Failure) → result ≡ Ok tt → X → OnOk result X
+pub done_on : {X : Type 0} (result : Result Unit Unadded) → result ≡ Ok tt → X → OnOk result X
 done_on {X} result is holds = subst (λ r. OnOk r X) (sym is) holds
 
-pub failed_on : (X : Type 0) (result : Result Unit Failure) (failure : Failure) → result ≡ Err failure → OnOk result X
-failed_on X result failure is = subst (λ r. OnOk r X) (sym is) tt
+pub failed_on : (X : Type 0) (result : Result Unit Unadded) (cause : Unadded) → result ≡ Err cause → OnOk result X
+failed_on X result cause is = subst (λ r. OnOk r X) (sym is) tt
 
 -- ---- the store's own forms
 
@@ -141,11 +143,13 @@ module _ (functions : Functions) where
       )
 
   -- it is not refused
-  pub own_not_refused : (own : Own) (world : WorldState) (read : ReadForm) (text : List ℕ) (cause : Failure) (number : ℕ) → IsNeeded own world → IsOwnForm functions own world read text
-      → IsNotAdded (accept functions.names world (object_of read.datum)) cause → cause ≡ Refused number → ⊥
-  own_not_refused own world read text cause number needed is given refused =
+  pub own_not_refused : (own : Own) (world : WorldState) (read : ReadForm) (text : List ℕ) (cause : Unadded) (number : ℕ) → IsNeeded own world → IsOwnForm functions own world read text
+      → IsNotAdded (accept functions.names world (object_of read.datum)) cause → of_unadded cause ≡ Refused number → ⊥
+  own_not_refused own world read text unadded.OutOfMemory number needed is given refused = absurd (cc)
+  own_not_refused own world read text (unadded.Refused code) number needed is given refused =
       let here = own_accepted functions.names world own is.all_there needed in
-      let added : accept functions.names world (object_of read.datum) ≡ Err number = subst (IsNotAdded (accept functions.names world (object_of read.datum))) refused given in
+      let same : code ≡ number = cc in
+      let added : accept functions.names world (object_of read.datum) ≡ Err number = given ∙ ap (λ n. Err n) same in
       no_error here.0 (own_left own world) number (sym here.1 ∙ ap (accept functions.names world) (sym is.object) ∙ added)
 
   pub own_round : (own : Own) (held : Held) (batch : Batch) (world new : WorldState) (read : ReadForm) (text : List ℕ) (e : Evaluated) → IsNeeded own world → IsOwnForm functions own world read text

@@ -1,12 +1,11 @@
 -- On the store's own forms.
 --     clearing_there, setting_there      whether the packages have each symbol of one
 --     read_parts, own_read      one that is read as what it is
---     form_taken, form_left, no_refusal, not_cleared, not_closed      why a form of the store's own is not carried out
---     refuses_question, refuses_message, refuses_none      so why requests are refused before one of them
---     at_request, at_end, unlogged_refused, refused_as      and among all of them
+--     form_taken, form_left, memory_refuses_none, not_cleared, not_closed      why a form of the store's own is not carried out
+--     refuses_question, refuses_message, memory_refuses_no_request      so why requests are refused before one of them
+--     at_request, at_end, unlogged_refused      and among all of them
 --     no_device      which number is that of a device fault alone
 use Rattle.std.proofs.Common.{◌≡◌, ◌≢◌, ℕ, ◌+◌, ◌<◌, Bool, true, false, ◌&&◌, List, ◌++◌, length, take, drop, get_or, codes, None, Some, IsSome, Result, Ok, Err, IfErr, refl, sym, ap, subst, ◌∙◌, inl, inr}
-use Rattle.std.proofs.lemmas.Bool.{false≢true}
 use Rattle.std.proofs.lemmas.List.{drop_more, take-append-drop}
 use Rattle.lisp_object.specs.Datum.{object_of}
 use Rattle.lisp_object.specs.declared.refusal.TheConstants.{DEVICE}
@@ -22,6 +21,9 @@ use Rattle.plist_state.specs.State.{WorldState}
 use Rattle.session_words.specs.declared.mode.Mode.TheVariants.{Rescue}
 use Rattle.prevalence_store.specs.declared.failure.Failure.{Failure}
 use Rattle.prevalence_store.specs.declared.failure.Failure.TheVariants.{Refused, Full, DeviceFault, OutOfMemory}
+use Rattle.prevalence_store.specs.declared.failure.Unadded.{Unadded}
+use Rattle.prevalence_store.specs.declared.failure.Unlogged.{Unlogged}
+use Rattle.prevalence_store.specs.declared.failure.Unlogged.TheVariants as unlogged
 use Rattle.prevalence_store.specs.declared.messages.own.Own.{Own}
 use Rattle.prevalence_store.specs.declared.messages.own.Own.TheVariants.{Clearing, Position}
 use Rattle.prevalence_store.specs.declared.messages.request.Request.{Request}
@@ -31,7 +33,7 @@ use Rattle.prevalence_store.specs.messages.Calls.{IsNotCleared, IsNotClosed, IsN
 use Rattle.prevalence_store.specs.messages.Position.{own_form, own_text, position_property}
 use Rattle.prevalence_store.specs.messages.Rounds.{IsNeeded, IsOwnForm, own_datum}
 use Rattle.prevalence_store.specs.steps.Batch.{IsNotAdded}
-use Rattle.prevalence_store.specs.steps.Failure.{failure_number, is_device, is_refusal}
+use Rattle.prevalence_store.specs.steps.Failure.{failure_number, is_device, of_unadded, of_unlogged}
 use Rattle.prevalence_store.specs.steps.Setting.{IsWholeForm}
 use Rattle.prevalence_store.proofs.requests.Making.{own_not_refused}
 use Rattle.user_macros.specs.Functions.{Functions}
@@ -102,43 +104,42 @@ own_read functions world own text read start stop text_is whole first last datum
 
 module _ (functions : Functions) where
   -- of a form that was read
-  pub form_taken : (world : WorldState) (own : Own) (result : Result Unit Failure) → result ≡ Ok tt → IfErr result (RefusesForm functions world own)
-  form_taken world own result is = subst (λ r. IfErr r (RefusesForm functions world own)) (sym is) tt
+  pub form_taken : (world : WorldState) (own : Own) (result : Result Unit Unadded) → result ≡ Ok tt → IfErr result (λ cause. RefusesForm functions world own (of_unadded cause))
+  form_taken world own result is = subst (λ r. IfErr r (λ cause. RefusesForm functions world own (of_unadded cause))) (sym is) tt
 
-  pub form_left : (world : WorldState) (own : Own) (read : ReadForm) (text : List ℕ) (result : Result Unit Failure) (cause : Failure) → result ≡ Err cause → IsNeeded own world
-      → IsOwnForm functions own world read text → IsNotAdded (accept functions.names world (object_of read.datum)) cause → IfErr result (RefusesForm functions world own)
+  pub form_left : (world : WorldState) (own : Own) (read : ReadForm) (text : List ℕ) (result : Result Unit Unadded) (cause : Unadded) → result ≡ Err cause → IsNeeded own world
+      → IsOwnForm functions own world read text → IsNotAdded (accept functions.names world (object_of read.datum)) cause → IfErr result (λ cause. RefusesForm functions world own (of_unadded cause))
   form_left world own read text result cause is needed whole given =
-      subst (λ r. IfErr r (RefusesForm functions world own)) (sym is) (λ number refused. absurd (own_not_refused functions own world read text cause number needed whole given refused))
+      subst (λ r. IfErr r (λ cause. RefusesForm functions world own (of_unadded cause))) (sym is)
+      (λ number refused. absurd (own_not_refused functions own world read text cause number needed whole given refused))
 
-  -- of what is no refusal
-  pub no_refusal : {T : Type 0} (round : Round) (result : Result T Failure) → IfErr result (λ cause. is_refusal cause ≡ false) → IfErr result (IsNotCleared functions round)
-  no_refusal round (Ok value) none = tt
-  no_refusal round (Err cause) none = λ number is. absurd (false≢true (sym none ∙ ap is_refusal is))
+  -- of no memory
+  pub memory_refuses_none : (round : Round) → IsNotCleared functions round OutOfMemory
+  memory_refuses_none round = λ number is. absurd (cc)
 
-  pub not_cleared : {T : Type 0} (round : Round) (result : Result T Failure) → IsSome (position_property round.left)
-      → IfErr result (RefusesForm functions round.left Clearing) → IfErr result (IsNotCleared functions round)
+  pub memory_refuses_no_request : (round : Round) (request : Request) → RefusesRequest functions round request OutOfMemory
+  memory_refuses_no_request round request = (λ number is. absurd (cc), memory_refuses_none round)
+
+  pub not_cleared : {T : Type 0} (round : Round) (result : Result T Unadded) → IsSome (position_property round.left)
+      → IfErr result (λ cause. RefusesForm functions round.left Clearing (of_unadded cause)) → IfErr result (λ cause. IsNotCleared functions round (of_unadded cause))
   not_cleared round (Ok value) some refused = tt
   not_cleared round (Err cause) some refused = λ number is. (some, refused number is)
 
-  pub not_closed : {T : Type 0} (round : Round) (result : Result T Failure) → round.wrote ≡ true
-      → IfErr result (RefusesForm functions round.left (Position round.last)) → IfErr result (IsNotClosed functions round)
+  pub not_closed : {T : Type 0} (round : Round) (result : Result T Unadded) → round.wrote ≡ true
+      → IfErr result (λ cause. RefusesForm functions round.left (Position round.last) (of_unadded cause)) → IfErr result (λ cause. IsNotClosed functions round (of_unadded cause))
   not_closed round (Ok value) wrote refused = tt
   not_closed round (Err cause) wrote refused = λ number is. (wrote, refused number is)
 
-  -- before a request: a question, a message with a new number, and what is no refusal
-  pub refuses_question : {T : Type 0} (round : Round) (request : Request) (result : Result T Failure) → request.number ≡ None
-      → IfErr result (IsNotCleared functions round) → IfErr result (RefusesRequest functions round request)
+  -- before a request: a question, and a message with a new number
+  pub refuses_question : {T : Type 0} (round : Round) (request : Request) (result : Result T Unadded) → request.number ≡ None
+      → IfErr result (λ cause. IsNotCleared functions round (of_unadded cause)) → IfErr result (λ cause. RefusesRequest functions round request (of_unadded cause))
   refuses_question round request (Ok value) none refused = tt
   refuses_question round request (Err cause) none refused = (λ number is. subst (IsNotOld round) (sym none) tt, refused)
 
-  pub refuses_message : {T : Type 0} (round : Round) (request : Request) (result : Result T Failure) (number : ℕ) → request.number ≡ Some number → round.last < number
-      → IfErr result (IsNotCleared functions round) → IfErr result (RefusesRequest functions round request)
+  pub refuses_message : {T : Type 0} (round : Round) (request : Request) (result : Result T Unadded) (number : ℕ) → request.number ≡ Some number → round.last < number
+      → IfErr result (λ cause. IsNotCleared functions round (of_unadded cause)) → IfErr result (λ cause. RefusesRequest functions round request (of_unadded cause))
   refuses_message round request (Ok value) number some over refused = tt
   refuses_message round request (Err cause) number some over refused = (λ n is. subst (IsNotOld round) (sym some) over, refused)
-
-  pub refuses_none : {T : Type 0} (round : Round) (request : Request) (result : Result T Failure) → IfErr result (λ cause. is_refusal cause ≡ false) → IfErr result (RefusesRequest functions round request)
-  refuses_none round request (Ok value) none = tt
-  refuses_none round request (Err cause) none = (λ number is. absurd (false≢true (sym none ∙ ap is_refusal is)), no_refusal {T = Unit} round (Err cause) none)
 
   module _ (first far : Round) (requests : List Request) where
     pub at_request : (cause : Failure) (count : ℕ) (one : Request) → far ≡ each_request functions first (take count requests) → count < length requests
@@ -152,20 +153,16 @@ module _ (functions : Functions) where
           subst (λ (r : Round). RefusesRequest functions r (get_or requests count one) cause) is refused,
         )
 
-    pub at_end : {T : Type 0} (result : Result T Failure) → far ≡ each_request functions first requests → IfErr result (IsNotClosed functions far) → IfErr result (RefusesOwn functions first requests)
+    pub at_end : {T : Type 0} (result : Result T Unadded) → far ≡ each_request functions first requests → IfErr result (λ cause. IsNotClosed functions far (of_unadded cause))
+        → IfErr result (λ cause. RefusesOwn functions first requests (of_unadded cause))
     at_end (Ok value) is refused = tt
-    at_end (Err cause) is refused = inr (subst (λ (r : Round). IsNotClosed functions r cause) is refused)
+    at_end (Err cause) is refused = inr (subst (λ (r : Round). IsNotClosed functions r (of_unadded cause)) is refused)
 
   -- of what is logged
-  pub unlogged_refused : (first : Round) (requests : List Request) (cause : Failure) → is_refusal cause ≡ false → RefusesOwn functions first requests cause
-  unlogged_refused first requests cause none = inr (λ number is. absurd (false≢true (sym none ∙ ap is_refusal is)))
-
-  -- of a cause that is a refusal only where another is
-  pub refused_as : (first : Round) (requests : List Request) (cause other : Failure) → ((number : ℕ) → other ≡ Refused number → cause ≡ Refused number) → RefusesOwn functions first requests cause
-      → RefusesOwn functions first requests other
-  refused_as first requests cause other same (inl at) =
-      inl (at.0, at.1, at.2, at.3, (λ number is. at.4.0 number (same number is), λ number is. at.4.1 number (same number is)))
-  refused_as first requests cause other same (inr at) = inr (λ number is. at number (same number is))
+  pub unlogged_refused : (first : Round) (requests : List Request) (cause : Unlogged) → RefusesOwn functions first requests (of_unlogged cause)
+  unlogged_refused first requests unlogged.Full = inr (λ number is. absurd (cc))
+  unlogged_refused first requests unlogged.DeviceFault = inr (λ number is. absurd (cc))
+  unlogged_refused first requests unlogged.OutOfMemory = inr (λ number is. absurd (cc))
 
 -- what is no device fault has another number
 pub no_device : (cause : Failure) (number : ℕ) → number ≡ failure_number cause → number ≢ DEVICE → is_device cause ≡ false

@@ -1,7 +1,7 @@
 -- The position as a property.
 --     position_put      the position that was put in is there
 --     position_out      what is taken out is all that was put in
-use Rattle.std.proofs.Common.{◌≡◌, ℕ, Bool, true, false, cond, List, [], ◌∷◌, Option, Some, pos, refl, sym, ap, ◌∙◌}
+use Rattle.std.proofs.Common.{◌≡◌, ℕ, Bool, true, false, cond, [], ◌∷◌, Some, pos, refl, ap, ◌∙◌}
 use Rattle.lisp_object.specs.Object.{Object, integer}
 use Rattle.plist_state.specs.Properties.{Plist, Symbol, Properties, list_at, same_symbol, value_at, with_list, with_value, without_value}
 use Rattle.plist_state.specs.State.{WorldState}

@@ -1,15 +1,16 @@
 -- What became of requests, by what logging their records did to the store.
 --     round_taken      a message wrote
 --     round_untouched      nothing was logged: of requests of which none wrote, or for a cause that is no fault
-use Rattle.std.proofs.Common.{◌≡◌, ℕ, ◌+◌, ◌<◌, ◌≤◌, Bool, true, false, List, [], ◌∷◌, ◌++◌, length, map, Option, None, Some, Result, Ok, Err, refl, sym, ap, subst, ◌∙◌, inl, inr, arith}
+use Rattle.std.proofs.Common.{◌≡◌, ◌+◌, ◌<◌, ◌≤◌, Bool, true, false, List, [], length, map, Some, Err, refl, sym, subst, inl, arith}
 use Rattle.std.specs.List.{flat_map}
 use Rattle.std.proofs.lemmas.List.{append-nil}
-use Rattle.disk_trait.specs.Disk.{Image, State, IsHonest, IsSound}
+use Rattle.disk_trait.specs.Disk.{State, IsHonest, IsSound}
 use Rattle.disk_trait.specs.Half.{opposite_of}
-use Rattle.gate_log.specs.Layout.{Contents, LogRecord, open_record, with_records}
+use Rattle.gate_log.specs.Layout.{LogRecord, open_record}
 use Rattle.plist_state.specs.State.{WorldState}
 use Rattle.prevalence_store.specs.declared.failure.Failure.{Failure}
 use Rattle.prevalence_store.specs.declared.failure.Failure.TheVariants as failure
+use Rattle.prevalence_store.specs.declared.failure.Unlogged.{Unlogged}
 use Rattle.prevalence_store.specs.declared.messages.request.Replies.{Replies}
 use Rattle.prevalence_store.specs.calls.Execute.{SurvivesAs}
 use Rattle.prevalence_store.specs.calls.ExecuteAll.{AllOrNone, LogsAll, MeansAllOrNone}
@@ -19,9 +20,10 @@ use Rattle.prevalence_store.specs.messages.Answers.{Round}
 use Rattle.prevalence_store.specs.messages.Calls.{AreAnswered, AreLeft, entries_by, left_after}
 use Rattle.prevalence_store.specs.messages.Rounds.{told_in}
 use Rattle.prevalence_store.specs.steps.Batch.{StoresBatch, TakesBatch}
-use Rattle.prevalence_store.specs.steps.Failure.{is_device}
+use Rattle.prevalence_store.specs.steps.Failure.{is_device, of_unlogged}
 use Rattle.prevalence_store.proofs.calls.LeftAlone.{alone_still}
 use Rattle.prevalence_store.proofs.Surviving.{still, unchanged_survives}
+use Rattle.prevalence_store.proofs.steps.Taking.{full_unlogged}
 use Rattle.user_macros.specs.Functions.{Functions}
 
 module _ (functions : Functions) {D R : Type 0} (state : D → State) (sound : (d : D) → IsHonest (state d) → IsSound (state d)) where
@@ -90,11 +92,11 @@ module _ (functions : Functions) {D R : Type 0} (state : D → State) (sound : (
         }
 
     -- they were not logged
-    pub round_left : (round : Round) (cause : Failure) → round.wrote ≡ true → after functions w round.entries ≡ Some round.left → {T : Type 0} → TakesBatch functions state old new w round.left round.entries {T = T} (Err cause)
-        → AreLeft functions state old new w round cause
+    pub round_left : (round : Round) (cause : Unlogged) → round.wrote ≡ true → after functions w round.entries ≡ Some round.left → {T : Type 0} → TakesBatch functions state old new w round.left round.entries {T = T} (Err cause)
+        → AreLeft functions state old new w round (of_unlogged cause)
     round_left round cause wrote again took = record {
       unchanged = took.unchanged;
-      full = λ full. subst (of_records (λ es v. (0 < length es) × (old.limit < old.size + length (flat_map open_record es))) round) (sym wrote) (took.full full);
+      full = λ full. subst (of_records (λ es v. (0 < length es) × (old.limit < old.size + length (flat_map open_record es))) round) (sym wrote) (took.full (full_unlogged cause full));
       stopped = λ device.
           let stopped = took.stopped device in
           record {

@@ -14,11 +14,13 @@ use Rattle.lisp_reading.specs.Reading.{form}
 use Rattle.plist_state.specs.State.{WorldState}
 use Rattle.prevalence_store.specs.declared.failure.Failure.{Failure}
 use Rattle.prevalence_store.specs.declared.failure.Failure.TheVariants.{Refused, Full, DeviceFault, OutOfMemory}
+use Rattle.prevalence_store.specs.declared.failure.Unlogged.{Unlogged}
+use Rattle.prevalence_store.specs.declared.failure.Unlogged.TheVariants as unlogged
 use Rattle.prevalence_store.specs.declared.session.answer.Answered.{Answered}
 use Rattle.session_words.specs.declared.mode.Mode.{Mode}
 use Rattle.prevalence_store.specs.declared.outcome.Ending.TheVariants.{Store}
 use Rattle.prevalence_store.specs.meaning.Acceptance.{after, between, logged, read_in, records_of}
-use Rattle.prevalence_store.specs.steps.Failure.{failure_number, is_device, is_refusal}
+use Rattle.prevalence_store.specs.steps.Failure.{failure_number, is_device, of_unlogged}
 use Rattle.prevalence_store.specs.steps.Batch.{TakesForm}
 use Rattle.prevalence_store.specs.calls.Execute.{Stores, SurvivesAs}
 use Rattle.prevalence_store.specs.meaning.Answers.{Progress, after_forms, begun, evaluated, last_line, one_form, refusal_line, value_line}
@@ -236,13 +238,12 @@ module _ (functions : Functions) where
     records_written : (wrote : Bool) → wrote ≡ true → records_of wrote mode own ≡ logged mode own ∷ []
     records_written wrote wrote_is = ap (λ b. records_of b mode own) wrote_is
 
-    stops_in : (failure : Failure) (number : ℕ) → is_refusal failure ≡ false → TakesForm functions state old new mode own x (Err failure) → number ≡ failure_number failure → number ≢ LOG_FULL → written ≡ held
+    stops_in : (cause : Unlogged) (number : ℕ) → IsLeft functions state old new mode own x cause → number ≡ failure_number (of_unlogged cause) → number ≢ LOG_FULL → written ≡ held
         → Stops number
     unfolding taken_only
-    stops_in (Refused code) number calm of stop other quiet = absurd (cc)
-    stops_in OutOfMemory number calm of stop other quiet = out_of_memory number stop (of.unchanged refl) quiet
-    stops_in Full number calm of stop other quiet = absurd (other stop)
-    stops_in DeviceFault number calm of stop other quiet =
+    stops_in unlogged.OutOfMemory number of stop other quiet = out_of_memory number stop (of.unchanged refl) quiet
+    stops_in unlogged.Full number of stop other quiet = absurd (other stop)
+    stops_in unlogged.DeviceFault number of stop other quiet =
         let why = of.cause w known in
         let failed = of.fault refl in
         let taken = records_written why.0.0.wrote why.0.2 in (
@@ -267,11 +268,10 @@ module _ (functions : Functions) where
           inr (inr (stop, refl, refl, λ i. record { generation = failed.generation i; record_count = failed.record_count i; size = failed.size i; first_size = failed.first_size i })),
         )
 
-    over_in : (failure : Failure) (number : ℕ) → is_refusal failure ≡ false → TakesForm functions state old new mode own x (Err failure) → number ≡ failure_number failure → number ≡ LOG_FULL → IsOver functions old w mode text
-    over_in (Refused code) number calm of stop full = absurd (cc)
-    over_in OutOfMemory number calm of stop full = absurd (omega arith)
-    over_in DeviceFault number calm of stop full = absurd (omega arith)
-    over_in Full number calm of stop full =
+    over_in : (cause : Unlogged) (number : ℕ) → IsLeft functions state old new mode own x cause → number ≡ failure_number (of_unlogged cause) → number ≡ LOG_FULL → IsOver functions old w mode text
+    over_in unlogged.OutOfMemory number of stop full = absurd (omega arith)
+    over_in unlogged.DeviceFault number of stop full = absurd (omega arith)
+    over_in unlogged.Full number of stop full =
         let why = of.cause w known in
         record {
           next = evaluated w mode own (drop next text) (Ok why.0.0);
@@ -282,10 +282,9 @@ module _ (functions : Functions) where
         }
 
     -- there is no line: the form has no room, or it has ended the session
-    pub form_stops : (failure : Failure) (number : ℕ) → IsLeft functions state old new mode own x failure → number ≡ failure_number failure → written ≡ held
+    pub form_stops : (cause : Unlogged) (number : ℕ) → IsLeft functions state old new mode own x cause → number ≡ failure_number (of_unlogged cause) → written ≡ held
         → TriesForm functions state old new w mode text held written (Err number)
-    form_stops failure number left stop quiet =
-        (over_in failure number left.no_refusal left.takes stop, λ other. stops_in failure number left.no_refusal left.takes stop other quiet)
+    form_stops cause number left stop quiet = (over_in cause number left stop, λ other. stops_in cause number left stop other quiet)
 
     -- the writer failed
     pub form_unwritten : (answer : Result Evaluated Failure) (line : List ℕ) → TakesForm functions state old new mode own x answer → IsLine new answer line

@@ -1,5 +1,5 @@
 -- What a session has read of its input.
-use Rattle.std.proofs.Common.{◌≡◌, ℕ, false, List, [], ◌++◌, Option, None, Some, refl, sym, ap, subst, ◌∙◌, inl, inr, append_assoc, arith, append-nil}
+use Rattle.std.proofs.Common.{◌≡◌, ℕ, List, [], ◌++◌, Option, None, Some, refl, sym, ap, ◌∙◌, inl, inr, append_assoc, arith, append-nil}
 use Rattle.std.specs.Io.KnownBytes.{Consumes, IsAtEnd, Keeps}
 use Rattle.disk_trait.specs.Disk.{State}
 use Rattle.lisp_object.specs.declared.refusal.TheConstants.{INPUT}
@@ -7,13 +7,12 @@ use Rattle.plist_state.specs.State.{WorldState}
 use Rattle.prevalence_store.specs.declared.outcome.Ended.{Ended}
 use Rattle.prevalence_store.specs.declared.outcome.Ended.TheVariants as ways
 use Rattle.session_words.specs.declared.wanted.Wanted.{Wanted}
-use Rattle.prevalence_store.specs.declared.outcome.Ending.{Ending}
 use Rattle.prevalence_store.specs.declared.outcome.Ending.TheVariants.{Store}
 use Rattle.user_macros.specs.Functions.{Functions}
-use Rattle.prevalence_store.specs.calls.Serve.{ServesInput, ServesWanted, StaysAnswered, pace_wanted}
+use Rattle.prevalence_store.specs.calls.Serve.{ServesWanted, StaysAnswered, pace_wanted}
 use Rattle.prevalence_store.specs.calls.Store.{StoreView}
 use Rattle.prevalence_store.specs.steps.Course.{Course, first_course}
-use Rattle.prevalence_store.specs.steps.Serve.{EndsAt, HasEndedAt, ServesStrict, ending_of}
+use Rattle.prevalence_store.specs.steps.Serve.{EndsAt, HasEndedAt, ServesStrict}
 
 -- what a reader had, is this text and what it has
 abbrev pub HasLeft : Option (List ℕ) → Option (List ℕ) → List ℕ → Type 0

@@ -2,7 +2,7 @@
 use Rattle.std.proofs.Common.{◌≡◌, ℕ, ◌+◌, ◌<◌, ◌⊎◌, Bool, List, [], ◌∷◌, ◌++◌, length, Option, Some, refl, sym, ap, subst, ◌∙◌, inl, inr, append_assoc, arith}
 use Rattle.disk_trait.specs.Disk.{State, IsHonest, IsSound}
 use Rattle.gate_log.specs.Layout.{LogRecord}
-use Rattle.lisp_object.specs.declared.refusal.TheConstants.{DEVICE, LOG_FULL, OUTPUT, NO_MEMORY}
+use Rattle.lisp_object.specs.declared.refusal.TheConstants.{DEVICE, OUTPUT, NO_MEMORY}
 use Rattle.lisp_reading.specs.Reading.{empty, refused}
 use Rattle.plist_state.specs.State.{WorldState}
 use Rattle.session_words.specs.declared.mode.Mode.{Mode}
@@ -11,7 +11,7 @@ use Rattle.prevalence_store.specs.declared.outcome.Ending.TheVariants.{End, Read
 use Rattle.prevalence_store.specs.meaning.Acceptance.{after, read_in}
 use Rattle.user_macros.specs.Functions.{Functions}
 use Rattle.prevalence_store.specs.meaning.Answers.{Progress, after_forms, begun, onward}
-use Rattle.prevalence_store.specs.calls.Pace.{Counts, EndsInPace, Fill, HasMadeRoom, IsDue, IsOverIn, IsPaced, IsUnfollowed, LogsWithRoom, Pace, Paces, IsFollowed, begun_with, fill_of}
+use Rattle.prevalence_store.specs.calls.Pace.{Counts, EndsInPace, Fill, HasMadeRoom, IsOverIn, IsPaced, IsUnfollowed, LogsWithRoom, Pace, Paces, IsFollowed, begun_with, fill_of}
 use Rattle.prevalence_store.specs.calls.Store.{StoreView}
 use Rattle.prevalence_store.specs.steps.Answer.{AnswersFault, LeavesRecord, LogsAtOnce}
 use Rattle.prevalence_store.proofs.Surviving.{after-append}

@@ -23,7 +23,7 @@ use Rattle.form_reader.specs.declared.reader.Advance.{Advance}
 use Rattle.form_reader.specs.declared.reader.Advance.TheVariants.{More as AdvanceMore, Form as AdvanceForm, Refused as AdvanceRefused}
 use Rattle.lisp_reading.specs.Plans.{Read}
 use Rattle.form_reader.specs.Reader.{begun, fed, limits_of, BeginsAt, BeginsLater, HasBegun, IsAfter, IsAfterIn, IsDecidedFrom, MayGoOn, Steps, StepsBegun}
-use Rattle.lisp_reading.specs.Reading.{form, empty, outcome, reads, reads_at, refused}
+use Rattle.lisp_reading.specs.Reading.{form, empty, outcome, reads, reads_at}
 use Rattle.lisp_reading.specs.Setting.{Setting, setting_of}
 use Rattle.lisp_reading.specs.Fitting.{IsFitting}
 use Rattle.lisp_reading.proofs.Forms.{reads_is, stood, the_end_there}

@@ -14,6 +14,10 @@ use Rattle.prevalence_store.specs.declared.batch.Batch.{Batch}
 use Rattle.prevalence_store.specs.declared.batch.BatchRecord.{BatchRecord}
 use Rattle.prevalence_store.specs.declared.failure.Failure.{Failure}
 use Rattle.prevalence_store.specs.declared.failure.Failure.TheVariants.{Refused, Full, DeviceFault, OutOfMemory}
+use Rattle.prevalence_store.specs.declared.failure.Unadded.{Unadded}
+use Rattle.prevalence_store.specs.declared.failure.Unadded.TheVariants as unadded
+use Rattle.prevalence_store.specs.declared.failure.Unlogged.{Unlogged}
+use Rattle.prevalence_store.specs.declared.failure.Unlogged.TheVariants as unlogged
 use Rattle.session_words.specs.declared.mode.Mode.{Mode}
 use Rattle.prevalence_store.specs.declared.outcome.Outcome.{Outcome}
 use Rattle.session_words.specs.declared.wanted.Wanted.{Wanted}
@@ -26,7 +30,7 @@ use Rattle.prevalence_store.specs.calls.ExecuteAll.{LogsAll, Turns, in_turn, tol
 use Rattle.prevalence_store.specs.calls.Store.{StoreView}
 use Rattle.prevalence_store.specs.steps.Answer.{IsLeft, IsReplyTo, TakesReply}
 use Rattle.prevalence_store.specs.steps.Batch.{IsNotAdded, StoresBatch, TakesBatch, TakesForm, entries_in, entries_of}
-use Rattle.prevalence_store.specs.steps.Failure.{IsCause, is_device}
+use Rattle.prevalence_store.specs.steps.Failure.{IsCause, is_device, is_device_failure, of_unadded, of_unlogged}
 use Rattle.prevalence_store.specs.steps.Gather.{IsCounted, IsGathered, TakesGroup}
 use Rattle.prevalence_store.specs.steps.Group.{TakesAll}
 use Rattle.prevalence_store.proofs.steps.Counting.{room_is}
@@ -52,16 +56,29 @@ err_on (Ok value) f is = tt
 err_on (Err error) f is = f is
 
 -- forms that were given back
-pub counted_again : (next many : ℕ) (limit : GroupLimit) (gathered : Gathered) (result : Result Gathered Failure) → IfOk result (λ given. given ≡ gathered) → IsCounted next many limit gathered → IfOk result (IsCounted next many limit)
+pub counted_again : (next many : ℕ) (limit : GroupLimit) (gathered : Gathered) {E : Type 0} (result : Result Gathered E) → IfOk result (λ given. given ≡ gathered) → IsCounted next many limit gathered → IfOk result (IsCounted next many limit)
 counted_again next many limit gathered (Ok given) same counts = subst (IsCounted next many limit) (sym same) counts
 counted_again next many limit gathered (Err failure) same counts = tt
 
 -- the cause of a form that was not added, in words of the store
-pub cause_not_added : (given : Evaluation Object) (size limit n : ℕ) (failure : Failure) → IsNotAdded given failure → IsCause given size limit n failure
-cause_not_added given size limit n (Refused number) why = why
-cause_not_added given size limit n OutOfMemory why = tt
-cause_not_added given size limit n Full why = absurd why
-cause_not_added given size limit n DeviceFault why = absurd why
+pub cause_not_added : (given : Evaluation Object) (size limit n : ℕ) (cause : Unadded) → IsNotAdded given cause → IsCause given size limit n (of_unadded cause)
+cause_not_added given size limit n (unadded.Refused number) why = why
+cause_not_added given size limit n unadded.OutOfMemory why = tt
+
+-- what was not logged had no room
+pub full_unlogged : (cause : Unlogged) → of_unlogged cause ≡ Full → cause ≡ unlogged.Full
+full_unlogged unlogged.Full is = refl
+full_unlogged unlogged.DeviceFault is = absurd (cc)
+full_unlogged unlogged.OutOfMemory is = absurd (cc)
+
+-- what was not added was no fault of the device, and had room
+pub unadded_calm : (cause : Unadded) → is_device (of_unadded cause) ≡ false
+unadded_calm (unadded.Refused number) = refl
+unadded_calm unadded.OutOfMemory = refl
+
+pub unadded_room : (cause : Unadded) → of_unadded cause ≡ Full → ⊥
+unadded_room (unadded.Refused number) is = absurd (cc)
+unadded_room unadded.OutOfMemory is = absurd (cc)
 
 module _ (functions : Functions) where
   -- the record of a form makes the world that the form left, and fits the log
@@ -142,27 +159,26 @@ module _ (functions : Functions) where
           }
 
           -- and whose record was not logged
-          by_wrote : (wrote : Bool) → e.wrote ≡ wrote → (failure : Failure) {T : Type 0} → TakesBatch functions state old new w v (records_of wrote mode text) {T = T} (Err failure)
-              → IsCause (accept functions.names w x) old.size old.limit (length text) failure × SurvivesAs functions state old new w (taken_in mode text (Err failure)) 0
-          by_wrote wrote is (Refused number) took = absurd (cc)
-          by_wrote wrote is OutOfMemory took = (tt, nothing_survives OutOfMemory refl (took.unchanged refl) w)
-          by_wrote true is Full took =
+          by_wrote : (wrote : Bool) → e.wrote ≡ wrote → (cause : Unlogged) {T : Type 0} → TakesBatch functions state old new w v (records_of wrote mode text) {T = T} (Err cause)
+              → IsCause (accept functions.names w x) old.size old.limit (length text) (of_unlogged cause) × SurvivesAs functions state old new w (taken_in mode text (Err (of_unlogged cause))) 0
+          by_wrote wrote is unlogged.OutOfMemory took = (tt, nothing_survives OutOfMemory refl (took.unchanged refl) w)
+          by_wrote true is unlogged.Full took =
               let over = took.full refl in
               (((done e v, valued, is), omega (arith, over.1, one_size mode text)), nothing_survives Full refl (took.unchanged refl) w)
-          by_wrote false is Full took = let over = took.full refl in absurd (omega (arith, over.0))
-          by_wrote true is DeviceFault took =
+          by_wrote false is unlogged.Full took = let over = took.full refl in absurd (omega (arith, over.0))
+          by_wrote true is unlogged.DeviceFault took =
               let stopped = took.stopped refl in
               (((done e v, valued, is), omega (arith, stopped.fits, one_size mode text)), stopped.survives)
-          by_wrote false is DeviceFault took = let stopped = took.stopped refl in absurd (omega (arith, stopped.some))
+          by_wrote false is unlogged.DeviceFault took = let stopped = took.stopped refl in absurd (omega (arith, stopped.some))
 
-          pub takes_failure : (failure : Failure) {T : Type 0} → TakesBatch functions state old new w v (records_of e.wrote mode text) {T = T} (Err failure) → TakesForm functions state old new mode text x (Err failure)
-          takes_failure failure took =
-              let told = by_wrote e.wrote refl failure took in record {
+          pub takes_failure : (cause : Unlogged) {T : Type 0} → TakesBatch functions state old new w v (records_of e.wrote mode text) {T = T} (Err cause) → TakesForm functions state old new mode text x (Err (of_unlogged cause))
+          takes_failure cause took =
+              let told = by_wrote e.wrote refl cause took in record {
                 accepted = λ u is. tt;
-                cause = λ u is. subst (λ a. IsCause (accept functions.names a x) old.size old.limit (length text) failure) (here u is) told.0;
+                cause = λ u is. subst (λ a. IsCause (accept functions.names a x) old.size old.limit (length text) (of_unlogged cause)) (here u is) told.0;
                 unchanged = took.unchanged;
                 fault = λ device. (took.stopped device).failed;
-                survives = λ u is. subst (λ a. SurvivesAs functions state old new a (taken_in mode text (Err failure)) 0) (here u is) told.1 is;
+                survives = λ u is. subst (λ a. SurvivesAs functions state old new a (taken_in mode text (Err (of_unlogged cause))) 0) (here u is) told.1 is;
               }
 
         -- with the reply to it
@@ -187,19 +203,18 @@ module _ (functions : Functions) where
           reply_taken (Err DeviceFault) is stores = absurd is
           reply_taken (Err OutOfMemory) is stores = absurd is
 
-          none_left : (failure : Failure) {T : Type 0} → TakesBatch functions state old new w v [] {T = T} (Err failure) → TakesForm functions state old new mode text x (Err failure)
-          none_left OutOfMemory took = takes_nothing OutOfMemory refl (took.unchanged refl) (λ u is. tt)
-          none_left Full took = let over = took.full refl in absurd (omega (arith, over.0))
-          none_left DeviceFault took = let stopped = took.stopped refl in absurd (omega (arith, stopped.some))
-          none_left (Refused number) took = absurd (cc)
+          none_left : (cause : Unlogged) {T : Type 0} → TakesBatch functions state old new w v [] {T = T} (Err cause) → IsLeft functions state old new mode text x cause
+          none_left unlogged.OutOfMemory took = takes_nothing OutOfMemory refl (took.unchanged refl) (λ u is. tt)
+          none_left unlogged.Full took = let over = took.full refl in absurd (omega (arith, over.0))
+          none_left unlogged.DeviceFault took = let stopped = took.stopped refl in absurd (omega (arith, stopped.some))
 
-          pub reply_left : (answer : Result Evaluated Failure) → IsReplyTo functions.names mode x text w v begun batch reply answer → (failure : Failure) {T : Type 0}
-              → TakesBatch functions state old new w v (entries_to mode text answer) {T = T} (Err failure) → IsLeft functions state old new mode text x failure
-          reply_left (Ok e) is failure took = record { takes = takes_failure w v known e is.0 failure took; no_refusal = took.no_refusal }
-          reply_left (Err (Refused number)) is failure took = record { takes = none_left failure took; no_refusal = took.no_refusal }
-          reply_left (Err Full) is failure took = absurd is
-          reply_left (Err DeviceFault) is failure took = absurd is
-          reply_left (Err OutOfMemory) is failure took = absurd is
+          pub reply_left : (answer : Result Evaluated Failure) → IsReplyTo functions.names mode x text w v begun batch reply answer → (cause : Unlogged) {T : Type 0}
+              → TakesBatch functions state old new w v (entries_to mode text answer) {T = T} (Err cause) → IsLeft functions state old new mode text x cause
+          reply_left (Ok e) is cause took = takes_failure w v known e is.0 cause took
+          reply_left (Err (Refused number)) is cause took = none_left cause took
+          reply_left (Err Full) is cause took = absurd is
+          reply_left (Err DeviceFault) is cause took = absurd is
+          reply_left (Err OutOfMemory) is cause took = absurd is
 
     -- ---- texts
 
@@ -214,7 +229,7 @@ module _ (functions : Functions) where
         stopped = tt;
       }
 
-      pub texts_left : (failure : Failure) {T : Type 0} → TakesBatch functions state old new w turns.left turns.entries {T = T} (Err failure) → TakesAll functions state old new w mode texts items (Err failure)
+      pub texts_left : (failure : Unlogged) {T : Type 0} → TakesBatch functions state old new w turns.left turns.entries {T = T} (Err failure) → TakesAll functions state old new w mode texts items (Err failure)
       texts_left failure took = record {
         together = tt;
         unchanged = took.unchanged;
@@ -223,7 +238,7 @@ module _ (functions : Functions) where
             record { some = stopped.some; fits = stopped.fits; failed = stopped.failed; survives = stopped.survives; all_or_none = stopped.all_or_none };
       }
 
-      pub texts_untouched : (failure : Failure) → is_device failure ≡ false → new ≡ old → TakesAll functions state old new w mode texts items (Err failure)
+      pub texts_untouched : (failure : Unlogged) → is_device_failure failure ≡ false → new ≡ old → TakesAll functions state old new w mode texts items (Err failure)
       texts_untouched failure calm same = record { together = tt; unchanged = λ _. same; stopped = λ device. absurd (cc) }
 
     -- ---- the forms of a group
@@ -237,9 +252,9 @@ module _ (functions : Functions) where
         stopped = tt;
       }
 
-      pub group_left : (gathered : Gathered) (is : IsGathered functions wanted w text v gathered) → 0 < gathered.forms → (failure : Failure) {T : Type 0}
-          → TakesBatch functions state old new w is.far.world is.far.taken {T = T} (Err failure) → TakesGroup functions wanted state old new w text (Err failure)
-      group_left gathered is some failure took = record {
+      pub group_left : (gathered : Gathered) (is : IsGathered functions wanted w text v gathered) → 0 < gathered.forms → (cause : Unlogged) {T : Type 0}
+          → TakesBatch functions state old new w is.far.world is.far.taken {T = T} (Err cause) → TakesGroup functions wanted state old new w text (Err (of_unlogged cause))
+      group_left gathered is some cause took = record {
         together = tt;
         unchanged = took.unchanged;
         stopped = λ device.
@@ -258,10 +273,9 @@ module _ (functions : Functions) where
       }
 
       -- it was given back if it was logged
-      pub group_taken : (gathered : Gathered) (is : IsGathered functions wanted w text v gathered) → 0 < gathered.forms → (result : Result Gathered Failure) → IfOk result (λ given. given ≡ gathered)
-          → TakesBatch functions state old new w is.far.world is.far.taken result → TakesGroup functions wanted state old new w text result
-      group_taken gathered is some (Ok given) same took = subst (λ (x : Gathered). TakesGroup functions wanted state old new w text (Ok x)) (sym same) (group_stored gathered is took.stored)
-      group_taken gathered is some (Err failure) same took = group_left gathered is some failure took
+      pub group_given : (gathered given : Gathered) (is : IsGathered functions wanted w text v gathered) → given ≡ gathered
+          → StoresBatch functions state old new w is.far.world is.far.taken → TakesGroup functions wanted state old new w text (Ok given)
+      group_given gathered given is same stores = subst (λ (x : Gathered). TakesGroup functions wanted state old new w text (Ok x)) (sym same) (group_stored gathered is stores)
 
       pub group_untouched : (failure : Failure) → is_device failure ≡ false → new ≡ old → TakesGroup functions wanted state old new w text (Err failure)
       group_untouched failure calm same = record { together = tt; unchanged = λ _. same; stopped = λ device. absurd (cc) }

@@ -1,5 +1,5 @@
 -- What is answered to messages and questions one after the other, and what comes of them.
-use Rattle.std.specs.Prelude.{ℕ, ◌==◌, nat_le, max, Bool, true, false, ◌||◌, if◌then◌else◌, List, [], ◌∷◌, ◌++◌, fold, Option, None, Some, is_some, unwrap_or, Result, Ok, Err, codes}
+use Rattle.std.specs.Prelude.{ℕ, ◌==◌, nat_le, max, Bool, false, ◌||◌, if◌then◌else◌, List, [], ◌∷◌, ◌++◌, fold, Option, None, Some, is_some, unwrap_or, Result, Ok, Err, codes}
 use Rattle.std.specs.Prelude.{decimal}
 use Rattle.std.specs.Prelude.{length}
 use Rattle.canon_printer.specs.Printed.{printed}

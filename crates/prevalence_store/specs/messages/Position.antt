@@ -1,5 +1,5 @@
 -- The position: a property of the world, and the two forms of the store's own that take it out and put it in.
-use Rattle.std.specs.Prelude.{ℕ, ◌^◌, nat_lt, pos, negsuc, Bool, false, not, if◌then◌else◌, bytes_eq, List, ◌++◌, Option, None, Some, Result, Ok, Err, codes, decimal}
+use Rattle.std.specs.Prelude.{ℕ, ◌^◌, nat_lt, pos, Bool, false, not, if◌then◌else◌, bytes_eq, List, ◌++◌, Option, None, Some, Result, Ok, Err, codes, decimal}
 use Rattle.std.specs.Option.{option_and_then}
 use Rattle.lisp_object.specs.Object.{Object, integer, symbol, pair, nil}
 use Rattle.package_table.specs.Resolving.{Resolution, found_at, new_in, resolution}

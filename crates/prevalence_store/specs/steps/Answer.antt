@@ -14,6 +14,7 @@ use Rattle.lisp_reading.specs.Reading.{form}
 use Rattle.prevalence_store.specs.declared.batch.Batch.{Batch}
 use Rattle.prevalence_store.specs.declared.failure.Failure.{Failure}
 use Rattle.prevalence_store.specs.declared.failure.Failure.TheVariants as failure
+use Rattle.prevalence_store.specs.declared.failure.Unlogged.{Unlogged}
 use Rattle.prevalence_store.specs.declared.session.answer.Answered.{Answered}
 use Rattle.prevalence_store.specs.declared.session.answer.Reply.{Reply}
 use Rattle.prevalence_store.specs.declared.session.answer.Answered.TheVariants.{Accepted, Refused}
@@ -31,7 +32,7 @@ use Rattle.prevalence_store.specs.calls.Store.{StoreView}
 use Rattle.prevalence_store.specs.calls.Streams.{Writes, WritesPart}
 use Rattle.prevalence_store.specs.steps.Batch.{TakesForm, entries_in}
 use Rattle.prevalence_store.specs.steps.Course.{Course}
-use Rattle.prevalence_store.specs.steps.Failure.{is_refusal}
+use Rattle.prevalence_store.specs.steps.Failure.{of_unlogged}
 use Rattle.prevalence_store.specs.steps.Output.{IsLine}
 use Rattle.plist_state.specs.State.{WorldState}
 use Rattle.user_macros.specs.Functions.{Functions}
@@ -101,9 +102,8 @@ module _ (functions : Functions) {D R : Type 0} (state : D → State) (old new :
     pub told : reply.answered ≡ answered_of answer
 
   -- a form was not taken, and there is no reply
-  pub record IsLeft (failure : Failure) : Type 0 where
-    pub takes : TakesForm functions state old new mode own object (Err failure)
-    pub no_refusal : is_refusal failure ≡ false
+  abbrev pub IsLeft : Unlogged → Type 0
+  IsLeft cause = TakesForm functions state old new mode own object (Err (of_unlogged cause))
 
 -- it was refused, or not
 abbrev pub TellsForm : Functions → WorldState → Mode → List ℕ → Progress → Answered → Type 0

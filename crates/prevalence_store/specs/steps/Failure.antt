@@ -5,6 +5,10 @@ use Rattle.lisp_object.specs.declared.refusal.TheConstants.{DEVICE, LOG_FULL, NO
 use Rattle.lisp_operators.specs.Evaluation.{Done, Evaluation}
 use Rattle.prevalence_store.specs.declared.failure.Failure.{Failure}
 use Rattle.prevalence_store.specs.declared.failure.Failure.TheVariants.{Refused, Full, DeviceFault, OutOfMemory}
+use Rattle.prevalence_store.specs.declared.failure.Unadded.{Unadded}
+use Rattle.prevalence_store.specs.declared.failure.Unadded.TheVariants as unadded
+use Rattle.prevalence_store.specs.declared.failure.Unlogged.{Unlogged}
+use Rattle.prevalence_store.specs.declared.failure.Unlogged.TheVariants as unlogged
 
 abbrev pub failure_number : Failure → ℕ
 failure_number (Refused number) = number
@@ -19,16 +23,30 @@ is_refusal Full = false
 is_refusal DeviceFault = false
 is_refusal OutOfMemory = false
 
+-- a form that was not added was not accepted
+abbrev pub of_unadded : Unadded → Failure
+of_unadded (unadded.Refused number) = Refused number
+of_unadded unadded.OutOfMemory = OutOfMemory
+
 abbrev pub is_device : Failure → Bool
 is_device (Refused number) = false
 is_device Full = false
 is_device DeviceFault = true
 is_device OutOfMemory = false
 
+-- forms that were not logged were not accepted
+abbrev pub of_unlogged : Unlogged → Failure
+of_unlogged unlogged.Full = Full
+of_unlogged unlogged.DeviceFault = DeviceFault
+of_unlogged unlogged.OutOfMemory = OutOfMemory
+
+abbrev pub is_device_failure : Unlogged → Bool
+is_device_failure cause = is_device (of_unlogged cause)
+
 -- so the call ended
-abbrev pub is_fault : {T : Type 0} → Result T Failure → Bool
+abbrev pub is_fault : {T : Type 0} → Result T Unlogged → Bool
 is_fault (Ok value) = false
-is_fault (Err failure) = is_device failure
+is_fault (Err cause) = is_device_failure cause
 
 -- what was evaluated to this has written something
 abbrev pub HasWritten : Evaluation Object → Type 0

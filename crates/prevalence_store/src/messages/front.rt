@@ -6,9 +6,9 @@ ghost use Rattle.prevalence_store.specs.messages.Calls.{IsNotClosed, RefusesOwn}
 ghost use Rattle.prevalence_store.specs.messages.Fronts.{first_of, is_none_left, room_left};
 ghost use Rattle.prevalence_store.specs.messages.Rounds.{StaysMade, round_in, told_in};
 ghost use Rattle.prevalence_store.specs.steps.Batch.{IsMarkedFirst};
-ghost use Rattle.prevalence_store.specs.steps.Failure.{is_device};
+ghost use Rattle.prevalence_store.specs.steps.Failure.{of_unadded};
 
-use crate::failure::Failure;
+use crate::failure::Unadded;
 use crate::messages::own::Own;
 use crate::messages::request::Request;
 use crate::messages::round::Round;
@@ -25,15 +25,14 @@ impl Round {
         macros: &WholeMacros<R>,
         requests: &[Request<'_>],
         most: Option<usize>,
-    ) -> Result<(), Failure>
+    ) -> Result<(), Unadded>
         requires none { (round_in self.old world.old.0).told ≡ [] }
         ensures answered { OnOk result (round_in self.new world.new.0
             ≡ answered R.Meaning.functions (round_in self.old world.old.0)
             (first_of R.Meaning.functions most (round_in self.old world.old.0) requests.now)) }
         ensures made { OnOk result (StaysMade R.Meaning.functions (round_in self.old world.old.0) (round_in self.new world.new.0)) }
-        ensures refused { IfErr result (RefusesOwn R.Meaning.functions (round_in self.old world.old.0)
-            (first_of R.Meaning.functions most (round_in self.old world.old.0) requests.now)) }
-        ensures calm { IfErr result (λ failure. is_device failure ≡ false) }
+        ensures refused { IfErr result (λ cause.
+            RefusesOwn R.Meaning.functions (round_in self.old world.old.0) (first_of R.Meaning.functions most (round_in self.old world.old.0) requests.now) (of_unadded cause)) }
         ensures marks { (first : WorldState) → IsMarkedFirst first world.old.1
             → IsMarkedFirst first world.new.1 }
     {
@@ -50,15 +49,14 @@ impl Round {
         macros: &WholeMacros<R>,
         requests: &[Request<'_>],
         most: Option<usize>,
-    ) -> Result<(), Failure>
+    ) -> Result<(), Unadded>
         requires none { (round_in self.old world.old.0).told ≡ [] }
         ensures answered { OnOk result (round_in self.new world.new.0
             ≡ each_request R.Meaning.functions (round_in self.old world.old.0)
             (first_of R.Meaning.functions most (round_in self.old world.old.0) requests.now)) }
         ensures made { OnOk result (StaysMade R.Meaning.functions (round_in self.old world.old.0) (round_in self.new world.new.0)) }
-        ensures refused { IfErr result (RefusesOwn R.Meaning.functions (round_in self.old world.old.0)
-            (first_of R.Meaning.functions most (round_in self.old world.old.0) requests.now)) }
-        ensures calm { IfErr result (λ failure. is_device failure ≡ false) }
+        ensures refused { IfErr result (λ cause.
+            RefusesOwn R.Meaning.functions (round_in self.old world.old.0) (first_of R.Meaning.functions most (round_in self.old world.old.0) requests.now) (of_unadded cause)) }
         ensures marks { (first : WorldState) → IsMarkedFirst first world.old.1
             → IsMarkedFirst first world.new.1 }
     {
@@ -93,11 +91,11 @@ impl Round {
         &mut self,
         world: &mut World,
         macros: &WholeMacros<R>,
-    ) -> Result<(), Failure>
+    ) -> Result<(), Unadded>
         ensures closed { OnOk result (round_in self.new world.new.0 ≡ closed (round_in self.old world.old.0)) }
         ensures made { OnOk result (StaysMade R.Meaning.functions (round_in self.old world.old.0) (round_in self.new world.new.0)) }
-        ensures refused { IfErr result (IsNotClosed R.Meaning.functions (round_in self.old world.old.0)) }
-        ensures calm { IfErr result (λ failure. is_device failure ≡ false) }
+        ensures refused { IfErr result (λ cause.
+            IsNotClosed R.Meaning.functions (round_in self.old world.old.0) (of_unadded cause)) }
         ensures marks { (first : WorldState) → IsMarkedFirst first world.old.1
             → IsMarkedFirst first world.new.1 }
     {

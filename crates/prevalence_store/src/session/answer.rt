@@ -13,7 +13,7 @@ ghost use Rattle.prevalence_store.specs.steps.Schedule.{pace_of};
 ghost use Rattle.prevalence_store.specs.steps.Standing.{AcknowledgesNone, HandsOn, StandsAtForm, StandsAtRefusal};
 
 use crate::batch::Batch;
-use crate::failure::Failure;
+use crate::failure::{Failure, Unadded};
 use crate::outcome::{Ended, Ending};
 use crate::recipient::Recipient;
 use crate::session::course::Course;
@@ -233,7 +233,7 @@ impl<D: Disk, R: MacroFunctions> Store<D, R> {
         self.world.soundness();
         let reply = match self.take_reply(mode, form, own) {
             Ok(reply) => reply,
-            Err(failure) => return Err(failure.number()),
+            Err(failure) => return Err(Failure::from(failure).number()),
         };
         self.keeps_its_world();
         // what is answered is stored: a line comes after its record
@@ -267,7 +267,7 @@ pub(crate) fn reply_to<R: MacroFunctions>(
             let answered = Answered::Accepted { logged };
             Ok(Reply { line, answered })
         }
-        Err(Failure::Refused(number)) => {
+        Err(Unadded::Refused(number)) => {
             let line = line_of_refusal(alloc, number)?;
             let answered = Answered::Refused(number);
             Ok(Reply { line, answered })

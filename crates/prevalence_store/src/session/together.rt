@@ -9,6 +9,7 @@ ghost use Rattle.prevalence_store.specs.steps.Course.{course_of};
 ghost use Rattle.prevalence_store.specs.steps.Gather.{AnswersGroup, BeginsWhole};
 ghost use Rattle.prevalence_store.specs.steps.Standing.{AcknowledgesNone, HandsOn, StandsAtWhole};
 
+use crate::failure::Failure;
 use crate::outcome::Ended;
 use crate::recipient::Recipient;
 use crate::session::course::Course;
@@ -79,7 +80,7 @@ impl<D: Disk, R: MacroFunctions> Store<D, R> {
         let gathered = match self.take_group(wanted, limit, first, rest) {
             Ok(gathered) => gathered,
             Err(failure) => {
-                if failure.is_device() {
+                if matches!(failure, Failure::DeviceFault) {
                     return Grouped::Ended(Ended::Store(DEVICE));
                 }
                 return Grouped::Left;

@@ -7,7 +7,6 @@ ghost use Rattle.prevalence_store.specs.messages.Answers.{begun};
 ghost use Rattle.prevalence_store.specs.messages.Calls.{AnswersRequests, BeginsMessages, TakesRound};
 ghost use Rattle.prevalence_store.specs.messages.Fronts.{AnswersFirst, first_of};
 ghost use Rattle.prevalence_store.specs.messages.Position.{is_hidden, position, position_property};
-ghost use Rattle.prevalence_store.specs.steps.Failure.{is_device};
 
 use crate::batch::Batch;
 use crate::failure::Failure;
@@ -174,9 +173,9 @@ impl<D: Disk, R: MacroFunctions> Store<D, R> {
         let mut round = Round::new(batch, place, last, &self.world);
         match round.answer_up_to(&mut self.world, &self.macros, requests, most) {
             Ok(()) => {}
-            Err(failure) => {
+            Err(cause) => {
                 self.world.back_to(0);
-                return Err(unlogged(failure));
+                return Err(Failure::from(cause));
             }
         }
         if !round.wrote {
@@ -185,21 +184,7 @@ impl<D: Disk, R: MacroFunctions> Store<D, R> {
         }
         match round.batch.log(&mut self.log, &mut self.world) {
             Ok(()) => Ok(round.into_replies()),
-            Err(failure) => Err(failure),
+            Err(cause) => Err(Failure::from(cause)),
         }
-    }
-}
-
-// Why requests were not answered, of which nothing was to be logged yet.
-fn unlogged(failure: Failure) -> Failure
-    ensures calm { is_device result ≡ false }
-    ensures room { result ≡ Failure.Full → ⊥ }
-    ensures refused { (number : ℕ) → result ≡ Failure.Refused number → failure ≡ Failure.Refused number }
-{
-    match failure {
-        Failure::Refused(number) => Failure::Refused(number),
-        Failure::Full => Failure::OutOfMemory,
-        Failure::DeviceFault => Failure::OutOfMemory,
-        Failure::OutOfMemory => Failure::OutOfMemory,
     }
 }

@@ -5,7 +5,7 @@ ghost use Rattle.prevalence_store.specs.steps.Answer.{IsLeft, TakesReply};
 ghost use Rattle.prevalence_store.specs.steps.Batch.{IsFormIn};
 
 use crate::batch::Batch;
-use crate::failure::Failure;
+use crate::failure::Unlogged;
 use crate::session::answer::{Reply, reply_to};
 use crate::store::Store;
 use disk_trait::Disk;
@@ -21,7 +21,7 @@ impl<D: Disk, R: MacroFunctions> Store<D, R> {
         mode: Mode,
         form: &ReadForm,
         text: &[u8],
-    ) -> Result<Reply, Failure>
+    ) -> Result<Reply, Unlogged>
         requires form { IsFormIn R.Meaning.functions self.old.world
             mode form.now 0 (length text.now) text.now }
         ensures takes { IfOk result (TakesReply R.Meaning.functions D.state self.old self.new
@@ -31,7 +31,7 @@ impl<D: Disk, R: MacroFunctions> Store<D, R> {
         ensures honest { (D.state self.new.disk).honest ≡ (D.state self.old.disk).honest }
     {
         let Ok(mut batch) = Batch::begin(self.alloc, &mut self.world) else {
-            return Err(Failure::OutOfMemory);
+            return Err(Unlogged::OutOfMemory);
         };
         let world = &mut self.world;
         match reply_to(world, &self.macros, mode, &mut batch, form, text) {
@@ -41,7 +41,7 @@ impl<D: Disk, R: MacroFunctions> Store<D, R> {
             },
             Err(_) => {
                 self.world.back_to(0);
-                Err(Failure::OutOfMemory)
+                Err(Unlogged::OutOfMemory)
             }
         }
     }

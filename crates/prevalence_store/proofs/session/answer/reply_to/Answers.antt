@@ -1,10 +1,10 @@
 use Rattle.std.proofs.Common.{rules, Ok, Err, refl, ap, subst}
 use Rattle.lisp_object.specs.Datum.{object_of}
 use Rattle.form_eval.specs.Acceptance.{accept}
-use Rattle.prevalence_store.specs.declared.failure.Failure.{Failure}
 use Rattle.prevalence_store.specs.declared.failure.Failure.TheVariants.{Refused}
+use Rattle.prevalence_store.specs.declared.failure.Unadded.{Unadded}
 use Rattle.prevalence_store.specs.steps.Batch.{IsNotAdded}
-use Rattle.prevalence_store.specs.steps.Failure.{is_refusal}
+use Rattle.prevalence_store.specs.steps.Failure.{is_refusal, of_unadded}
 use Rattle.prevalence_store.proofs.session.answer.reply_to.Goals as goal
 
 pub returns-in_ok-line-in-Ok-clause-replies : goal.returns-in_ok-line-in-Ok-clause-replies
@@ -14,10 +14,10 @@ pub returns-in_ok-line-in-Err-Refused-clause-replies : goal.returns-in_ok-line-i
 returns-in_ok-line-in-Err-Refused-clause-replies g c =
     let e = c.in-Err-Refused in
     let is = e.field-0-is in
-    let same = e.ensures.unchanged (ap is_refusal is) in (
+    let same = e.ensures.unchanged (ap (λ (cause : Unadded). is_refusal (of_unadded cause)) is) in (
       Err (Refused e.number),
       (
-        subst (λ (f : Failure). IsNotAdded (accept g.R.Meaning.Meaning.functions.names c.args.world.now.0 (object_of c.args.form.now.datum)) f) is e.ensures.cause,
+        subst (λ (f : Unadded). IsNotAdded (accept g.R.Meaning.Meaning.functions.names c.args.world.now.0 (object_of c.args.form.now.datum)) f) is e.ensures.cause,
         same.0,
         same.1,
         search rules,

@@ -1,4 +1,4 @@
-use Rattle.std.proofs.Common.{[], ◌++◌, append-nil, refl, sym, subst, ◌∙◌, arith}
+use Rattle.std.proofs.Common.{refl, sym, subst, ◌∙◌, arith}
 use Rattle.form_reader.specs.Reader.{fed}
 use Rattle.lisp_object.specs.Datum.{object_of}
 use Rattle.prevalence_store.specs.declared.session.input.Fed.{Fed}

@@ -1,13 +1,23 @@
 use Rattle.std.proofs.Common.{◌≡◌, ◌++◌, ◌-◌, Bool, true, false, not, length, refl, sym, ap, subst, ◌∙◌, arith}
+use Rattle.prevalence_store.specs.declared.failure.Failure.{Failure}
+use Rattle.prevalence_store.specs.declared.failure.Failure.TheVariants.{DeviceFault, Full, OutOfMemory, Refused}
 use Rattle.prevalence_store.specs.calls.Pace.{Pace}
 use Rattle.prevalence_store.specs.calls.Streams.{Writes, WritesPart}
 use Rattle.prevalence_store.specs.steps.Course.{Course, course_of}
+use Rattle.prevalence_store.specs.steps.Failure.{is_device}
 use Rattle.prevalence_store.specs.steps.Schedule.{CountsAll, pace_of}
 use Rattle.prevalence_store.proofs.calls.Executing.{known_world}
 use Rattle.prevalence_store.proofs.steps.Counting.{fewer_before_due}
 use Rattle.prevalence_store.proofs.steps.Gathered.{group_answered, group_stopped, group_unwritten}
 use Rattle.prevalence_store.proofs.steps.Handing.{hands_lines, lines_stored, none_handed, none_of_group, rest_of_input}
 use Rattle.prevalence_store.proofs.store.Store.answer_group.Goals as goal
+use Rattle.prevalence_store.proofs.store.Store.answer_group.Goals.{in-DeviceFault, in_default}
+
+no_device : (failure : Failure) → (failure ≡ DeviceFault → ⊥) → is_device failure ≡ false
+no_device (Refused number) other = refl
+no_device Full other = refl
+no_device DeviceFault other = absurd (other refl)
+no_device OutOfMemory other = refl
 
 grouped : (group : Bool) → not group ≡ false → group ≡ true
 grouped true is = refl
@@ -17,24 +27,39 @@ pub take_group-requires-clause-begins : goal.take_group-requires-clause-begins
 take_group-requires-clause-begins g c = λ w known. let s = c.requires.stands w known in (s.0, (s.1, s.2))
 
 -- the device failed as they were logged
-pub returns-then-is_device-clause-answers : goal.returns-then-is_device-clause-answers
-returns-then-is_device-clause-answers g c = λ w known text begins pending.
+pub returns-then-matches-clause-answers : goal.returns-then-matches-clause-answers
+returns-then-matches-clause-answers g c = λ w known text begins pending.
     let functions = g.R.Meaning.Meaning.functions in
     let held = g.W.Recipient.contents c.args.writer.now in
     let course = course_of c.args.course.now in
     group_stopped functions g.D.Disk.state g.met.D.Disk.sound c.args.wanted course course c.args.self.now c.take_group.new.self w text c.args.rest.now held held known (grouped c.args.wanted.group c.if-not-wanted.false)
-    ((c.in-Err.ensures.takes w known text begins pending).stopped (sym c.is_device.ensures ∙ c.if-is_device.true)) refl
+    ((c.in-Err.ensures.takes w known text begins pending).stopped (elim c.match-matches.branch [
+      | in-DeviceFault b ↦ ap is_device b.in-DeviceFault.is
+      | in_default b ↦ let bad : true ≡ false = sym c.if-matches.true ∙ b.matches-is in absurd (cc)
+    ])) refl
 
 -- they were left
 pub returns-in-Err-clause-left : goal.returns-in-Err-clause-left
 returns-in-Err-clause-left g c = λ left.
     let here = known_world c.args.self.now.world c.requires.form.is_open in
-    let s = c.requires.stands here.0 here.1 in
-    ((c.in-Err.ensures.takes here.0 here.1 s.0 s.1 s.2).unchanged (sym c.is_device.ensures ∙ c.if-is_device.false), refl, refl)
+    let s = c.requires.stands here.0 here.1 in (
+      (c.in-Err.ensures.takes here.0 here.1 s.0 s.1 s.2).unchanged (elim c.match-matches.branch [
+        | in-DeviceFault b ↦ let bad : true ≡ false = sym b.matches-is ∙ c.if-matches.false in absurd (cc)
+        | in_default b ↦ no_device c.in-Err.failure b.in_default.not-DeviceFault
+      ]),
+      refl,
+      refl,
+    )
 
 pub returns-in-Err-clause-answers : goal.returns-in-Err-clause-answers
-returns-in-Err-clause-answers g c = λ w known text begins pending.
-    ((c.in-Err.ensures.takes w known text begins pending).unchanged (sym c.is_device.ensures ∙ c.if-is_device.false), refl, refl)
+returns-in-Err-clause-answers g c = λ w known text begins pending. (
+  (c.in-Err.ensures.takes w known text begins pending).unchanged (elim c.match-matches.branch [
+    | in-DeviceFault b ↦ let bad : true ≡ false = sym b.matches-is ∙ c.if-matches.false in absurd (cc)
+    | in_default b ↦ no_device c.in-Err.failure b.in_default.not-DeviceFault
+  ]),
+  refl,
+  refl,
+)
 
 -- their lines may be handed on
 pub write_lines-requires : goal.write_lines-requires
@@ -87,12 +112,15 @@ returns-clause-answers g c = λ w known text begins pending.
     (fewer_before_due course.pace (length gathered.batch.records.items) c.before_due-forms.result counts.records c.before_due-forms.ensures)
     c.room_before_grown-bytes.result c.room_before_grown-bytes.ensures.grown counts.record_bytes
 
-pub returns-then-is_device-clause-under_way : goal.returns-then-is_device-clause-under_way
-returns-then-is_device-clause-under_way g c = λ ended is.
+pub returns-then-matches-clause-under_way : goal.returns-then-matches-clause-under_way
+returns-then-matches-clause-under_way g c = λ ended is.
     let here = known_world c.args.self.now.world c.requires.form.is_open in
     let s = c.requires.stands here.0 here.1 in
     none_of_group g.R.Meaning.Meaning.functions g.D.Disk.state g.met.D.Disk.sound (g.W.Recipient.account c.args.writer.now) c.args.self.now c.take_group.new.self here.0 c.args.wanted.mode s.0 s.0 c.args.wanted here.1 s.3
-    ((c.in-Err.ensures.takes here.0 here.1 s.0 s.1 s.2).stopped (sym c.is_device.ensures ∙ c.if-is_device.true))
+    ((c.in-Err.ensures.takes here.0 here.1 s.0 s.1 s.2).stopped (elim c.match-matches.branch [
+      | in-DeviceFault b ↦ ap is_device b.in-DeviceFault.is
+      | in_default b ↦ let bad : true ≡ false = sym c.if-matches.true ∙ b.matches-is in absurd (cc)
+    ]))
 
 pub returns-clause-under_way : goal.returns-clause-under_way
 returns-clause-under_way g c = λ ended is.

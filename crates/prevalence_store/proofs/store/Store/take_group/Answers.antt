@@ -1,21 +1,25 @@
-use Rattle.std.proofs.Common.{rules, ◌≡◌, List, ℕ, [], false, drop, length, refl, sym, ap, subst, ◌∙◌}
+use Rattle.std.proofs.Common.{rules, ◌≡◌, List, ℕ, [], false, IfOk, Result, Ok, Err, drop, length, refl, sym, ap, subst, ◌∙◌}
 use Rattle.std.specs.List.{AllByRecursion}
 use Rattle.disk_trait.specs.Disk.{IsHonest}
 use Rattle.gate_log.specs.Layout.{IsLogRecord, LogRecord}
 use Rattle.lisp_object.specs.Datum.{object_of}
 use Rattle.form_eval.specs.Laws.{MayEvaluate}
 use Rattle.plist_state.specs.State.{WorldState, Worlds}
+use Rattle.prevalence_store.specs.declared.failure.Failure.{Failure}
+use Rattle.prevalence_store.specs.declared.failure.Unlogged.{Unlogged}
+use Rattle.prevalence_store.specs.declared.session.gather.Gathered.{Gathered}
 use Rattle.prevalence_store.specs.calls.Store.{store_view_of}
-use Rattle.prevalence_store.specs.steps.Batch.{LogsTogether}
+use Rattle.prevalence_store.specs.steps.Batch.{LogsTogether, TakesBatch}
 use Rattle.prevalence_store.specs.steps.Gather.{BeginsWhole, IsCounted, IsGathered, TakesGroup}
 use Rattle.prevalence_store.specs.declared.session.gather.GroupLimit.{GroupLimit}
 use Rattle.prevalence_store.specs.Theorem.{Keeps}
 use Rattle.prevalence_store.proofs.calls.Executing.{not_failed, world_inside, world_told}
 use Rattle.prevalence_store.proofs.steps.Grouping.{first_marked, some_marks}
 use Rattle.prevalence_store.proofs.steps.Pendings.{may_evaluate}
-use Rattle.prevalence_store.proofs.steps.Taking.{counted_again, err_on, group_taken, group_untouched, ok_on}
+use Rattle.prevalence_store.proofs.steps.Taking.{counted_again, err_on, group_given, group_left, group_untouched, ok_on}
 use Rattle.prevalence_store.proofs.steps.Together.{stays_open, store_takes}
 use Rattle.prevalence_store.proofs.store.Store.take_group.Goals as goal
+use Rattle.prevalence_store.proofs.store.Store.take_group.Goals.{in-Ok-log_gathered, in-Err-log_gathered}
 
 -- no memory to begin
 pub returns-in_default-clause-takes : goal.returns-in_default-clause-takes
@@ -70,8 +74,8 @@ back_to-requires g c =
 
 -- ---- they were logged together, or the device failed, or there was no room
 
-pub returns-in-Ok-gather-clause-takes : goal.returns-in-Ok-gather-clause-takes
-returns-in-Ok-gather-clause-takes g c = λ u known text begins rest.
+pub returns-after-log_gathered-clause-takes : goal.returns-after-log_gathered-clause-takes
+returns-after-log_gathered-clause-takes g c = λ u known text begins rest.
     let functions = g.R.Meaning.Meaning.functions in
     let state = g.D.Disk.state in
     let inside = c.self.inside in
@@ -89,15 +93,33 @@ returns-in-Ok-gather-clause-takes g c = λ u known text begins rest.
     let is = gathers text (subst (λ (a : WorldState). BeginsWhole functions a c.args.wanted.mode text (object_of c.args.first.now.read.datum) c.args.first.now.own.items c.args.first.now.next) (sym same) begins) rest in
     let left = store_view_of new.log.failed new.log.halves new.world.0 inside.macros in
     let logs = subst (λ (es : List LogRecord). LogsTogether state inside.log.halves new.log.halves es result) is.taken did.logs in
-    subst (λ (a : WorldState). TakesGroup functions c.args.wanted state now left a text result) same
-    (group_taken functions state g.met.D.Disk.sound now left c.args.wanted w c.gather.new.world.0 text gathered is c.in-Ok-gather.ensures.counts.some result did.same
-    (store_takes functions state g.met.D.Disk.sound inside.log.halves new.log.halves w new.world.0 inside.macros is.far.taken is.far.world is.again
-    inside.log.failed new.log.failed now c.self.view_is w here c.self.invariant.1 result logs (ok_on result (λ stays. stays ∙ is.left) did.stays) (err_on result (λ back. back w marked) did.goes_back) did.failed))
+    let took = store_takes functions state g.met.D.Disk.sound inside.log.halves new.log.halves w new.world.0 inside.macros is.far.taken is.far.world is.again
+    inside.log.failed new.log.failed now c.self.view_is w here c.self.invariant.1 result logs (ok_on result (λ stays. stays ∙ is.left) did.stays) (err_on result (λ back. back w marked) did.goes_back) did.failed in
+    subst (λ (a : WorldState). TakesGroup functions c.args.wanted state now left a text c.match-log_gathered.result) same
+    (elim c.match-log_gathered.branch [
+      | in-Ok-log_gathered b ↦
+          subst (λ (r : Result Gathered Failure). TakesGroup functions c.args.wanted state now left w text r) (sym b.result-is)
+          (group_given functions state g.met.D.Disk.sound now left c.args.wanted w c.gather.new.world.0 text gathered b.in-Ok-log_gathered.gathered is
+          (subst (λ (r : Result Gathered Unlogged). IfOk r (λ given. given ≡ gathered)) b.in-Ok-log_gathered.is did.same)
+          (subst (λ (r : Result Gathered Unlogged). TakesBatch functions state now left w is.far.world is.far.taken r) b.in-Ok-log_gathered.is took).stored)
+      | in-Err-log_gathered b ↦
+          subst (λ (r : Result Gathered Failure). TakesGroup functions c.args.wanted state now left w text r) (sym b.result-is)
+          (subst (λ (f : Failure). TakesGroup functions c.args.wanted state now left w text (Err f)) (sym b.from.ensures)
+          (group_left functions state g.met.D.Disk.sound now left c.args.wanted w c.gather.new.world.0 text gathered is c.in-Ok-gather.ensures.counts.some b.in-Err-log_gathered.cause
+          (subst (λ (r : Result Gathered Unlogged). TakesBatch functions state now left w is.far.world is.far.taken r) b.in-Err-log_gathered.is took)))
+    ])
 
-pub returns-in-Ok-gather-clause-counts : goal.returns-in-Ok-gather-clause-counts
-returns-in-Ok-gather-clause-counts g c =
-    counted_again c.args.first.now.next (length c.args.rest.now) c.args.limit c.in-Ok-gather.gathered c.log_gathered.result c.log_gathered.ensures.same
-    (subst (λ (l : GroupLimit). IsCounted c.args.first.now.next (length c.args.rest.now) l c.in-Ok-gather.gathered) c.new-begun.ensures.limit c.in-Ok-gather.ensures.counts)
+pub returns-after-log_gathered-clause-counts : goal.returns-after-log_gathered-clause-counts
+returns-after-log_gathered-clause-counts g c =
+    let gathered = c.in-Ok-gather.gathered in
+    let counts = subst (λ (l : GroupLimit). IsCounted c.args.first.now.next (length c.args.rest.now) l gathered) c.new-begun.ensures.limit c.in-Ok-gather.ensures.counts in
+    elim c.match-log_gathered.branch [
+      | in-Ok-log_gathered b ↦
+          subst (λ (r : Result Gathered Failure). IfOk r (IsCounted c.args.first.now.next (length c.args.rest.now) c.args.limit)) (sym b.result-is)
+          (counted_again c.args.first.now.next (length c.args.rest.now) c.args.limit gathered {E = Failure} (Ok b.in-Ok-log_gathered.gathered)
+          (subst (λ (r : Result Gathered Unlogged). IfOk r (λ given. given ≡ gathered)) b.in-Ok-log_gathered.is c.log_gathered.ensures.same) counts)
+      | in-Err-log_gathered b ↦ subst (λ (r : Result Gathered Failure). IfOk r (IsCounted c.args.first.now.next (length c.args.rest.now) c.args.limit)) (sym b.result-is) tt
+    ]
 
 pub invariant_of-self-in-Ok-gather : goal.invariant_of-self-in-Ok-gather
 invariant_of-self-in-Ok-gather g c =

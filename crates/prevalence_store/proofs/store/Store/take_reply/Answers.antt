@@ -7,6 +7,7 @@ use Rattle.lisp_object.specs.Datum.{object_of}
 use Rattle.lisp_operators.specs.declared.evaluated.Evaluated.{Evaluated}
 use Rattle.plist_state.specs.State.{Worlds}
 use Rattle.prevalence_store.specs.declared.failure.Failure.{Failure}
+use Rattle.prevalence_store.specs.declared.failure.Failure.TheVariants.{OutOfMemory}
 use Rattle.prevalence_store.specs.calls.Store.{store_view_of}
 use Rattle.prevalence_store.specs.steps.Answer.{IsReplyTo}
 use Rattle.prevalence_store.specs.steps.Batch.{LogsTogether}
@@ -22,11 +23,8 @@ pub returns-in_default-clause-left : goal.returns-in_default-clause-left
 returns-in_default-clause-left g c =
     let inside = c.self.inside in
     let same : c.begin.new.world ≡ inside.world = search rules in
-    record {
-      takes = takes_nothing g.R.Meaning.Meaning.functions g.D.Disk.state g.met.D.Disk.sound c.args.self.now _ c.args.mode c.args.text.now (object_of c.args.form.now.datum) _ refl
-          (ap (λ (s : Worlds). store_view_of inside.log.failed inside.log.halves s.0 inside.macros) same ∙ c.self.view_is) (λ u known. tt);
-      no_refusal = refl;
-    }
+    takes_nothing g.R.Meaning.Meaning.functions g.D.Disk.state g.met.D.Disk.sound c.args.self.now _ c.args.mode c.args.text.now (object_of c.args.form.now.datum) OutOfMemory refl
+    (ap (λ (s : Worlds). store_view_of inside.log.failed inside.log.halves s.0 inside.macros) same ∙ c.self.view_is) (λ u known. tt)
 
 pub reply_to-requires : goal.reply_to-requires
 reply_to-requires g c = record {
@@ -166,11 +164,8 @@ returns-clause-left g c =
     let inside = c.self.inside in
     let w = inside.world.0 in
     let marked = c.reply_to.ensures.marks w (first_marked inside.world c.begin.new.world c.self.invariant.0 c.in-Ok.ensures.marked) in
-    record {
-      takes = takes_nothing g.R.Meaning.Meaning.functions g.D.Disk.state g.met.D.Disk.sound c.args.self.now (store_view_of inside.log.failed inside.log.halves c.back_to.new.self.0 inside.macros) c.args.mode c.args.text.now (object_of c.args.form.now.datum) _ refl
-          (ap (λ (s : Worlds). store_view_of inside.log.failed inside.log.halves s.0 inside.macros) (c.back_to.ensures.whole (w, []) marked.0 marked.1 refl) ∙ c.self.view_is) (λ u known. tt);
-      no_refusal = refl;
-    }
+    takes_nothing g.R.Meaning.Meaning.functions g.D.Disk.state g.met.D.Disk.sound c.args.self.now (store_view_of inside.log.failed inside.log.halves c.back_to.new.self.0 inside.macros) c.args.mode c.args.text.now (object_of c.args.form.now.datum) OutOfMemory refl
+    (ap (λ (s : Worlds). store_view_of inside.log.failed inside.log.halves s.0 inside.macros) (c.back_to.ensures.whole (w, []) marked.0 marked.1 refl) ∙ c.self.view_is) (λ u known. tt)
 
 pub invariant_of-self-in-Err : goal.invariant_of-self-in-Err
 invariant_of-self-in-Err g c =

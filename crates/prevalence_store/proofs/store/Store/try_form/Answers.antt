@@ -1,8 +1,9 @@
-use Rattle.std.proofs.Common.{[], Some, refl, subst}
+use Rattle.std.proofs.Common.{[], Some, ap, refl, subst, ◌∙◌}
 use Rattle.lisp_object.specs.Datum.{object_of}
 use Rattle.plist_state.specs.Sound.{IsSound}
 use Rattle.plist_state.specs.State.{WorldState}
 use Rattle.prevalence_store.specs.calls.Streams.{Writes, WritesPart}
+use Rattle.prevalence_store.specs.steps.Failure.{failure_number, of_unlogged}
 use Rattle.prevalence_store.proofs.calls.Executing.{known_world, world_inside}
 use Rattle.prevalence_store.proofs.steps.Pendings.{begins_whole, may_evaluate}
 use Rattle.prevalence_store.proofs.steps.FormAnswers.{form_answered, form_stops, form_unwritten, full_unchanged, line_known}
@@ -49,7 +50,7 @@ returns-in-Err-clause-tries g c = λ w known text next begins.
     let functions = g.R.Meaning.Meaning.functions in
     form_stops functions g.D.Disk.state g.met.D.Disk.sound c.args.self.now c.take_reply.new.self w c.args.mode text (g.W.Recipient.contents c.args.writer.now) (g.W.Recipient.contents c.args.writer.now)
     known begins.start begins.stop next (object_of c.args.form.now.datum) begins.reads c.args.own.now begins.is_own c.in-Err.failure _
-    c.in-Err.ensures.left c.number.ensures refl
+    c.in-Err.ensures.left (c.number.ensures ∙ ap failure_number c.from.ensures) refl
 
 pub returns-in-Ok-write_lines-clause-tries : goal.returns-in-Ok-write_lines-clause-tries
 returns-in-Ok-write_lines-clause-tries g c = λ w known text next begins.
@@ -81,13 +82,13 @@ returns-clause-tries g c = λ w known text next begins.
 pub returns-in-Err-clause-unchanged : goal.returns-in-Err-clause-unchanged
 returns-in-Err-clause-unchanged g c =
     let functions = g.R.Meaning.Meaning.functions in
-    full_unchanged functions c.args.self.now c.take_reply.new.self c.in-Err.failure _ c.in-Err.ensures.left.takes.unchanged c.number.ensures
+    full_unchanged functions c.args.self.now c.take_reply.new.self (of_unlogged c.in-Err.failure) _ c.in-Err.ensures.left.unchanged (c.number.ensures ∙ ap failure_number c.from.ensures)
 
 pub returns-in-Err-clause-under_way : goal.returns-in-Err-clause-under_way
 returns-in-Err-clause-under_way g c =
     let here = known_world c.args.self.now.world c.requires.form.is_open in
     let s = c.requires.stands here.0 here.1 in
-    none_of_form g.R.Meaning.Meaning.functions g.D.Disk.state g.met.D.Disk.sound (g.W.Recipient.account c.args.writer.now) c.args.self.now c.take_reply.new.self here.0 c.args.mode s.0 c.args.own.now (object_of c.args.form.now.datum) c.in-Err.failure here.1 s.3 c.in-Err.ensures.left.takes
+    none_of_form g.R.Meaning.Meaning.functions g.D.Disk.state g.met.D.Disk.sound (g.W.Recipient.account c.args.writer.now) c.args.self.now c.take_reply.new.self here.0 c.args.mode s.0 c.args.own.now (object_of c.args.form.now.datum) (of_unlogged c.in-Err.failure) here.1 s.3 c.in-Err.ensures.left
 
 -- the writer failed
 pub returns-clause-under_way : goal.returns-clause-under_way

@@ -1,5 +1,4 @@
-use Rattle.std.proofs.Common.{ap, subst, sym, ◌∙◌, Ok}
-use Rattle.form_eval.specs.Acceptance.{accept}
+use Rattle.std.proofs.Common.{subst, sym}
 use Rattle.prevalence_store.specs.messages.Rounds.{IsMade, round_in}
 use Rattle.prevalence_store.proofs.requests.Making.{failed_on, done_on, own_made, own_added, own_round}
 use Rattle.prevalence_store.proofs.requests.Owned.{form_left, form_taken}

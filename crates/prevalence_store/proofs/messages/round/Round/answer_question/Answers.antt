@@ -3,27 +3,28 @@ use Rattle.plist_state.specs.State.{Worlds}
 use Rattle.prevalence_store.specs.messages.Rounds.{IsMade, round_in}
 use Rattle.prevalence_store.specs.steps.Batch.{IsMarkedFirst}
 use Rattle.prevalence_store.proofs.requests.Making.{asked_round, told_made}
-use Rattle.prevalence_store.proofs.steps.Taking.{ok_on}
 use Rattle.prevalence_store.proofs.messages.round.Round.answer_question.Goals as goal
 
-pub returns-in-Ok-answer_question-clause-answered : goal.returns-in-Ok-answer_question-clause-answered
-returns-in-Ok-answer_question-clause-answered g c =
+pub returns-in-Ok-push-clause-answered : goal.returns-in-Ok-push-clause-answered
+returns-in-Ok-push-clause-answered g c =
     let functions = g.R.Meaning.Meaning.functions in
-    ok_on c.push.result (λ pushed.
-    pushed c.answer_question.new.world.0
+    c.in-Ok-push.ensures.pushed c.answer_question.new.world.0
     ∙ asked_round functions c.clear.new.self (round_in c.args.self.now c.args.world.now.0) c.clear.new.world.0 c.answer_question.new.world.0 c.args.text.now c.in-Ok-answer_question.answer.items
-    (ap (λ (s : Worlds). s.0) c.answer_question.ensures.same) c.in-Ok-answer_question.ensures.answer c.in-Ok.ensures.cleared) c.push.ensures.pushed
+    (ap (λ (s : Worlds). s.0) c.answer_question.ensures.same) c.in-Ok-answer_question.ensures.answer c.in-Ok.ensures.cleared
 
-pub returns-in-Ok-answer_question-clause-made : goal.returns-in-Ok-answer_question-clause-made
-returns-in-Ok-answer_question-clause-made g c =
+pub returns-in-Ok-push-clause-made : goal.returns-in-Ok-push-clause-made
+returns-in-Ok-push-clause-made g c = λ first made.
     let functions = g.R.Meaning.Meaning.functions in
-    ok_on c.push.result (λ pushed first made.
-    subst (IsMade functions first) (sym (pushed c.answer_question.new.world.0))
+    subst (IsMade functions first) (sym (c.in-Ok-push.ensures.pushed c.answer_question.new.world.0))
     (told_made functions c.clear.new.self first c.clear.new.world.0 c.answer_question.new.world.0 c.in-Ok-answer_question.answer.items
-    (ap (λ (s : Worlds). s.0) c.answer_question.ensures.same) (c.in-Ok.ensures.made first made))) c.push.ensures.pushed
+    (ap (λ (s : Worlds). s.0) c.answer_question.ensures.same) (c.in-Ok.ensures.made first made))
 
-pub returns-in-Ok-answer_question-clause-marks : goal.returns-in-Ok-answer_question-clause-marks
-returns-in-Ok-answer_question-clause-marks g c = λ first marked.
+pub returns-in-Ok-push-clause-marks : goal.returns-in-Ok-push-clause-marks
+returns-in-Ok-push-clause-marks g c = λ first marked.
+    subst (λ (s : Worlds). IsMarkedFirst first s.1) (sym c.answer_question.ensures.same) (c.clear.ensures.marks first marked)
+
+pub returns-in-Err-push-clause-marks : goal.returns-in-Err-push-clause-marks
+returns-in-Err-push-clause-marks g c = λ first marked.
     subst (λ (s : Worlds). IsMarkedFirst first s.1) (sym c.answer_question.ensures.same) (c.clear.ensures.marks first marked)
 
 pub returns-in-Err-answer_question-clause-marks : goal.returns-in-Err-answer_question-clause-marks
