@@ -225,6 +225,7 @@ def refused_words(folder, program):
     other, own = os.path.join(folder, "other"), node.store(0)
     cases = (
         (3, "another node serves this folder", own, "--alone", "--listen", f"unix:{plain}-2"),
+        (3, "there is no store in this folder", other, "--alone", "--existing"),
         (3, "it is no socket", other, "--alone", "--listen", f"unix:{plain}"),
         (3, "somebody listens there", other, "--alone", "--listen", f"unix:{node.places[0]}"),
         (2, "--etcd is for a node over etcd", other, "--alone", "--etcd", "http://127.0.0.1:1"),

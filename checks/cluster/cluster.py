@@ -11,6 +11,13 @@ import urllib.request
 
 HERE = os.path.dirname(os.path.abspath(__file__))
 NODE = os.path.join(HERE, "..", "..", "cluster", "pazturrok-node")
+QUICK_NODE = """
+import sys
+sys.path.insert(0, sys.argv.pop(1))
+from pazturrok_node import main, room
+room.LEAST = 5.0
+sys.exit(main.main())
+"""
 LONG = 60.0
 """As many seconds as nothing takes, on a busy machine either."""
 
@@ -57,8 +64,10 @@ class Process:
 class Cluster:
     """Members m0, m1, .. and nodes n0, n1, ..; `apart` are namespaces, one for each place, `secrets` are certificates for all ways between."""
 
-    def __init__(self, folder, program, members=3, nodes=3, keep=600, options=(), apart=None, secrets=None):
+    def __init__(self, folder, program, members=3, nodes=3, keep=600, options=(), apart=None, secrets=None, quota=None, programs=()):
         self.folder, self.program, self.apart, self.secrets, self.blows = folder, program, apart, secrets, 0
+        self.quota, self.programs = quota, programs
+        options = [*options, *(["--quota", str(quota)] if quota else [])]
         self.context = secrets.context() if secrets else None
         ports = [2379] * members + [2380] * members + [7411] * nodes if apart else free_ports(2 * members + nodes)
         scheme = "https" if secrets else "http"
@@ -82,6 +91,7 @@ class Cluster:
         words += ["--listen-client-urls", self.urls[place], "--advertise-client-urls", self.urls[place]]
         words += ["--listen-peer-urls", peer, "--initial-advertise-peer-urls", peer, "--initial-cluster", whole]
         words += ["--heartbeat-interval", "100", "--election-timeout", "1000", *(self.secrets.words_of_member() if self.secrets else [])]
+        words += ["--quota-backend-bytes", str(self.quota)] if self.quota else []
         return Process(words, os.path.join(self.folder, f"etcd-{place}.log"), {**os.environ, "ETCD_UNSUPPORTED_ARCH": "arm64"})
 
     def node(self, place, keep=600, options=()):
@@ -97,7 +107,12 @@ class Cluster:
     def plain_words(self, place, *further):
         """The same without its certificates."""
         urls = ",".join(self.urls[place:] + self.urls[:place])
-        return [sys.executable, NODE, *further, "--etcd", urls, "--program", self.program]
+        program = self.programs[place] if place < len(self.programs) else self.program
+        return [sys.executable, *self.script(), *further, "--etcd", urls, "--program", program]
+
+    def script(self):
+        """The node's own; where it has a quota one in which seconds are few."""
+        return ["-c", QUICK_NODE, os.path.dirname(NODE)] if self.quota else [NODE]
 
     def order(self, *words):
         """Carries out an order; gives its status and what it told."""

@@ -61,5 +61,6 @@ class Sweeper:
             await asyncio.sleep(BEAT)
             if self._journal.has_old:
                 await self._journal.trim(self._node.lasting)
-            if self._journal.has_old:
-                await self._marker.mark()
+            self._marker.heed()
+            if self._journal.has_old and self._node.position > max(self._node.lasting, self._node.unread_mark):
+                self._marker.mark()

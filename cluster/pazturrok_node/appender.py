@@ -5,6 +5,7 @@ from __future__ import annotations
 import asyncio
 import collections
 import logging
+import time
 from collections.abc import Callable, Sequence
 from typing import NamedTuple, Union
 
@@ -13,6 +14,9 @@ from .log import BusyError, FullError
 from .node import Node
 
 logger = logging.getLogger(__name__)
+
+BETWEEN = 10.0
+"""Seconds between two lines that there is no room."""
 
 PAUSE = 1.0
 """Seconds after which entries are put again that the log did not take for now."""
@@ -46,6 +50,8 @@ class Appender:
         """Who has requests that are being put: no others of theirs are put beside them, and so they are in the log in their order."""
         self._idle: list[asyncio.Future[None]] = []
         """Lanes that have nothing to put."""
+        self._told = -BETWEEN
+        """When it was told last that there is no room."""
         self._first = 0
         """The position of the store as it was opened, before any of them came."""
 
@@ -108,8 +114,14 @@ class Appender:
                 logger.error("%s", error)
                 await asyncio.sleep(PAUSE)
             except FullError as error:
-                logger.error("%s", error)
+                self._tell_full(error)
                 return [error.numbers.get(one.name, Refused(NO_ROOM)) for one in some]
+
+    def _tell_full(self, error: FullError) -> None:
+        now = time.monotonic()
+        if now > self._told + BETWEEN:
+            logger.error("%s", error)
+            self._told = now
 
     def _take(self) -> list[Unplaced]:
         """The first ones that wait, of different names, as many as may be appended at once."""

@@ -19,6 +19,9 @@ logger = logging.getLogger(__name__)
 TIMEOUT = 5.0
 """Seconds that a call may take, before another member is asked."""
 
+QUICK = 1.5
+"""And so many where it is a short one, for which clients wait."""
+
 PAUSE = 0.1
 """Seconds after a call that no member answered."""
 
@@ -110,17 +113,17 @@ class Etcd:
         self._revision = 0
         """The greatest that was told. It never falls."""
 
-    async def call(self, path: str, body: dict[str, Any]) -> dict[str, Any]:
+    async def call(self, path: str, body: dict[str, Any], patience: float = TIMEOUT) -> dict[str, Any]:
         """The answer of a call, which is made until a member answers it. So it has to be one that may be made twice."""
         while True:
             at, connection = self._take()
             before = self._revision
             try:
-                found = await asyncio.wait_for(self._ask(connection, path, body), TIMEOUT)
+                found = await asyncio.wait_for(self._ask(connection, path, body), patience)
             except (OSError, asyncio.TimeoutError, asyncio.IncompleteReadError, ValueError) as error:
                 connection.close()
                 self._tell_silence(at, error)
-                self._at = (at + 1) % len(self._urls)
+                self._leave(at)
                 await asyncio.sleep(PAUSE)
                 continue
             except BaseException:
@@ -135,8 +138,28 @@ class Etcd:
                 raise CompactedError(found["error"])
             if found.get("code") not in (4, 10, 13, 14):
                 raise EtcdError(found["error"])
-            self._at = (at + 1) % len(self._urls)
+            self._leave(at)
             await asyncio.sleep(PAUSE)
+
+    def _leave(self, at: int) -> None:
+        """The next member is asked, unless another call has seen to that."""
+        if at == self._at:
+            self._at = (at + 1) % len(self._urls)
+
+    async def of(self, url: str, path: str, patience: float = QUICK) -> dict[str, Any] | None:
+        """What one member tells of itself; None where it does not answer in time."""
+        connection = Connection(url, self._context)
+        try:
+            return await asyncio.wait_for(self._ask(connection, path, {}), patience)
+        except (OSError, asyncio.TimeoutError, asyncio.IncompleteReadError, ValueError):
+            return None
+        finally:
+            connection.close()
+
+    async def of_each(self, path: str) -> dict[str, dict[str, Any]]:
+        """The same of all members that answer."""
+        found = await asyncio.gather(*(self.of(url, path) for url in self._urls))
+        return {url: told for url, told in zip(self._urls, found) if told is not None}
 
     def _look_back(self, path: str, found: dict[str, Any], before: int) -> None:
         """PutBackError where a call was answered with a lower revision than one that had ended before it."""

@@ -6,6 +6,18 @@ import abc
 from collections.abc import AsyncIterator, Sequence
 from typing import NamedTuple, Union
 
+MARK = (
+    b"(COMMON-LISP:SETF (COMMON-LISP:GET (COMMON-LISP:QUOTE COMMON-LISP-USER::|position|)"
+    b" (COMMON-LISP:QUOTE COMMON-LISP-USER::|position|)) 0)"
+)
+"""A form that changes nothing, as the store overrules it; but it writes, and so the store has its position for good."""
+
+COMPARED = MARK[:-2] + b"1)"
+"""Another one, after which the nodes compare the worlds of their stores."""
+
+MARKS = {MARK: b"0", COMPARED: b"1"}
+"""What a store answers to them that reads them so."""
+
 BEHIND = "this store is behind what is left of the log"
 
 
@@ -62,6 +74,11 @@ class Log(abc.ABC):
     def silent_seconds(self) -> float:
         """For how long whoever keeps the log has not answered."""
         return 0.0
+
+    @property
+    def trouble(self) -> str | None:
+        """Why the log takes no form now, or None."""
+        return None
 
     @abc.abstractmethod
     async def append(self, entries: Sequence[tuple[bytes, bytes]], floor: int) -> list[int] | None:

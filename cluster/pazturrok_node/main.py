@@ -22,6 +22,7 @@ from . import VERSION
 from .alone import AloneKeeper, Sweeper
 from .appender import Appender
 from .clients import MOST_CLIENTS, Clients
+from .compare import Comparer
 from .etcd import Etcd, EtcdError, PutBackError
 from .etcd_log import EtcdLog
 from .journal import Journal
@@ -29,9 +30,10 @@ from .log import BehindError, RefusedStoreError
 from .marks import Marker
 from .monitor import MOST_BYTES, Monitor
 from .names import Name, TakenNameError
-from .node import Node
+from .node import SILENCE, Node
 from .orders import begin, skip
 from .replica import Replica
+from .room import QUOTA
 from .tasks import end_all
 from .trim import Trimmer
 
@@ -70,12 +72,15 @@ def parser_of_words() -> argparse.ArgumentParser:
     parser.add_argument("--cert", metavar="FILE", help="this node for its clients by TLS, with its key in one file")
     parser.add_argument("--client-ca", metavar="FILE", help="who signs for clients: others are not heard")
     parser.add_argument("--open", action="store_true", help="listen beyond this machine without TLS")
+    parser.add_argument("--quota", type=int, metavar="BYTES", help=f"that of the members, --quota-backend-bytes of etcd, {QUOTA}")
+    parser.add_argument("--store-silence", type=float, default=SILENCE, metavar="SECONDS", help=f"a store that says nothing so long is ended, {SILENCE:.0f}")
     parser.add_argument("--log", help="which log in etcd, letters and digits: store")
     parser.add_argument("--name", default=socket.gethostname(), help="the name of this node, which no other of the log may have")
     parser.add_argument("--program", default="pazturrok", help="the program of the store")
     parser.add_argument("--existing", action="store_true", help="a folder that holds no store is refused")
     parser.add_argument("--snapshot-every", metavar="N", help="as the program has it")
     parser.add_argument("--keep", type=float, default=600, metavar="SECONDS", help="a name stays so long at least, 600")
+    parser.add_argument("--compare-every", type=float, default=3600, metavar="SECONDS", help="the worlds of the stores are compared so often, 3600; 0: never")
     parser.add_argument("--most-clients", type=int, default=MOST_CLIENTS, metavar="N", help=f"so many may be connected, {MOST_CLIENTS}")
     parser.add_argument("--monitor", metavar="PLACE", help="HOST:PORT, or unix:PATH, for GET /health and GET /metrics")
     parser.add_argument("--version", action="version", version=f"pazturrok-node {VERSION}")
@@ -93,7 +98,8 @@ def words() -> argparse.Namespace:
         parser.error(f"{asked.order[1]!r} is no number of an entry")
     if asked.alone:
         look_at_alone(parser, asked)
-    asked.etcd, asked.log = asked.etcd or MEMBER, asked.log or "store"
+    asked.etcd = MEMBER if asked.etcd is None else asked.etcd
+    asked.log = "store" if asked.log is None else asked.log
     asked.listen, asked.monitor = place_of(asked.listen), place_of(asked.monitor)
     for word in (asked.log, asked.name):
         if not re.fullmatch(r"[A-Za-z0-9._-]{1,100}", word):
@@ -101,6 +107,8 @@ def words() -> argparse.Namespace:
     look_at_members(parser, asked)
     if asked.most_clients < 1:
         parser.error("--most-clients is 1 or more")
+    if asked.quota is not None and asked.quota < 1:
+        parser.error("--quota is 1 or more")
     look_at_places(parser, asked)
     return asked
 
@@ -116,7 +124,7 @@ def place_of(word: str | None) -> str | None:
 def look_at_alone(parser: argparse.ArgumentParser, asked: argparse.Namespace) -> None:
     if asked.order[0] != "serve":
         parser.error(f"--alone is for a node that serves, and {asked.order[0]} is an order for those over etcd")
-    for word in ("etcd", "etcd_ca", "etcd_cert", "log"):
+    for word in ("etcd", "etcd_ca", "etcd_cert", "log", "quota"):
         if getattr(asked, word) is not None:
             parser.error(f"--{word.replace('_', '-')} is for a node over etcd, and this one is --alone")
 
@@ -203,9 +211,21 @@ def context_for_clients(asked: argparse.Namespace) -> ssl.SSLContext | None:
     return context
 
 
+async def hold_name(name: Name) -> None:
+    """Takes the name. Where etcd is full it waits until an operator has made room."""
+    while True:
+        try:
+            return await name.hold()
+        except EtcdError as error:
+            if "space exceeded" not in str(error):
+                raise
+            logger.error("etcd: %s: waiting", error)
+        await asyncio.sleep(3)
+
+
 async def has_name(name: Name, stop: asyncio.Task[bool]) -> bool:
     """Takes the name; or gives false, where the end is asked for before that."""
-    taking = asyncio.ensure_future(name.hold())
+    taking = asyncio.ensure_future(hold_name(name))
     await asyncio.wait([taking, stop], return_when=asyncio.FIRST_COMPLETED)
     if not taking.done():
         await end_all([taking], 1)
@@ -229,14 +249,14 @@ def until_signal() -> asyncio.Task[bool]:
     return asyncio.ensure_future(ended.wait())
 
 
-async def serve(asked: argparse.Namespace, stop: asyncio.Task[bool], node: Node, appender: Appender, work: Coroutine[Any, Any, None]) -> None:
+async def serve(asked: argparse.Namespace, stop: asyncio.Task[bool], node: Node, appender: Appender, *works: Coroutine[Any, Any, None]) -> None:
     """Serves clients until the end is asked for, or the store or the name is refused."""
     clients = Clients(node, appender, min(asked.most_clients, descriptors()))
     servers = [await listen(asked.listen, clients, context_for_clients(asked))]
     if asked.monitor:
         servers.append(await listen_to_monitors(asked.monitor, Monitor(asked.name, node, clients)))
     ready = asyncio.ensure_future(tell_ready(asked, node))
-    tasks = [stop, *(asyncio.ensure_future(one) for one in (node.run(), appender.run(), work))]
+    tasks = [stop, *(asyncio.ensure_future(one) for one in (node.run(), appender.run(), *works))]
     done, others = await asyncio.wait(tasks, return_when=asyncio.FIRST_COMPLETED)
     for server in servers:
         server.close()
@@ -258,8 +278,10 @@ async def tell_ready(asked: argparse.Namespace, node: Node) -> None:
 async def serve_alone(asked: argparse.Namespace) -> int:
     """A store on this machine, without etcd."""
     folder = asked.order[1]
+    if asked.existing and not os.path.isdir(folder):
+        raise OSError(errno.ENOENT, "there is no store in this folder", folder)
     journal = Journal(folder, asked.keep)
-    node = Node(journal, AloneKeeper(journal), program_of(asked))
+    node = Node(journal, AloneKeeper(journal), program_of(asked), asked.store_silence)
     appender = Appender(node)
     marker = Marker(node, appender, [asked.program, "verify", folder, "--existing"])
     await serve(asked, until_signal(), node, appender, Sweeper(journal, node, marker).run())
@@ -271,11 +293,13 @@ async def serve_log(asked: argparse.Namespace, log: EtcdLog, replica: Replica) -
     name, stop = Name(log, asked.name, replica), until_signal()
     if not await has_name(name, stop):
         return 0
-    node = Node(log, replica, program_of(asked))
+    node = Node(log, replica, program_of(asked), asked.store_silence)
     appender = Appender(node)
     marker = Marker(node, appender, [asked.program, "verify", asked.order[1], "--existing"])
+    trimmer = Trimmer(log, name, node, marker, asked.keep)
+    comparer = Comparer(log, name, node, trimmer, asked.compare_every)
     try:
-        await serve(asked, stop, node, appender, Trimmer(log, name, node, marker, asked.keep).run())
+        await serve(asked, stop, node, appender, trimmer.run(), comparer.run(marker, asked.program, asked.order[1]))
     finally:
         await name.let_go()
     return 0
@@ -291,7 +315,7 @@ async def follow(asked: argparse.Namespace) -> int:
     order, thing = asked.order
     if asked.alone:
         return await serve_alone(asked)
-    log = EtcdLog(Etcd(asked.etcd.split(","), context_for_etcd(asked)), asked.log)
+    log = EtcdLog(Etcd(asked.etcd.split(","), context_for_etcd(asked)), asked.log, asked.quota or QUOTA)
     if order == "skip":
         return await skip(log, int(thing))
     replica = Replica(log, asked.program, thing)

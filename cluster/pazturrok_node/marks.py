@@ -8,8 +8,9 @@ import re
 import uuid
 from collections.abc import Sequence
 
-from .appender import Appender, Placed
-from .node import MARK, Node
+from .appender import Appender
+from .log import COMPARED, MARK
+from .node import Node
 
 logger = logging.getLogger(__name__)
 
@@ -17,24 +18,23 @@ POSITION = re.compile(rb"position ([0-9]+)")
 
 
 class Marker:
-    """Has a store write its position. A form does so; where the readtable of the store does not read that, the files are looked at."""
+    """Has stores write their position. A form does so; where the readtable of a store does not read that, its files are looked at."""
 
     def __init__(self, node: Node, appender: Appender, look: Sequence[str]) -> None:
         self._node, self._appender, self._look = node, appender, look
-        self._placed: int | None = None
-        """The number of the last form that was to do so."""
+        self._looked = 0
+        self._looking: asyncio.Future[None] | None = None
 
-    async def mark(self) -> None:
+    def mark(self, compares: bool = False) -> None:
+        """Puts such a form into the log, for all stores of it."""
+        self._appender.append(self, uuid.uuid4().hex.encode("ascii"), COMPARED if compares else MARK, lambda _: None)
+
+    def heed(self) -> None:
+        """Has the files looked at, where this store could not read a mark since."""
         node = self._node
-        if node.position <= node.lasting:
-            return
-        if self._placed is not None and node.lasting < self._placed <= node.position:
-            await self._look_at_files()
-        self._placed = None
-        self._appender.append(self, uuid.uuid4().hex.encode("ascii"), MARK, self._take)
-
-    def _take(self, placed: Placed) -> None:
-        self._placed = placed if isinstance(placed, int) else None
+        if node.unread_mark > max(node.lasting, self._looked) and (self._looking is None or self._looking.done()):
+            self._looked = node.unread_mark
+            self._looking = asyncio.ensure_future(self._look_at_files())
 
     async def _look_at_files(self) -> None:
         pipe, nothing = asyncio.subprocess.PIPE, asyncio.subprocess.DEVNULL

@@ -8,6 +8,7 @@ import json
 
 from . import VERSION
 from .clients import Clients
+from .etcd_log import EtcdLog
 from .journal import Journal
 from .log import Log
 from .node import Node
@@ -66,6 +67,7 @@ class Monitor:
             found.append("the store has ended, and is started again")
         if self._node.stuck:
             found.append(f"the store ends at entry {self._node.stuck} again and again")
+        found += [trouble for trouble in (self._node.log.trouble, self._node.difference) if trouble]
         if silent > SILENCE:
             found.append(f"no member of etcd answers for {silent:.0f} s")
         return found
@@ -101,7 +103,11 @@ def figures_of(log: Log) -> list[tuple[str, str, str, list[Sample]]]:
             ("journal_names", "gauge", "Names that are kept.", [("", log.names)]),
             ("journal_bytes", "gauge", "Bytes of the journal.", [("", log.size)]),
         ]
-    return [("etcd_silent_seconds", "gauge", "For how long no member of etcd has answered.", [("", log.silent_seconds)])]
+    assert isinstance(log, EtcdLog)
+    return [
+        ("etcd_silent_seconds", "gauge", "For how long no member of etcd has answered.", [("", log.silent_seconds)]),
+        ("etcd_used_ratio", "gauge", "Which part of its quota a member of etcd uses.", [("", log.room.part)]),
+    ]
 
 
 def figure(name: str, kind: str, about: str, samples: list[Sample]) -> str:

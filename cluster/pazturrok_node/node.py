@@ -6,13 +6,14 @@ import asyncio
 import collections
 import contextlib
 import logging
+import time
 from collections.abc import Callable, Sequence
 from typing import NamedTuple
 
 from .answers import Answers
 from .child import Child
 from .frames import ANSWER, LOST, NO_MEMORY, Frames, NoFrameError, message, question
-from .log import Entry, Keeper, Log, Reached
+from .log import COMPARED, MARKS, Entry, Keeper, Log, Reached
 from .tasks import Waits, end_all
 
 logger = logging.getLogger(__name__)
@@ -20,14 +21,11 @@ logger = logging.getLogger(__name__)
 NOTHING = b"NIL"
 """What a store is fed in place of an entry that is skipped."""
 
-MARK = (
-    b"(COMMON-LISP:SETF (COMMON-LISP:GET (COMMON-LISP:QUOTE COMMON-LISP-USER::|position|)"
-    b" (COMMON-LISP:QUOTE COMMON-LISP-USER::|position|)) 0)"
-)
-"""A form that changes nothing, as the store overrules it; but it writes, and so the store has its position for good."""
-
 LONGEST_PAUSE = 10.0
 """At most so many seconds are between two starts of a store that ends at once."""
+
+SILENCE = 300.0
+"""A store that says nothing for so many seconds, though it is asked, is ended. A snapshot of a large one may take a minute."""
 
 PIECE = 1 << 18
 """At most so many bytes of answers are taken at once."""
@@ -48,13 +46,19 @@ class Question:
 
 
 class Node:
-    def __init__(self, log: Log, keeper: Keeper, words: Sequence[str]) -> None:
-        self.log, self._keeper, self._words = log, keeper, words
+    def __init__(self, log: Log, keeper: Keeper, words: Sequence[str], silence: float = SILENCE) -> None:
+        self.log, self._keeper, self._words, self._silence = log, keeper, words, silence
+        self._heard = time.monotonic()
+        """When the store has said something last, or was asked something while it had nothing to say."""
         self.answers = Answers()
         self.position = 0
         """The number of the last entry that the store has answered."""
         self.lasting = 0
         """A number that an opening of the store would tell, or a lower one than that."""
+        self.unread_mark = self.compared = 0
+        """The number of the last mark that the store could not read, and of the last one after which worlds are compared."""
+        self.difference = ""
+        """How the world of the store differs from those of others, where nobody can say which of them is right."""
         self.is_admitted = asyncio.Event()
         self.count_of_entries = self.count_of_ends = 0
         """How many entries the store has answered, and how often it has ended, while this node ran."""
@@ -176,7 +180,7 @@ class Node:
 
     async def _serve(self, child: Child) -> None:
         self._child = child
-        tasks = [asyncio.ensure_future(self._feed(child)), asyncio.ensure_future(self._listen(child))]
+        tasks = [asyncio.ensure_future(work) for work in (self._feed(child), self._listen(child), self._watch_over(child))]
         try:
             done, _ = await asyncio.wait(tasks, return_when=asyncio.FIRST_COMPLETED)
             for task in done:
@@ -184,6 +188,18 @@ class Node:
         finally:
             self._child, self._may_ask = None, False
             await end_all(tasks, 1)
+
+    async def _watch_over(self, child: Child) -> None:
+        """Ends a store that is asked and says nothing for too long: it is started again."""
+        while not (self._sent or self._asked) or time.monotonic() - self._heard < self._silence:
+            await asyncio.sleep(min(1.0, self._silence / 4))
+        logger.error("the store has said nothing for %.0f s, at %d: it is ended", self._silence, self.position)
+        child.process.kill()
+
+    def _will_send(self) -> None:
+        """Something is about to be sent to the store: from now on it is waited for."""
+        if not self._sent and not self._asked:
+            self._heard = time.monotonic()
 
     # Feeding it
 
@@ -202,6 +218,7 @@ class Node:
 
     def _send_question(self, one: Question) -> None:
         if self._child:
+            self._will_send()
             self._asked.append(one)
             self._are_answered.clear()
             self._child.send(question(one.text))
@@ -221,24 +238,34 @@ class Node:
                     await self._feed_all(child, found)
 
     async def _feed_all(self, child: Child, entries: Sequence[Entry]) -> None:
-        """Feeds entries by one write, but for one by which the store may have ended."""
-        alone = next((place for place, entry in enumerate(entries) if entry.number == self._suspect), None)
-        self._send_entries(child, entries[:alone])
-        if alone is not None:
-            await self._feed_alone(child, entries[alone])
-            self._send_entries(child, entries[alone + 1 :])
+        """Feeds entries by one write, but for one by which the store may have ended, and for one after which worlds are compared: so a
+        record of each store ends with it."""
+        some: list[Entry] = []
+        for entry in entries:
+            if entry.number == self._suspect or entry.text == COMPARED:
+                self._send_entries(child, some)
+                some = []
+                await self._feed_alone(child, entry)
+            else:
+                some.append(entry)
+        self._send_entries(child, some)
         await child.drain()
 
     async def _feed_alone(self, child: Child, entry: Entry) -> None:
         """Feeds an entry while no question is under way: so it is known whether the store ends by it."""
         self._may_ask = False
         await self._are_answered.wait()
+        if self._sent:
+            await self.reach(self._sent[-1].number)
         self._send_entries(child, [entry])
         await self.reach(entry.number)
         self._may_ask = True
         self._ask_all()
 
     def _send_entries(self, child: Child, entries: Sequence[Entry]) -> None:
+        if not entries:
+            return
+        self._will_send()
         self._sent.extend(entries)
         for entry in entries:
             if entry.number in self._skipped:
@@ -252,6 +279,7 @@ class Node:
         frames = Frames(ANSWER)
         with contextlib.suppress(NoFrameError):
             while piece := await child.answers.read(PIECE):
+                self._heard = time.monotonic()
                 for head, text in frames.split(piece):
                     if head[1]:
                         self._take_answer(int(head[1]), text)
@@ -264,10 +292,19 @@ class Node:
         self.count_of_entries += 1
         if self._last.number != number:
             raise NoFrameError(f"an answer to {number}, and not to {self._last.number}")
-        if self._last.text == MARK and text == b"0":
-            self.lasting = number
+        if self._last.text in MARKS:
+            self._take_mark(self._last, text)
         self._move(number)
         self.answers.resolve(number, self._skipped.get(number, text))
+
+    def _take_mark(self, entry: Entry, text: bytes) -> None:
+        """The store has read a mark, and so has written its position; or it reads no such form."""
+        if text != MARKS[entry.text]:
+            self.unread_mark = entry.number
+            return
+        self.lasting = entry.number
+        if entry.text == COMPARED:
+            self.compared = entry.number
 
     def _answer_question(self, text: bytes) -> None:
         one = self._asked.popleft()

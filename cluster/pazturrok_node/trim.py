@@ -10,6 +10,7 @@ import logging
 import time
 from typing import Any
 
+from . import room
 from .etcd import CompactedError, EtcdError, among, decoded, encoded
 from .etcd_log import EtcdLog
 from .marks import Marker
@@ -23,6 +24,9 @@ BEAT = 3.0
 
 AT_ONCE = 100
 """How many entries are deleted by one transaction."""
+
+FEW = 20
+"""And how many where there is little room: a member frees them at once, and takes room for that."""
 
 PAGE = 10_000
 """How many of them are asked for at once: etcd looks at all entries for that."""
@@ -54,8 +58,12 @@ class Trimmer:
         self._name, self._node, self._marker, self._keep = name, node, marker, keep
         self._log, self._etcd, self._reports = log, log.etcd, Reports(log)
         self._holder = log.prefix + b"trimmer"
-        self._seen: collections.deque[tuple[float, int]] = collections.deque()
+        self.is_holder = False
+        """Whether it is this node that sees to the log."""
         self._marked, self._trimmed = 0.0, 0
+        self._answered: collections.deque[tuple[float, int]] = collections.deque()
+        """Up to where entries were carried out by some store, and when."""
+        self._late: set[str] = set()
 
     async def run(self) -> None:
         await self._node.is_admitted.wait()
@@ -67,22 +75,35 @@ class Trimmer:
                     self._node.note()
                 await self._name.hold()
                 await self._node.heed_skips()
-                await self._report()
-                if await self._is_holder():
-                    await self._trim()
+                self._marker.heed()
+                reports = await self._report()
+                await self._log.room.look()
+                self.is_holder = await self._is_holder(self._name.text not in self._lag(reports))
+                if self.is_holder:
+                    self._log.room.shorten()
+                    await self._trim(reports)
             except EtcdError as error:
                 logger.error("etcd: %s", error)
             await asyncio.sleep(BEAT)
 
-    async def _report(self) -> None:
+    async def _report(self) -> dict[str, dict[str, int]]:
+        """Reports this node, and gives the reports of all."""
         told = {"answered": self._node.position, "lasting": self._node.lasting, "stuck": self._node.stuck}
         await self._reports.put(self._name, told)
-        self._seen.append((time.monotonic(), self._node.lasting))
+        reports, now = await self._reports.all(), time.monotonic()
+        self._answered.append((now, max((told["answered"] for told in reports.values()), default=0)))
+        while len(self._answered) > 1 and self._answered[1][0] < now - max(self._keep, room.LEAST):
+            self._answered.popleft()
+        return reports
 
-    async def _is_holder(self) -> bool:
-        """Whether it is this node that trims: it takes the key where nobody has it."""
+    async def _is_holder(self, may_be: bool) -> bool:
+        """Whether it is this node that trims: it takes the key where nobody has it, or lets it go, as its store lags and it can put nothing."""
         key, name = encoded(self._holder), self._name.text.encode("ascii")
         compare: dict[str, Any] = {"key": key, "target": "CREATE", "result": "EQUAL", "create_revision": "0"}
+        if not may_be:
+            own = {"key": key, "target": "VALUE", "result": "EQUAL", "value": encoded(name)}
+            await self._etcd.call("/v3/kv/txn", {"compare": [own], "success": [{"request_delete_range": {"key": key}}]})
+            return False
         put = {"request_put": {"key": key, "value": encoded(name), "lease": str(self._name.lease)}}
         found = await self._etcd.call("/v3/kv/txn", {"compare": [compare], "success": [put], "failure": [{"request_range": {"key": key}}]})
         if found.get("succeeded"):
@@ -90,43 +111,62 @@ class Trimmer:
         held = found["responses"][0]["response_range"].get("kvs", [])
         return bool(held) and decoded(held[0]["value"]) == name
 
-    async def _trim(self) -> None:
-        await self._mark()
-        least = min((told["lasting"] for told in (await self._reports.all()).values()), default=0)
+    async def _trim(self, reports: dict[str, dict[str, int]]) -> None:
+        self._mark()
+        is_crowded = self._log.room.is_crowded
+        keep = min(self._keep, room.LEAST) if is_crowded else self._keep
+        least = self._least(reports)
         self._trimmed = self._trimmed or await self._log.trimmed()
         # what comes after a position may have its revision, so that one stays
-        upto = self._log.place(min(least, self._position_before(time.monotonic() - self._keep))) - 1
+        upto = self._log.place(min(least, self._position_before(keep))) - 1
         if upto <= self._trimmed:
             return
         await self._log.will_trim(upto)
+        count = FEW if is_crowded else AT_ONCE
         for ranged in ({"key": encoded(self._log.entries), "range_end": encoded(self._log.tail)}, among(self._log.batches)):
             while keys := await self._old_keys(ranged, upto):
-                for place in range(0, len(keys), AT_ONCE):
-                    deletes = [delete_old(key, upto) for key in keys[place : place + AT_ONCE]]
-                    await self._etcd.call("/v3/kv/txn", {"success": deletes})
+                for place in range(0, len(keys), count):
+                    deletes = [delete_old(key, upto) for key in keys[place : place + count]]
+                    found = await self._etcd.call("/v3/kv/txn", {"success": deletes})
+                    if is_crowded:
+                        # what was deleted takes room until that is compacted; nodes that are behind then read what the keys hold
+                        await self._compact(int(found["header"]["revision"]))
         self._trimmed = upto
-        with contextlib.suppress(CompactedError):
-            await self._etcd.call("/v3/kv/compaction", {"revision": str(upto)})
+        await self._compact(upto)
 
-    async def _mark(self) -> None:
+    async def _compact(self, revision: int) -> None:
+        with contextlib.suppress(CompactedError):
+            await self._etcd.call("/v3/kv/compaction", {"revision": str(revision)})
+
+    def _lag(self, reports: dict[str, dict[str, int]]) -> set[str]:
+        """The nodes whose stores lag by LEAST seconds."""
+        wanted = self._position_before(room.LEAST)
+        return {name for name, told in reports.items() if told["lasting"] < wanted and told["answered"] < wanted}
+
+    def _least(self, reports: dict[str, dict[str, int]]) -> int:
+        """The position that the stores of all nodes have for good. Where there is little room no node is waited for that lags."""
+        late = self._lag(reports) if self._log.room.is_crowded else set()
+        if late - self._late:
+            logger.error("etcd has little room: it is not waited any more for %s", ", ".join(sorted(late)))
+        self._late = late
+        return min((told["lasting"] for name, told in reports.items() if name not in late), default=0)
+
+    def _mark(self) -> None:
         """Has all stores write their position now and then, where something has come since."""
         now = time.monotonic()
-        if self._node.position > self._node.lasting and now - self._marked > self._keep / 10:
+        pause = min(self._keep / 10, BEAT if self._log.room.is_crowded else self._keep)
+        if self._node.position > max(self._node.lasting, self._node.unread_mark) and now - self._marked > pause:
             self._marked = now
-            await self._marker.mark()
+            self._marker.mark()
 
     async def _old_keys(self, ranged: dict[str, Any], upto: int) -> list[str]:
         found = await self._etcd.call("/v3/kv/range", {**ranged, "keys_only": True, "max_create_revision": str(upto), "limit": str(PAGE)})
         return [entry["key"] for entry in found.get("kvs", [])]
 
-    def _position_before(self, moment: float) -> int:
-        """The position that was lasting at this moment, or 0 where nobody has seen it."""
-        position = 0
-        while self._seen and self._seen[0][0] <= moment:
-            _, position = self._seen.popleft()
-        if position:
-            self._seen.appendleft((moment, position))
-        return position
+    def _position_before(self, seconds: float) -> int:
+        """Up to where a store had carried out entries so many seconds ago, or 0 where nobody has seen it."""
+        moment = time.monotonic() - seconds
+        return max((position for seen, position in self._answered if seen <= moment), default=0)
 
 
 def delete_old(key: str, upto: int) -> dict[str, Any]:
