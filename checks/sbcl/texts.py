@@ -1,5 +1,10 @@
 """Random texts, and random changes of the readtable that they are read under."""
 
+from __future__ import annotations
+
+from random import Random
+from typing import NamedTuple
+
 NAMES = {" ": "Space", "\t": "Tab", "\n": "Newline"}
 # Letters, digits and signs of tokens; and the characters with a macro function or an escape in the standard readtable.
 PLAIN = "ABabXYxy019+-./:*!$%&=<>?_^~[]{}@"
@@ -7,31 +12,42 @@ MACRO = "\"'();#|\\"
 # What changes are made to: no character that the changes themselves are written with.
 CHANGED = "01!$%&=<>?_^~[]{}@,;|+.*"
 PACKAGE = ['(MAKE-PACKAGE "P")', '(EXPORT (INTERN "X" "P") "P")', '(INTERN "Y" "P")']
-PREFIXED = ["P:X", "P::X", "P::y", ":k", ":|a|", "P:Y", "KEYWORD:A", "CL:CAR", "cl:nil", "P:|x|", "::a", "P:", "a:b:c",
-            "COMMON-LISP::FOO", "#:a", "#:|B|"]
+PREFIXED = ["P:X", "P::X", "P::y", ":k", ":|a|", "P:Y", "KEYWORD:A", "CL:CAR", "cl:nil", "P:|x|", "::a", "P:",
+            "a:b:c", "COMMON-LISP::FOO", "#:a", "#:|B|"]
 CHARACTERS = ["a", "A", "Space", "NEWLINE", "newline", "Tab", "x1", "(", ";", "\\", "|a|", "Rubout", '"', " "]
 CASES = [None, None, None, "DOWNCASE", "PRESERVE", "INVERT", "UPCASE"]
 # The sub-characters of # whose functions are put elsewhere.
 GIVEN = "'(:bBoxXr\\|"
 
 
-def character(c):
+class Trial(NamedTuple):
+    """A text, the forms of the changes before it, and the case of the readtable if it is set."""
+
+    forms: list[str]
+    case: str | None
+    text: str
+
+
+def character(c: str) -> str:
+    """A character as it is written."""
     return "#\\" + NAMES.get(c, c)
 
 
-def some(random, letters, least, most):
+def some(random: Random, letters: str, least: int, most: int) -> str:
+    """Some of these letters."""
     return "".join(random.choice(letters) for _ in range(random.randint(least, most)))
 
 
-def change(random):
+def change(random: Random) -> list[str]:
     """The forms of one change of the readtable."""
     to, kind = random.choice(CHANGED), random.random()
     if kind < 0.55:
-        return [f"(SET-SYNTAX-FROM-CHAR {character(to)} {character(random.choice(chr(34) + 'ab0+.:!' + MACRO + ' ,-'))})"]
+        like = random.choice(chr(34) + "ab0+.:!" + MACRO + " ,-")
+        return [f"(SET-SYNTAX-FROM-CHAR {character(to)} {character(like)})"]
     if kind < 0.75:
         macro, rest = random.choice("'();\""), random.choice(["", "", " T", " NIL"])
         return [f"(SET-MACRO-CHARACTER {character(to)} (GET-MACRO-CHARACTER {character(macro)}){rest})"]
-    dispatch, forms, sub = "#", [], random.choice("!$ab*")
+    dispatch, sub, forms = "#", random.choice("!$ab*"), []
     if kind < 0.87:
         dispatch, sub = random.choice("!$%[]{}@~"), random.choice("abAB(|!")
         forms = [f"(MAKE-DISPATCH-MACRO-CHARACTER {character(dispatch)}{random.choice(['', ' T'])})"]
@@ -39,7 +55,8 @@ def change(random):
     return [*forms, f"(SET-DISPATCH-MACRO-CHARACTER {character(dispatch)} {character(sub)} {given})"]
 
 
-def token(random):
+def token(random: Random) -> str:
+    """The text of a token, or of nearly one."""
     kind = random.random()
     if kind < 0.25:
         return some(random, PLAIN, 1, 5)
@@ -58,7 +75,7 @@ def token(random):
     return '"' + some(random, 'ab\\" |', 0, 5) + '"'
 
 
-def thing(random, depth):
+def thing(random: Random, depth: int) -> str:
     """The text of an object, or of nearly one."""
     kind = random.random()
     if depth == 0 or kind < 0.55:
@@ -76,7 +93,7 @@ def thing(random, depth):
     return some(random, PLAIN + MACRO + " ", 1, 8)
 
 
-def altered(random, text):
+def altered(random: Random, text: str) -> str:
     """The text with a character or two put in or taken out."""
     marks = list(text)
     for _ in range(random.randint(1, 2)):
@@ -88,12 +105,12 @@ def altered(random, text):
     return "".join(marks)
 
 
-def trial(random):
-    """The forms of the changes, the case of the readtable if it is set, and the text."""
+def trial(random: Random) -> Trial:
+    """A text after some changes."""
     forms = list(PACKAGE) if random.random() < 0.7 else []
     for _ in range(random.choice([0, 0, 1, 1, 2, 3])):
         forms += change(random)
     text = thing(random, 3)
     if random.random() < 0.3:
         text = altered(random, text)
-    return forms, random.choice(CASES), "'" + text + random.choice(["", " ", "\n"])
+    return Trial(forms, random.choice(CASES), "'" + text + random.choice(["", " ", "\n"]))
