@@ -50,32 +50,49 @@ def owner_of(head: str) -> str:
 
 
 def functions_of(file: str, text: str) -> list[Function]:
-    """Returns the functions of a file with the ends of their names in a check, their cycles, and the lines of their
-    heads and bodies."""
+    """Returns the functions of a file."""
     module = [it for it in file[len("src/") : -len(".rt")].split("/") if it not in ("lib", "main", "mod")]
-    lines, found = text.split("\n"), list[Function]()
-    for at, line in enumerate(lines):
-        head = FUNCTION.match(line)
-        if not head:
-            continue
-        indent, name = head.groups()
-        ends_here = line.endswith("}")
-        last = at if ends_here else next((i for i in range(at, len(lines)) if lines[i] == f"{indent}}}"), at)
-        starts = [i for i in range(at, last + 1) if lines[i] == f"{indent}{{" or lines[i].endswith(" {") and i == at]
-        ends = [i for i in range(at, last + 1) if re.match(rf"{indent}\) .*{{$", lines[i])]
-        inside = [it for it in lines[at + 1 : last] if FUNCTION.match(it)]
-        if not starts + ends or not all(it.startswith(f"{indent} ") for it in inside):
-            continue
-        above = at
-        while above and lines[above - 1].strip().startswith(("#[", "///")):
-            above -= 1
-        cycle = re.search(r"#\[cycle\((\w+)\)", "\n".join(lines[above:at]))
-        impls = [i for i in range(at) if indent and re.match(r"(unsafe )?impl\b", lines[i])]
-        owner = [owner_of(" ".join(lines[impls[-1] : at]).split("{")[0].split("impl", 1)[1])] if impls else []
-        # (a check names a method by the module of its type, which may be another one: it takes the end of a name too)
-        path = "::".join([*(owner or module), name])
-        found.append(Function(path, cycle[1] if cycle else None, at, min(starts + ends), last))
-    return found
+    lines = text.split("\n")
+    found = [function_at(lines, first, module) for first, line in enumerate(lines) if FUNCTION.match(line)]
+    return [it for it in found if it]
+
+
+def function_at(lines: list[str], first: int, module: list[str]) -> Function | None:
+    """Returns the function that begins at this line, or nothing if it has no body, or one that is not laid out."""
+    head = FUNCTION.match(lines[first])
+    assert head
+    indent, name = head.groups()
+    last = first
+    if not lines[first].endswith("}"):
+        last = next((i for i in range(first, len(lines)) if lines[i] == f"{indent}}}"), first)
+    bodies = [i for i in range(first, last + 1) if begins_body(lines[i], indent, i == first)]
+    inside = [it for it in lines[first + 1 : last] if FUNCTION.match(it)]
+    if not bodies or not all(it.startswith(f"{indent} ") for it in inside):
+        return None
+    # (a check names a method by the module of its type, which may be another one: it takes the end of a name too)
+    path = "::".join([*(impl_above(lines, first, indent) or module), name])
+    return Function(path, cycle_above(lines, first), first, bodies[0], last)
+
+
+def begins_body(line: str, indent: str, is_first: bool) -> bool:
+    """Returns whether the body of a function with this indent begins with this line."""
+    return line == f"{indent}{{" or is_first and line.endswith(" {") or bool(re.match(rf"{indent}\) .*{{$", line))
+
+
+def cycle_above(lines: list[str], first: int) -> str | None:
+    """Returns the cycle that the attributes of a function name."""
+    above = first
+    while above and lines[above - 1].strip().startswith(("#[", "///")):
+        above -= 1
+    cycle = re.search(r"#\[cycle\((\w+)\)", "\n".join(lines[above:first]))
+    return cycle[1] if cycle else None
+
+
+def impl_above(lines: list[str], first: int, indent: str) -> list[str]:
+    """Returns the name of the impl in which a function stands, if it stands in one."""
+    impls = [i for i in range(first) if indent and re.match(r"(unsafe )?impl\b", lines[i])]
+    heads = [" ".join(lines[i:first]).partition("{")[0] for i in impls[-1:]]
+    return [owner_of(head.split("impl", 1)[1]) for head in heads]
 
 
 def hunks_of(before: str, after: str) -> list[Hunk]:
@@ -85,6 +102,12 @@ def hunks_of(before: str, after: str) -> list[Hunk]:
     return [(i1, i2, new[j1:j2]) for kind, i1, i2, j1, j2 in steps if kind != "equal"]
 
 
+def text_in(crate: Any, path: str) -> str:
+    """Returns the text of a file of the crate."""
+    with open(f"{crate.folder}/{path}", encoding="utf-8") as file:
+        return file.read()
+
+
 def read_edit(crate: Any, file: str) -> tuple[Edit | None, str | None]:
     """Returns the edit with the functions that it changes, none if it changes anything else, or why it cannot be
     applied."""
@@ -92,28 +115,30 @@ def read_edit(crate: Any, file: str) -> tuple[Edit | None, str | None]:
     if why:
         return None, why
     hunks: dict[str, list[Hunk]] = {}
-    functions: list[Function] = []
-    is_alone = changes_heads = False
+    changed: list[tuple[Function | None, int]] = []
     for path, text in texts.items():
-        with open(f"{crate.folder}/{path}", encoding="utf-8") as it:
-            before = it.read()
+        before = text_in(crate, path)
         known = functions_of(path, before) if path.startswith("src/") else []
         hunks[path] = hunks_of(before, text)
-        for start, end, _ in hunks[path]:
-            inside = [it for it in known if it.head <= start and end <= it.last + 1][-1:]
-            functions += inside
-            is_alone |= not inside
-            changes_heads |= any(start < it.body for it in inside)
-    changed = [] if is_alone else list(dict.fromkeys(functions))
-    return Edit(file, os.path.basename(file), texts, changed, hunks, changes_heads), None
+        changed += [(changed_by(known, hunk), hunk[0]) for hunk in hunks[path]]
+    functions = [function for function, _ in changed if function]
+    changes_heads = any(function and first < function.body for function, first in changed)
+    are_all = len(functions) == len(changed)
+    given = list(dict.fromkeys(functions)) if are_all else []
+    return Edit(file, os.path.basename(file), texts, given, hunks, changes_heads), None
+
+
+def changed_by(functions: list[Function], hunk: Hunk) -> Function | None:
+    """Returns the function in which these lines are, if they are in one."""
+    first, end, _ = hunk
+    return next((it for it in reversed(functions) if it.head <= first and end <= it.last + 1), None)
 
 
 def merged(crate: Any, edits: list[Edit]) -> dict[str, str]:
     """Returns the texts of the files with all these edits."""
     texts = {}
     for path in {path for edit in edits for path in edit.hunks}:
-        with open(f"{crate.folder}/{path}", encoding="utf-8") as it:
-            lines = it.read().split("\n")
+        lines = text_in(crate, path).split("\n")
         changes = [hunk for edit in edits for hunk in edit.hunks.get(path, [])]
         for start, end, new in sorted(changes, key=lambda it: it[0], reverse=True):
             lines[start:end] = new

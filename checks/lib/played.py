@@ -104,6 +104,7 @@ class Run:
 def lock_halves(folder: str, held: contextlib.ExitStack) -> None:
     """Locks both files of a store, as another process does that has it."""
     for name in ("half-a", "half-b"):
+        # pylint: disable-next=consider-using-with # (it is entered)
         file = held.enter_context(open(os.path.join(folder, name), "rb"))
         fcntl.flock(file, fcntl.LOCK_EX)
         # a child that another thread starts has the file for a moment, and would keep the lock

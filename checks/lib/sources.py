@@ -17,16 +17,16 @@ def sum_of(file: str) -> str:
     """Returns the sum of a file."""
     if os.path.islink(file) or not os.path.isfile(file):
         return "no file"
-    with open(file, "rb") as it:
-        return hashlib.sha256(it.read()).hexdigest()
+    with open(file, "rb") as source:
+        return hashlib.sha256(source.read()).hexdigest()
 
 
 def sums_of(top: str) -> Sums:
     """Returns the sum of each file that the gate reads, by its path."""
     paths = ["crates.txt", "HANDLES"]
-    for at, folders, files in os.walk(f"{top}/crates"):
+    for place, folders, files in os.walk(f"{top}/crates"):
         folders[:] = [it for it in folders if it not in LEFT_OUT]
-        paths += [os.path.relpath(f"{at}/{it}", top) for it in files]
+        paths += [os.path.relpath(f"{place}/{it}", top) for it in files]
     return {path: sum_of(f"{top}/{path}") for path in paths}
 
 
