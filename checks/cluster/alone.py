@@ -259,7 +259,9 @@ def strangers(folder, program):
         deadline = time.monotonic() + LONG
         while value(node) != "100" and time.monotonic() < deadline:
             time.sleep(0.1)
-        return [] if value(node) == "100" else [f"100 clients sent and went, and the counter is {value(node)}"]
+        faults = [] if value(node) == "100" else [f"100 clients sent and went, and the counter is {value(node)}"]
+        answers = [int(Client(node.places).request(b"do gone-%d" % number, ADD)[1]) for number in range(100)]
+        return faults + ([] if sorted(answers) == list(range(1, 101)) else ["who went and comes again does not have the answer"])
     finally:
         node.end()
 
