@@ -92,9 +92,19 @@ class JournalTest(unittest.IsolatedAsyncioTestCase):
         self.assertEqual(await one.append([(b"a", b"1"), (b"b", b"2")], 0), [8, 9])
         self.assertEqual(await one.append([(b"b", b"other"), (b"c", b"3"), (b"a", b"1")], 0), [9, 10, 8])
         one.close()
-        two = self.begun(9)
+        with mock.patch.object(journals.os, "fsync", wraps=os.fsync) as synced:
+            two = self.begun(9)
+        self.assertTrue(synced.called, "what a killed node has written and not synced is not synced")
         self.assertEqual(await two.append([(b"c", b"3")], 0), [10])
         self.assertEqual(await self.given(two, 8), [(9, b"b", b"2"), (10, b"c", b"3")])
+
+    async def test_synced_before_it_is_fed(self):
+        one, calls = self.begun(), []
+        with mock.patch.object(journals.os, "fdatasync", side_effect=lambda _: calls.append(len(one._queue))):
+            one._took = 0.0
+            await one.append([(b"a", b"1")], 0)
+            await one.append([(b"b", b"1"), (b"c", b"2")], 0)
+        self.assertEqual((calls, len(one._queue)), ([0, 1], 2))
 
     async def test_each_cut(self):
         """At whatever byte a crash ends the last write, what was whole before it stays."""
