@@ -122,12 +122,26 @@ class JournalTest(unittest.IsolatedAsyncioTestCase):
             one = self.begun()
         path = self.segments()[0]
         one.close()
-        for cut in (0, 5, len(whole) + 19, len(whole) + 30):
-            with open(path, "wb") as file:
-                file.write((b"pazturrok journal 1\n" + whole + last)[:cut])
-            two = self.begun()
-            self.assertEqual(await two.append([(b"c", b"3")], 0), [2 if cut > len(whole) else 1])
-            two.close()
+        text = b"pazturrok journal 1\n" + whole + last
+        for cut in (*range(20), len(whole) + 20, len(whole) + 30):
+            for left in (text[:cut], text[: cut // 2] + b"\0" * (cut - cut // 2) if cut <= 20 else text[:cut]):
+                with open(path, "wb") as file:
+                    file.write(left)
+                two = self.begun()
+                number = 2 if cut > len(whole) else 1
+                self.assertEqual(await two.append([(b"c", b"3")], 0), [number])
+                two.close()
+                three = self.begun()
+                self.assertEqual((await self.given(three, 0))[-1], (number, b"c", b"3"))
+                three.close()
+
+    async def test_another_file(self):
+        """What does not begin as a journal is not cut, whatever its place."""
+        self.begun().close()
+        with open(self.segments()[-1], "wb") as file:
+            file.write(b"another file, with a text\n")
+        with self.assertRaises(RefusedStoreError):
+            self.begun()
 
     async def test_damage(self):
         one = self.begun()
