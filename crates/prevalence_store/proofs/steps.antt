@@ -4,6 +4,7 @@ pub mod Committing
 pub mod Grouping
 pub mod Together
 pub mod Taking
+pub mod Turning
 pub mod Loading
 pub mod Replays
 pub mod Refusing

@@ -1,5 +1,6 @@
 -- What the functions below the calls do, each file beside the source file of its name.
 pub mod Failure
+pub mod Together
 pub mod Setting
 pub mod Batch
 pub mod Group

@@ -50,6 +50,8 @@
 //!   `gather`, forms that stand whole after one another, with their lines, and `together`, the answers to them; `schedule`,
 //!   when it takes snapshots; `course`, how far it has come. A line is made before its record is logged, and written after.
 //! - `recipient`: who gets the lines of a session.
+//! - `turn`: what is done between a mark of the world and the log, which is one call, `together` of `store`; `one_text`,
+//!   `all_texts` and `session::one_form` are three of them.
 //! - `whole_macros`: the macro functions of a store, of which none is missing.
 //! - `step`, `outcome`, `open_fault`: the words of the calls, with `Mode` and `Wanted` of session_words. `failure`: why a form is not accepted.
 //! - `laws`: the headline, openings in a row, that an image means one world, that files of version 1 mean what they meant, and
@@ -64,12 +66,14 @@
 //!   that are taken together.
 #![tactic(auto)]
 
+mod all_texts;
 mod batch;
 mod failure;
 mod group;
 mod laws;
 mod log;
 mod messages;
+mod one_text;
 mod open_fault;
 mod outcome;
 mod recipient;
@@ -78,6 +82,7 @@ mod session;
 mod setting;
 mod step;
 mod store;
+mod turn;
 mod whole_macros;
 
 pub use laws::{

@@ -4,6 +4,7 @@ pub(crate) mod answer;
 pub(crate) mod course;
 pub(crate) mod gather;
 pub(crate) mod input;
+pub(crate) mod one_form;
 pub(crate) mod output;
 pub(crate) mod schedule;
 mod serve;

@@ -1,9 +1,8 @@
 -- From what was read and evaluated to what `execute` answers.
-use Rattle.std.proofs.Common.{◌≡◌, ℕ, ◌-◌, ◌<◌, ◌≤◌, Bool, false, true, cond, List, [], length, drop, Option, None, Some, IsSome, is_some, Ok, Err, refl, sym, ap, subst, ◌∙◌, inl, inr, arith, length-drop}
+use Rattle.std.proofs.Common.{◌≡◌, ℕ, ◌-◌, ◌<◌, ◌≤◌, Bool, false, true, cond, List, [], length, drop, Option, None, Some, IsSome, is_some, Err, refl, sym, ap, subst, ◌∙◌, inl, inr, arith, length-drop}
 use Rattle.std.proofs.lemmas.List.{length-take-le}
 use Rattle.std.proofs.lemmas.Bool.{eq-eqb, ne_eqb}
 use Rattle.disk_trait.specs.Disk.{State}
-use Rattle.disk_trait.specs.Half.{opposite_of}
 use Rattle.gate_log.specs.HalfInUse.{HalvesValue}
 use Rattle.lisp_object.specs.Object.{Object, IsSound}
 use Rattle.lisp_object.specs.declared.datum.Datum.{Datum}
@@ -13,18 +12,13 @@ use Rattle.form_reader.specs.declared.reader.ReadOutcome.TheVariants.{Form as Re
 use Rattle.form_reader.specs.Reader.{IsOutcome}
 use Rattle.lisp_object.specs.declared.refusal.TheConstants.{NO_MEMORY, TEXT_LEFT_OVER}
 use Rattle.form_eval.specs.Acceptance.{accept}
-use Rattle.lisp_operators.specs.Evaluated.{done}
-use Rattle.lisp_operators.specs.declared.evaluated.Evaluated.{Evaluated}
 use Rattle.lisp_reading.specs.Reading.{Outcome as Reading, form}
 use Rattle.lisp_reading.proofs.Forms.{form_framed}
 use Rattle.plist_state.specs.State.{WorldState}
-use Rattle.prevalence_store.specs.declared.failure.Failure.{Failure}
-use Rattle.prevalence_store.specs.declared.failure.Failure.TheVariants.{Refused, Full, DeviceFault, OutOfMemory}
 use Rattle.session_words.specs.declared.mode.Mode.{Mode}
 use Rattle.prevalence_store.specs.declared.outcome.Outcome.TheVariants as outcome
-use Rattle.prevalence_store.specs.meaning.Acceptance.{Acceptance, accepts, accepted_of, acceptance_of, between, read_in, records_of, setting_in}
-use Rattle.prevalence_store.specs.steps.Failure.{failure_number, is_device, IsCause}
-use Rattle.prevalence_store.specs.calls.Execute.{Executes, DeviceFails, IsAccepted, Stores, SurvivesAs, taken_in}
+use Rattle.prevalence_store.specs.meaning.Acceptance.{accepts, accepted_of, acceptance_of, between, read_in, setting_in}
+use Rattle.prevalence_store.specs.calls.Execute.{Executes, SurvivesAs}
 use Rattle.prevalence_store.specs.calls.Store.{StoreView, store_view_of}
 use Rattle.user_macros.specs.Functions.{Functions}
 
@@ -109,53 +103,3 @@ module _ (functions : Functions) where
 
     pub out_of_memory : new ≡ old → SurvivesAs functions state old new w [] 0 → Executes functions state old new w mode text (outcome.Refused NO_MEMORY)
     out_of_memory same survives = inr (inr (inr (record { memory = refl; unchanged = same; survives = survives })))
-
-    -- of a form with this text of its own
-    module _ (own : List ℕ) (x : Object) (by : accepts functions w mode text ≡ acceptance_of own (accept functions.names w x)) where
-      -- what it was accepted as, by what it was evaluated to
-      abbrev of : Evaluated → WorldState → Acceptance
-      of e given = record { value = object_of e.value; world = given; wrote = e.wrote; text = own }
-
-      -- the device has not failed, whether it wrote or not
-      stored_calm : (wrote : Bool) (given : WorldState) → Stores state old new wrote mode own given → (state new.disk).failures ≡ (state old.disk).failures
-      stored_calm true given stored = stored.failures
-      stored_calm false given stored = ap (λ (s : StoreView D R). (state s.disk).failures) stored.0
-
-      -- it was evaluated, and logged if it wrote
-      pub accepted : (e : Evaluated) → (given : WorldState) × (accept functions.names w x ≡ Ok (done e given)) × Stores state old new e.wrote mode own given
-          → SurvivesAs functions state old new w (records_of e.wrote mode own) (length (records_of e.wrote mode own))
-          → IsAccepted functions state old new w mode text (object_of e.value)
-      accepted e given survives = record {
-        given = of e given.0;
-        accepted = by ∙ ap (acceptance_of own) given.1;
-        answered = refl;
-        stored = given.2;
-        calm = stored_calm e.wrote given.0 given.2;
-        survives = survives;
-      }
-
-      -- it was not, and this is why
-      pub failed : (failure : Failure) → IsCause (accept functions.names w x) old.size old.limit (length own) failure
-          → (is_device failure ≡ false → new ≡ old) → (is_device failure ≡ true → DeviceFails state old new (opposite_of old.half))
-          → SurvivesAs functions state old new w (taken_in mode own (Err failure)) 0
-          → Executes functions state old new w mode text (outcome.Refused (failure_number failure))
-      failed (Refused number) cause same fault survives = turned_down number (by ∙ ap (acceptance_of own) cause) (same refl) survives
-      failed Full cause same fault survives = inr (inl (record {
-        full = refl;
-        given = record { value = cause.0.0.value; world = cause.0.0.state; wrote = cause.0.0.wrote; text = own };
-        accepted = by ∙ ap (acceptance_of own) cause.0.1;
-        wrote = cause.0.2;
-        over = cause.1;
-        unchanged = same refl;
-        survives = survives;
-      }))
-      failed DeviceFault cause same fault survives = inr (inr (inl (record {
-        device = refl;
-        given = record { value = cause.0.0.value; world = cause.0.0.state; wrote = cause.0.0.wrote; text = own };
-        accepted = by ∙ ap (acceptance_of own) cause.0.1;
-        wrote = cause.0.2;
-        fits = cause.1;
-        failed = fault refl;
-        survives = survives;
-      })))
-      failed OutOfMemory cause same fault survives = out_of_memory (same refl) survives

@@ -1,12 +1,11 @@
--- What became of a form, of texts and of the forms of a group, by what logging their records did to the store.
-use Rattle.std.proofs.Common.{◌≡◌, ℕ, ◌+◌, ◌<◌, Bool, true, false, List, [], ◌∷◌, ◌++◌, length, map, Some, Result, Ok, Err, IfOk, OnOk, OnErr, Bor, refl, sym, ap, subst, ◌∙◌, arith}
+-- What became of a form and of the forms of a group, by what logging their records did to the store.
+use Rattle.std.proofs.Common.{◌≡◌, ℕ, ◌+◌, ◌<◌, Bool, true, false, List, [], ◌∷◌, ◌++◌, length, Some, Result, Ok, Err, IfOk, OnOk, OnErr, refl, sym, ap, subst, ◌∙◌, arith}
 use Rattle.std.specs.List.{AllByRecursion, flat_map}
 use Rattle.disk_trait.specs.Disk.{State, IsHonest, IsSound}
 use Rattle.gate_log.specs.Layout.{IsLogRecord, LogRecord, open_record}
 use Rattle.lisp_object.specs.Object.{Object}
 use Rattle.form_eval.specs.Acceptance.{accept}
 use Rattle.lisp_operators.specs.Evaluated.{done}
-use Rattle.lisp_operators.specs.Evaluation.{Evaluation}
 use Rattle.lisp_operators.specs.declared.evaluated.Evaluated.{Evaluated}
 use Rattle.lisp_reading.specs.Reading.{form}
 use Rattle.plist_state.specs.State.{WorldState}
@@ -19,31 +18,29 @@ use Rattle.prevalence_store.specs.declared.failure.Unadded.TheVariants as unadde
 use Rattle.prevalence_store.specs.declared.failure.Unlogged.{Unlogged}
 use Rattle.prevalence_store.specs.declared.failure.Unlogged.TheVariants as unlogged
 use Rattle.session_words.specs.declared.mode.Mode.{Mode}
-use Rattle.prevalence_store.specs.declared.outcome.Outcome.{Outcome}
 use Rattle.session_words.specs.declared.wanted.Wanted.{Wanted}
 use Rattle.prevalence_store.specs.declared.session.answer.Reply.{Reply}
 use Rattle.prevalence_store.specs.declared.session.gather.Gathered.{Gathered}
 use Rattle.prevalence_store.specs.declared.session.gather.GroupLimit.{GroupLimit}
 use Rattle.prevalence_store.specs.meaning.Acceptance.{after, logged, read_in, records_of}
 use Rattle.prevalence_store.specs.calls.Execute.{Stores, SurvivesAs, taken_in}
-use Rattle.prevalence_store.specs.calls.ExecuteAll.{LogsAll, Turns, in_turn, told_by}
+use Rattle.prevalence_store.specs.calls.ExecuteAll.{LogsAll}
 use Rattle.prevalence_store.specs.calls.Store.{StoreView}
 use Rattle.prevalence_store.specs.steps.Answer.{IsLeft, IsReplyTo, TakesReply}
-use Rattle.prevalence_store.specs.steps.Batch.{IsNotAdded, StoresBatch, TakesBatch, TakesForm, entries_in, entries_of}
-use Rattle.prevalence_store.specs.steps.Failure.{IsCause, is_device, is_device_failure, of_unadded, of_unlogged}
+use Rattle.prevalence_store.specs.steps.Batch.{StoresBatch, TakesBatch, TakesForm, entries_in, entries_of}
+use Rattle.prevalence_store.specs.steps.Failure.{IsCause, is_device, of_unadded, of_unlogged}
 use Rattle.prevalence_store.specs.steps.Gather.{IsCounted, IsGathered, TakesGroup}
-use Rattle.prevalence_store.specs.steps.Group.{TakesAll}
 use Rattle.prevalence_store.proofs.steps.Counting.{room_is}
 use Rattle.prevalence_store.proofs.steps.Grouping.{of_value}
 use Rattle.prevalence_store.proofs.Surviving.{unchanged_survives}
 use Rattle.user_macros.specs.Functions.{Functions}
 
 -- the bytes of the record of a form
-one_size : (mode : Mode) (text : List ℕ) → length (flat_map open_record (logged mode text ∷ [])) ≡ 6 + length text
+pub one_size : (mode : Mode) (text : List ℕ) → length (flat_map open_record (logged mode text ∷ [])) ≡ 6 + length text
 one_size mode text = let none : 0 + (6 + length text) ≡ 6 + length text = omega arith in room_is (logged mode text ∷ []) ∙ none
 
 -- a form that was added to a batch of none
-pub alone : (begun new : Batch) (taken : List LogRecord) → begun.records.items ≡ [] → entries_in new ≡ entries_in begun ++ taken → entries_in new ≡ taken
+alone : (begun new : Batch) (taken : List LogRecord) → begun.records.items ≡ [] → entries_in new ≡ entries_in begun ++ taken → entries_in new ≡ taken
 alone begun new taken none is = is ∙ ap (λ (forms : List BatchRecord). entries_of forms ++ taken) none
 
 -- what follows of a result
@@ -59,11 +56,6 @@ err_on (Err error) f is = f is
 pub counted_again : (next many : ℕ) (limit : GroupLimit) (gathered : Gathered) {E : Type 0} (result : Result Gathered E) → IfOk result (λ given. given ≡ gathered) → IsCounted next many limit gathered → IfOk result (IsCounted next many limit)
 counted_again next many limit gathered (Ok given) same counts = subst (IsCounted next many limit) (sym same) counts
 counted_again next many limit gathered (Err failure) same counts = tt
-
--- the cause of a form that was not added, in words of the store
-pub cause_not_added : (given : Evaluation Object) (size limit n : ℕ) (cause : Unadded) → IsNotAdded given cause → IsCause given size limit n (of_unadded cause)
-cause_not_added given size limit n (unadded.Refused number) why = why
-cause_not_added given size limit n unadded.OutOfMemory why = tt
 
 -- what was not logged had no room
 pub full_unlogged : (cause : Unlogged) → of_unlogged cause ≡ Full → cause ≡ unlogged.Full
@@ -108,7 +100,7 @@ module _ (functions : Functions) where
     -- ---- one form
 
     module _ (mode : Mode) (text : List ℕ) where
-      stored_one : (wrote : Bool) (v : WorldState) → LogsAll state old new (records_of wrote mode text) v → Stores state old new wrote mode text v
+      pub stored_one : (wrote : Bool) (v : WorldState) → LogsAll state old new (records_of wrote mode text) v → Stores state old new wrote mode text v
       stored_one true v all = record {
         left = all.left;
         half = all.half;
@@ -149,7 +141,7 @@ module _ (functions : Functions) where
           here : (u : WorldState) → old.world ≡ Some u → w ≡ u
           here u is = cc
 
-          pub takes_value : StoresBatch functions state old new w v (records_of e.wrote mode text) → TakesForm functions state old new mode text x (Ok e)
+          takes_value : StoresBatch functions state old new w v (records_of e.wrote mode text) → TakesForm functions state old new mode text x (Ok e)
           takes_value stores = record {
             accepted = λ u is. (v, ap (λ a. accept functions.names a x) (sym (here u is)) ∙ valued, stored_one e.wrote v stores.logs);
             cause = λ u is. tt;
@@ -171,7 +163,7 @@ module _ (functions : Functions) where
               (((done e v, valued, is), omega (arith, stopped.fits, one_size mode text)), stopped.survives)
           by_wrote false is unlogged.DeviceFault took = let stopped = took.stopped refl in absurd (omega (arith, stopped.some))
 
-          pub takes_failure : (cause : Unlogged) {T : Type 0} → TakesBatch functions state old new w v (records_of e.wrote mode text) {T = T} (Err cause) → TakesForm functions state old new mode text x (Err (of_unlogged cause))
+          takes_failure : (cause : Unlogged) {T : Type 0} → TakesBatch functions state old new w v (records_of e.wrote mode text) {T = T} (Err cause) → TakesForm functions state old new mode text x (Err (of_unlogged cause))
           takes_failure cause took =
               let told = by_wrote e.wrote refl cause took in record {
                 accepted = λ u is. tt;
@@ -215,31 +207,6 @@ module _ (functions : Functions) where
           reply_left (Err Full) is cause took = absurd is
           reply_left (Err DeviceFault) is cause took = absurd is
           reply_left (Err OutOfMemory) is cause took = absurd is
-
-    -- ---- texts
-
-    module _ (w : WorldState) (mode : Mode) (texts : List (Bor (List ℕ))) {V : Type 0} (items : V → List Outcome) where
-      abbrev turns : Turns
-      turns = in_turn functions w mode texts
-
-      pub texts_stored : (x : V) → map told_by (items x) ≡ turns.told → StoresBatch functions state old new w turns.left turns.entries → TakesAll functions state old new w mode texts items (Ok x)
-      texts_stored x told stores = record {
-        together = record { told = told; logs = stores.logs; survives = stores.survives; all_or_none = stores.all_or_none };
-        unchanged = tt;
-        stopped = tt;
-      }
-
-      pub texts_left : (failure : Unlogged) {T : Type 0} → TakesBatch functions state old new w turns.left turns.entries {T = T} (Err failure) → TakesAll functions state old new w mode texts items (Err failure)
-      texts_left failure took = record {
-        together = tt;
-        unchanged = took.unchanged;
-        stopped = λ device.
-            let stopped = took.stopped device in
-            record { some = stopped.some; fits = stopped.fits; failed = stopped.failed; survives = stopped.survives; all_or_none = stopped.all_or_none };
-      }
-
-      pub texts_untouched : (failure : Unlogged) → is_device_failure failure ≡ false → new ≡ old → TakesAll functions state old new w mode texts items (Err failure)
-      texts_untouched failure calm same = record { together = tt; unchanged = λ _. same; stopped = λ device. absurd (cc) }
 
     -- ---- the forms of a group
 

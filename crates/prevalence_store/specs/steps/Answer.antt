@@ -93,6 +93,15 @@ IsReplyTo names mode object own before after old new reply (Err failure.Full) = 
 IsReplyTo names mode object own before after old new reply (Err failure.DeviceFault) = ⊥
 IsReplyTo names mode object own before after old new reply (Err failure.OutOfMemory) = ⊥
 
+-- the reply to a form that was added to a batch of none, with the records of that batch
+pub record IsReplied (names : List (List ℕ)) (mode : Mode) (object : Object) (own : List ℕ) (before after : WorldState) (records : List LogRecord) (reply : Reply) : Type 0 where
+  pub none : Batch
+  pub batch : Batch
+  pub begins : none.records.items ≡ []
+  pub added : entries_in batch ≡ records
+  pub answer : Result Evaluated Failure
+  pub replies : IsReplyTo names mode object own before after none batch reply answer
+
 module _ (functions : Functions) {D R : Type 0} (state : D → State) (old new : StoreView D R) (mode : Mode) (own : List ℕ) (object : Object) where
   -- a form was taken, and this is the reply to it
   pub record TakesReply (reply : Reply) : Type 0 where

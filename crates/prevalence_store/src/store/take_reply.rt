@@ -4,9 +4,9 @@ ghost use Rattle.lisp_object.specs.Datum.{object_of};
 ghost use Rattle.prevalence_store.specs.steps.Answer.{IsLeft, TakesReply};
 ghost use Rattle.prevalence_store.specs.steps.Batch.{IsFormIn};
 
-use crate::batch::Batch;
 use crate::failure::Unlogged;
-use crate::session::answer::{Reply, reply_to};
+use crate::session::answer::Reply;
+use crate::session::one_form::OneForm;
 use crate::store::Store;
 use disk_trait::Disk;
 use form_eval::ReadForm;
@@ -30,19 +30,11 @@ impl<D: Disk, R: MacroFunctions> Store<D, R> {
             mode text.now (object_of form.now.datum)) }
         ensures honest { (D.state self.new.disk).honest ≡ (D.state self.old.disk).honest }
     {
-        let Ok(mut batch) = Batch::begin(self.alloc, &mut self.world) else {
-            return Err(Unlogged::OutOfMemory);
+        let turn = OneForm {
+            mode,
+            form,
+            own: text,
         };
-        let world = &mut self.world;
-        match reply_to(world, &self.macros, mode, &mut batch, form, text) {
-            Ok(reply) => match batch.log(&mut self.log, &mut self.world) {
-                Ok(()) => Ok(reply),
-                Err(failure) => Err(failure),
-            },
-            Err(_) => {
-                self.world.back_to(0);
-                Err(Unlogged::OutOfMemory)
-            }
-        }
+        self.together(&turn)
     }
 }
