@@ -55,7 +55,8 @@ class Calls(StoreTest):
             self.has_calls(store)
             store.put("ALL", "NUMBER", 0)
             way = {**os.environ, "PYTHONPATH": os.pathsep.join(sys.path)}
-            workers = [subprocess.Popen([sys.executable, "-c", WORK, place, f"OF-{count}"], env=way) for count in range(5)]
+            order = [sys.executable, "-c", WORK, place]
+            workers = [subprocess.Popen([*order, f"OF-{count}"], env=way) for count in range(5)]
             time.sleep(0.1)
             node.kill()
             node.wait()

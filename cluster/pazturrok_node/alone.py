@@ -36,7 +36,8 @@ class AloneKeeper(Keeper):
 
     async def ended_at(self, number: int, refusal: bytes) -> None:
         if refusal.startswith(PASSED):
-            logger.warning("the form with the number %d is answered with %s, and is not tried again", number, refusal.decode("ascii", "replace"))
+            told = refusal.decode("ascii", "replace")
+            logger.warning("the form with the number %d is answered with %s, and is not tried again", number, told)
             await self._journal.skip(number, refusal)
 
     def will_skip(self, number: int) -> None:

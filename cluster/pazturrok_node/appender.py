@@ -29,7 +29,8 @@ class Refused(NamedTuple):
 
 
 Placed = Union[int, Refused, None]
-"""The number of an entry; or why it is none; or None, where it waited for so long that one of its name may be deleted already."""
+"""The number of an entry; or why it is none; or None, where it waited for so long that one of its name may be deleted
+already."""
 
 
 class Unplaced(NamedTuple):
@@ -47,7 +48,8 @@ class Appender:
         self._node, self._log = node, node.log
         self._waiting: collections.deque[Unplaced] = collections.deque()
         self._senders: set[object] = set()
-        """Who has requests that are being put: no others of theirs are put beside them, and so they are in the log in their order."""
+        """Who has requests that are being put: no others of theirs are put beside them, and so they are in the log in
+        their order."""
         self._idle: list[asyncio.Future[None]] = []
         """Lanes that have nothing to put."""
         self._told = -BETWEEN
@@ -56,7 +58,8 @@ class Appender:
         """The position of the store as it was opened, before any of them came."""
 
     def append(self, sender: object, name: bytes, text: bytes, take: Callable[[Placed], None]) -> None:
-        """Puts an entry into the log, once, however often it is tried, and after those of earlier calls of this sender."""
+        """Puts an entry into the log, once, however often it is tried, and after those of earlier calls of this
+        sender."""
         self._waiting.append(Unplaced(sender, name, text, self._node.position, take))
         self._wake()
 
@@ -96,7 +99,8 @@ class Appender:
             one.take(number)
 
     async def _leave(self, some: Sequence[Unplaced]) -> list[Unplaced]:
-        """Lets go of those that came before entries which are deleted now: the client may have sent them to another node since."""
+        """Lets go of those that came before entries which are deleted now: the client may have sent them to another
+        node since."""
         trimmed = await self._log.trimmed()
         stay = [one for one in some if self._log.place(max(one.position, self._first)) > trimmed]
         for one in some:

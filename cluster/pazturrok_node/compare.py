@@ -1,4 +1,5 @@
-"""The worlds of the stores are compared, each as it was after the same entry: so a store is found that came to another one."""
+"""The worlds of the stores are compared, each as it was after the same entry: so a store is found that came to
+another one."""
 
 from __future__ import annotations
 
@@ -28,11 +29,14 @@ RECORD = re.compile(rb"([0-9]+\.[0-9]+) rescue \(SETF \(GET '\|position\| '\|pos
 """What `log --places` tells of a record of the position."""
 
 OTHER_WORLD = "after entry {} this store has another world than those of {}: {} of the nodes have the same one"
-DIFFER = "after entry {} the stores of {} have another world than this one, and no more nodes have the one than the other"
+DIFFER = (
+    "after entry {} the stores of {} have another world than this one, and no more nodes have the one than the other"
+)
 
 
 class Comparer:
-    """Tells the others a digest of the store's world, and looks at theirs. A node whose world fewer have than another one is refused."""
+    """Tells the others a digest of the store's world, and looks at theirs. A node whose world fewer have than another
+    one is refused."""
 
     def __init__(self, log: EtcdLog, name: Name, node: Node, trimmer: Trimmer, every: float) -> None:
         self._log, self._name, self._node, self._trimmer, self._every = log, name, node, trimmer, every
@@ -86,7 +90,8 @@ class Comparer:
 
 
 async def digest_at(number: int, program: str, folder: str) -> str | None:
-    """A digest of the world that the store had after this entry, by looks at its files; None where they do not tell it any more."""
+    """A digest of the world that the store had after this entry, by looks at its files; None where they do not tell
+    it any more."""
     place, told = b"", hashlib.sha256()
     async for line in lines_of(program, "log", folder, "--places"):
         found = RECORD.fullmatch(line)

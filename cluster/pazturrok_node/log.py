@@ -59,7 +59,8 @@ Found = Union[Sequence[Entry], Reached]
 
 
 class Log(abc.ABC):
-    """Entries in one order, each with a number and a name. An entry has a place too, which may be that of those beside it."""
+    """Entries in one order, each with a number and a name. An entry has a place too, which may be that of those
+    beside it."""
 
     most_entries = 100
     """At most so many entries are appended at once."""
@@ -84,7 +85,8 @@ class Log(abc.ABC):
     async def append(self, entries: Sequence[tuple[bytes, bytes]], floor: int) -> list[int] | None:
         """Puts entries under their names, each unless it is there, in this order: the number of each. All names differ.
 
-        None, and nothing is put, where entries after the number `floor` are deleted: one of them may have had such a name. FullError and
+        None, and nothing is put, where entries after the number `floor` are deleted: one of them may have had such a
+        name. FullError and
         BusyError where nothing is put for want of room, or for now.
         """
 
@@ -94,7 +96,8 @@ class Log(abc.ABC):
 
     @abc.abstractmethod
     def watch(self, number: int) -> AsyncIterator[Found]:
-        """The entries after this number, in their order, for ever, and how far they go; BehindError where they are not all there."""
+        """The entries after this number, in their order, for ever, and how far they go; BehindError where they are
+        not all there."""
 
     @abc.abstractmethod
     async def trimmed(self) -> int:
@@ -122,7 +125,8 @@ class Keeper(abc.ABC):
 
     @abc.abstractmethod
     async def heed_skips(self, position: int) -> None:
-        """RefusedStoreError where an entry is skipped that this store has carried out, as it has come to this position."""
+        """RefusedStoreError where an entry is skipped that this store has carried out, as it has come to this
+        position."""
 
     @abc.abstractmethod
     async def ended_at(self, number: int, refusal: bytes) -> None:

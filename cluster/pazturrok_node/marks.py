@@ -18,7 +18,8 @@ POSITION = re.compile(rb"position ([0-9]+)")
 
 
 class Marker:
-    """Has stores write their position. A form does so; where the readtable of a store does not read that, its files are looked at."""
+    """Has stores write their position. A form does so; where the readtable of a store does not read that, its files
+    are looked at."""
 
     def __init__(self, node: Node, appender: Appender, look: Sequence[str]) -> None:
         self._node, self._appender, self._look = node, appender, look

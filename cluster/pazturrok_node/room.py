@@ -16,10 +16,12 @@ CROWDED = 0.3
 """From this part of the quota on entries stay as long as clients may need them, and no node is waited for that lags."""
 
 FULL = 0.45
-"""From this part on no form is taken: where much is deleted at once, the file of a member becomes twice as long as what is used."""
+"""From this part on no form is taken: where much is deleted at once, the file of a member becomes twice as long as
+what is used."""
 
 LARGEST_FILE = 0.95
-"""And from this part on that a member's file has, though much of it may be free: etcd takes nothing more then either."""
+"""And from this part on that a member's file has, though much of it may be free: etcd takes nothing more then
+either."""
 
 WASTEFUL = 0.85
 """A file of this part, of which less than half is used, is made shorter: its member answers nothing meanwhile."""

@@ -25,9 +25,9 @@ class Properties:
         """The value of a form that writes nothing."""
         raise NotImplementedError
 
-    def get(self, name: Name, indicator: Name, default: Value = NIL) -> Value:
-        """The property of a symbol, or the default where it has none."""
-        return self._look_form([GET, *both(name, indicator), quote(default)])
+    def get(self, name: Name, indicator: Name, default: Value | None = None) -> Value:
+        """The property of a symbol, or the default, or NIL, where it has none."""
+        return self._look_form([GET, *both(name, indicator), quote(NIL if default is None else default)])
 
     def put(self, name: Name, indicator: Name, value: Value) -> Value:
         """Sets the property of a symbol, and gives the value back, as the store has it."""
