@@ -1,0 +1,14 @@
+pub mod Appended
+pub mod Equal
+pub mod Fractions
+pub mod Differences
+pub mod Floors
+pub mod Made
+pub mod Places
+pub mod RefusalNumbers
+pub mod TextOrder
+pub mod Joins
+pub mod Values
+pub mod Ends
+pub mod ListParts
+pub mod EqualLists

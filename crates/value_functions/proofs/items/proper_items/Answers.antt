@@ -1,0 +1,19 @@
+use Rattle.std.proofs.Common.{Some, is_some, ap, ◌∙◌}
+use Rattle.lisp_object.specs.declared.datum.Datum
+use Rattle.lisp_operators.specs.Evaluated.{objects}
+use Rattle.value_functions.proofs.Joins.{list_items_of, dotted_items_of, list_items_proper}
+use Rattle.value_functions.proofs.items.proper_items.Goals as goal
+
+-- src/items.rt:11:1
+pub returns-in-Some-clause-value : goal.returns-in-Some-clause-value
+returns-in-Some-clause-value c = dotted_items_of c.args.datum.now c.in-List.items c.in-List.tail c.in-List.is c.requires (ap is_some c.in-Some.is)
+
+-- src/items.rt:11:1
+pub returns-in-None-clause-value : goal.returns-in-None-clause-value
+returns-in-None-clause-value c =
+    ap (λ xs. Some (objects xs)) c.as_slice.ensures ∙ list_items_of c.args.datum.now c.in-List.items (c.in-List.is ∙ ap (Datum.List c.in-List.items) c.in-None.is)
+
+-- src/items.rt:11:1
+pub returns-in-None-clause-proper : goal.returns-in-None-clause-proper
+returns-in-None-clause-proper c =
+    list_items_proper c.args.datum.now c.in-List.items c.as_slice.result.now c.in-List.tail c.in-List.is c.as_slice.ensures c.requires

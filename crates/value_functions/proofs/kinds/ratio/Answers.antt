@@ -1,0 +1,7 @@
+use Rattle.std.proofs.Common.{None, refl}
+use Rattle.value_functions.specs.Kinds.{a_ratio}
+use Rattle.lisp_operators.proofs.Shapes.{pair_at}
+use Rattle.value_functions.proofs.kinds.ratio.Goals as goal
+
+pub returns-in-List : goal.returns-in-List
+returns-in-List c = pair_at a_ratio None c.args.datum.now c.in-List.items c.in-List.tail (λ _ _. refl) c.in-List.is c.requires

@@ -1,0 +1,13 @@
+use Rattle.std.proofs.Common.{Some, ap, ◌∙◌}
+use Rattle.lisp_operators.specs.Evaluated.{objects}
+use Rattle.value_functions.proofs.Joins.{vector_items_of, vector_items_proper, list_no_vector}
+use Rattle.value_functions.proofs.sequences.vector.Goals as goal
+
+pub returns-in-Vector-clause-value : goal.returns-in-Vector-clause-value
+returns-in-Vector-clause-value c = ap (λ xs. Some (objects xs)) c.as_slice.ensures ∙ vector_items_of c.args.datum.now c.in-Vector.items c.in-Vector.is
+
+pub returns-in-Vector-clause-proper : goal.returns-in-Vector-clause-proper
+returns-in-Vector-clause-proper c = vector_items_proper c.args.datum.now c.in-Vector.items c.as_slice.result.now c.in-Vector.is c.as_slice.ensures c.requires
+
+pub returns-in-List-clause-value : goal.returns-in-List-clause-value
+returns-in-List-clause-value c = list_no_vector c.args.datum.now c.in-List.items c.in-List.tail c.in-List.is c.requires

@@ -1,0 +1,13 @@
+pub mod Answered
+pub mod Kinds
+pub mod Equality
+pub mod Texts
+pub mod Predicates
+pub mod Comparisons
+pub mod Arithmetic
+pub mod Lists
+pub mod Parts
+pub mod Sequences
+pub mod SequenceParts
+pub mod Building
+pub mod Functions
