@@ -11,7 +11,7 @@ use Rattle.lisp_operators.specs.declared.error.EvaluationError.TheVariants.{Refu
 use Rattle.lisp_operators.specs.declared.evaluated.Evaluated.{Evaluated}
 use Rattle.lisp_operators.specs.Kinds.{is_true}
 use Rattle.lisp_operators.specs.Evaluation.{gives, also, and_then}
-use Rattle.evaluator.specs.Value.{value, choice, other_value, value_by}
+use Rattle.evaluator.specs.Value.{value, choice, other_value, value_over}
 use Rattle.lisp_operators.specs.Evaluated.{Answers, done}
 use Rattle.evaluator.specs.Gathered.{arguments_of}
 use Rattle.evaluator.specs.declared.wanted.Wanted.{Wanted}
@@ -22,7 +22,7 @@ use Rattle.evaluator.proofs.Seen.{seen_also, refused_seen, refused_so, evaluated
 
 choice_of : (names : List Name) (s : WorldState) (x y others : Object)
     → choice names s (pair x (pair y others)) ≡ and_then (value names s x) (λ z later. cond (is_true z) (value names later y) (other_value names later others))
-unfolding value_by
+unfolding value_over
 choice_of names s x y others = refl
 
 at_two : (xs : List Datum) (e : Datum) → 3 ≤ length xs → get_or xs 2 e ≡ get_or xs 2 (get_or xs 2 e)
@@ -66,11 +66,11 @@ pub choice_true : (w : Wanted) (names : List Name) (s t u : WorldState) (items :
 choice_true w names s t u items x y d r some is at h test after = subst (Answers done r u) (sym (seen_test w names s t items x y d true some is at h test)) after
 
 other_none : (names : List Name) (s : WorldState) → other_value names s nil ≡ gives nil s
-unfolding value_by
+unfolding value_over
 other_none names s = refl
 
 other_one : (names : List Name) (s : WorldState) (x rest : Object) → other_value names s (pair x rest) ≡ value names s x
-unfolding value_by
+unfolding value_over
 other_one names s x rest = refl
 
 pub choice_none : (w : Wanted) (names : List Name) (s t u : WorldState) (items : List Datum) (x : Datum) (d : Evaluated) (r : Result Evaluated EvaluationError) → 3 ≤ length items → length items ≡ 3 → x ≡ get_or items 1 x

@@ -4,7 +4,7 @@
 --     ordinary_is, performed      operators
 --     arguments_from, place_given, place_first, before_given      what operators take
 --     choice_refused, choice_true, choice_none, choice_other      IF
-use Rattle.std.proofs.Common.{◌≡◌, ◌<◌, ◌≤◌, ◌-◌, ℕ, Bool, true, false, cond, not, ◌&&◌, suc, zero, List, [], ◌∷◌, ◌++◌, Result, Ok, Err, Option, Some, None, map, length, drop, get_or, refl, sym, ap, subst, ◌∙◌, arith}
+use Rattle.std.proofs.Common.{◌≡◌, ◌<◌, ◌≤◌, ◌-◌, ℕ, Bool, true, false, cond, not, ◌&&◌, suc, zero, List, [], ◌∷◌, ◌++◌, Result, Ok, Err, Option, Some, None, is_some, map, length, drop, get_or, refl, sym, ap, subst, ◌∙◌, arith}
 use Rattle.std.proofs.lemmas.Bool.{false≢true, and_parts}
 use Rattle.std.proofs.lemmas.List.{length-map}
 use Rattle.lisp_object.specs.declared.datum.Datum
@@ -21,14 +21,16 @@ use Rattle.lisp_operators.specs.declared.error.EvaluationError.TheVariants.{Refu
 use Rattle.lisp_operators.specs.declared.evaluated.Evaluated.{Evaluated}
 use Rattle.evaluator.specs.declared.values.Values.{Values}
 use Rattle.evaluator.specs.declared.operation.Operation.{Operation}
-use Rattle.evaluator.specs.declared.operation.Operation.TheVariants.{Quote, Progn, If, MakeList, Get, Setf, Remprop, SymbolPlist, Incf, Push, MakePackage, InPackage, Export, Import, UsePackage, Intern, CopyReadtable, InReadtable, SetSyntaxFromChar, SetMacroCharacter, GetMacroCharacter, MakeDispatchMacroCharacter, SetDispatchMacroCharacter, GetDispatchMacroCharacter, ReadtableCase}
+use Rattle.evaluator.specs.declared.operation.Operation.TheVariants.{Quote, Progn, If, MakeList, Get, Setf, Remprop, SymbolPlist, Incf, Push, MakePackage, InPackage, Export, Import, UsePackage, Intern, CopyReadtable, InReadtable, SetSyntaxFromChar, SetMacroCharacter, GetMacroCharacter, MakeDispatchMacroCharacter, SetDispatchMacroCharacter, GetDispatchMacroCharacter, ReadtableCase, Computes}
 use Rattle.lisp_operators.specs.Kinds.{a_symbol, is_pair}
 use Rattle.lisp_operators.specs.Properties.{set}
 use Rattle.lisp_operators.specs.Readtables.{set_case}
 use Rattle.lisp_operators.specs.ReadBase.{set_base}
 use Rattle.lisp_operators.specs.Evaluation.{Evaluation, gives, also, and_then}
-use Rattle.evaluator.specs.Operators.{count, first}
-use Rattle.evaluator.specs.Value.{value, values, values_at_place, values_before_place, symbol_value, action_value, unless, is_base_place, is_case_place, value_by}
+use Rattle.evaluator.specs.Operators.{count, first, value_here, computed_value}
+use Rattle.value_functions.specs.declared.functions.ValueFunction.{ValueFunction}
+use Rattle.value_functions.specs.Functions.{most_arguments, function_value, if_listed}
+use Rattle.evaluator.specs.Value.{value, values, values_at_place, values_before_place, symbol_value, action_value, unless, is_base_place, is_case_place, value_over}
 use Rattle.evaluator.specs.declared.place.Place.TheVariants.{Property, Case, ReadBase}
 use Rattle.evaluator.specs.Operations.{action_of, is_ordinary, set_at, function_of}
 use Rattle.lisp_operators.specs.Evaluated.{Answers, done}
@@ -95,6 +97,12 @@ any_place names s arguments =
           ≡ unless (refusal_of_place Setf arguments) (and_then (values_at_place names s arguments) (λ xs t. set_at (cond b Case Property) xs t))) [ true ↦ refl | false ↦ refl ]
     ]
 
+-- a function that takes so many arguments at most
+bounded : (function : ValueFunction) (m : Option ℕ) → is_some m ≡ true
+    → (λ xs t. value_here t (if_listed m xs (function_value function xs))) ≡ computed_value function
+bounded function (Some n) e = refl
+bounded function None e = absurd (false≢true e)
+
 pub ordinary_is : (names : List Name) (operation : Operation) (s : WorldState) (arguments : Object) → is_ordinary operation ≡ true → action_value s (action_of names operation) arguments (parts names s arguments)
     ≡ unless (refusal_of_place operation arguments) (and_then (gathered names s operation arguments) (function_of names operation (place_of operation arguments)))
 ordinary_is names Quote s arguments e = absurd (false≢true e)
@@ -122,6 +130,7 @@ ordinary_is names MakeDispatchMacroCharacter s arguments e = refl
 ordinary_is names SetDispatchMacroCharacter s arguments e = refl
 ordinary_is names GetDispatchMacroCharacter s arguments e = refl
 ordinary_is names ReadtableCase s arguments e = refl
+ordinary_is names (Computes function) s arguments e = ap (λ f. and_then (values names s arguments) f) (bounded function (most_arguments function) e)
 
 pub performed : (wanted : Wanted) (names : List Name) (operation : Operation) (place : Place) (s t u : WorldState) (arguments : Object) (v : Values) (r : Result Evaluated EvaluationError) → is_ordinary operation ≡ true
     → refusal_of_place operation arguments ≡ None → place ≡ place_of operation arguments → gathered names s operation arguments ≡ Ok (all_done v t)
@@ -137,6 +146,13 @@ performed wanted names operation place s t u arguments v r ordinary none at is h
     ∙ seen_also wanted v.wrote (function_of names operation place xs t))) h
 
 -- ---- what operators take
+pub gathered_in_order : (names : List Name) (s : WorldState) (operation : Operation) (arguments : Object) → (operation ≡ Setf → ⊥) → (operation ≡ Incf → ⊥) → (operation ≡ Push → ⊥)
+    → gathered names s operation arguments ≡ values names s arguments
+gathered_in_order names s Setf arguments setf incf push = absurd (setf refl)
+gathered_in_order names s Incf arguments setf incf push = absurd (incf refl)
+gathered_in_order names s Push arguments setf incf push = absurd (push refl)
+gathered_in_order names s _ arguments setf incf push = refl
+
 pub arguments_from : (xs : List Datum) → arguments_of (map object_of xs) ≡ list_of (map object_of (drop 1 xs))
 arguments_from [] = refl
 arguments_from (x ∷ xs) = refl
@@ -156,7 +172,7 @@ two_arguments (a ∷ b ∷ e ∷ es) x y some is then' =
     ap (λ d. pair (object_of d) (pair (object_of e) (list_of (map object_of es)))) (sym is) ∙ ap (λ d. pair (object_of x) (pair (object_of d) (list_of (map object_of es)))) (sym then')
 
 at_place_of : (names : List Name) (s : WorldState) (p f : Object) → values_at_place names s (pair p f) ≡ and_then (subforms names [] false s p) (λ xs later. and_then (values names later f) (λ ys end'. gives (xs ++ ys) end'))
-unfolding value_by
+unfolding value_over
 at_place_of names s (pair a b) f = ap (λ o. and_then o (λ xs later. and_then (values names later f) (λ ys end'. gives (xs ++ ys) end'))) (sym (followed_start names s b))
 at_place_of names s (symbol h n) f = sym (followed_start names s f)
 at_place_of names s (uninterned n) f = refl
@@ -188,7 +204,7 @@ place_given names s t u items x vs w v r some is none nothing h after =
 -- ---- PUSH
 before_pair : (names : List Name) (s : WorldState) (x p f : Object) (y : Object) (t : WorldState) (w : Bool) → is_pair p ≡ true → value names s x ≡ Ok (record { value = y; state = t; wrote = w })
     → values_before_place names s (pair x (pair p f)) ≡ subforms names (y ∷ []) w t p
-unfolding value_by
+unfolding value_over
 before_pair names s x (pair a b) f y t w is e = ap (λ o. and_then o (λ z later. and_then (values names later b) (λ ys end'. gives (z ∷ ys) end'))) e
 before_pair names s x (symbol h n) f y t w is e = absurd (false≢true is)
 before_pair names s x (uninterned n) f y t w is e = absurd (false≢true is)
@@ -199,7 +215,7 @@ before_pair names s x (text b) f y t w is e = absurd (false≢true is)
 before_pair names s x (vector xs) f y t w is e = absurd (false≢true is)
 
 before_refused : (names : List Name) (s : WorldState) (x p f : Object) (code : ℕ) → is_pair p ≡ true → value names s x ≡ Err code → values_before_place names s (pair x (pair p f)) ≡ Err code
-unfolding value_by
+unfolding value_over
 before_refused names s x (pair a b) f code is e = ap (λ o. and_then o (λ z later. and_then (values names later b) (λ ys end'. gives (z ∷ ys) end'))) e
 before_refused names s x (symbol h n) f code is e = absurd (false≢true is)
 before_refused names s x (uninterned n) f code is e = absurd (false≢true is)
@@ -210,7 +226,7 @@ before_refused names s x (text b) f code is e = absurd (false≢true is)
 before_refused names s x (vector xs) f code is e = absurd (false≢true is)
 
 before_other : (names : List Name) (s : WorldState) (x p f : Object) → is_pair p ≡ false → values_before_place names s (pair x (pair p f)) ≡ Err ARGUMENT_KIND
-unfolding value_by
+unfolding value_over
 before_other names s x (pair a b) f is = absurd (false≢true (sym is))
 before_other names s x (symbol h n) f is = refl
 before_other names s x (uninterned n) f is = refl
@@ -255,7 +271,7 @@ same_item xs i x y within is at = is ∙ get_or-any xs i x y within ∙ sym at
 
 -- ---- the subforms of a place
 values_of_pairs : (names : List Name) (s : WorldState) (xs : List Object) (end : Object) → object_is_list end ≡ false → values names s (pairs xs end) ≡ values names s (list_of xs)
-unfolding value_by
+unfolding value_over
 values_of_pairs names s [] (symbol h n) other = refl
 values_of_pairs names s [] (uninterned n) other = refl
 values_of_pairs names s [] (integer n) other = refl

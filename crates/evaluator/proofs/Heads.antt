@@ -1,5 +1,6 @@
 -- What is at the head of a form.
 --     operator_named_among      the operators by their names
+--     of_lisp, of_own, of_none      the operator of a symbol
 --     head_value      a form by its operator
 use Rattle.std.proofs.Common.{◌≡◌, ℕ, Bool, true, false, cond, not, List, [], ◌∷◌, ◌++◌, Option, Some, None, Err, option_map, bytes_eq, codes, refl, sym, ap, subst, ◌∙◌}
 use Rattle.std.specs.Option.{option_or}
@@ -7,13 +8,15 @@ use Rattle.package_table.specs.Table.{Name, common_lisp}
 use Rattle.lisp_object.specs.Object.{Object, integer, rational, character, text, symbol, uninterned, pair, vector, is_proper_list}
 use Rattle.plist_state.specs.State.{WorldState}
 use Rattle.evaluator.specs.declared.operation.Operation.{Operation}
-use Rattle.evaluator.specs.declared.operation.Operation.TheVariants.{Quote, Progn, If, MakeList, Get, Setf, Remprop, SymbolPlist, Incf, Push, MakePackage, InPackage, Export, Import, UsePackage, Intern, CopyReadtable, InReadtable, SetSyntaxFromChar, SetMacroCharacter, GetMacroCharacter, MakeDispatchMacroCharacter, SetDispatchMacroCharacter, GetDispatchMacroCharacter, ReadtableCase}
+use Rattle.evaluator.specs.declared.operation.Operation.TheVariants.{Quote, Progn, If, MakeList, Get, Setf, Remprop, SymbolPlist, Incf, Push, MakePackage, InPackage, Export, Import, UsePackage, Intern, CopyReadtable, InReadtable, SetSyntaxFromChar, SetMacroCharacter, GetMacroCharacter, MakeDispatchMacroCharacter, SetDispatchMacroCharacter, GetDispatchMacroCharacter, ReadtableCase, Computes}
 use Rattle.lisp_object.specs.declared.refusal.TheConstants.{NOT_A_FORM, UNKNOWN_OPERATOR, ARGUMENT_COUNT}
 use Rattle.package_table.proofs.Names.{same_some, none_some}
 use Rattle.lisp_operators.specs.Kinds.{a_symbol}
-use Rattle.evaluator.specs.Operators.{Operator, operator_named, operator_of, is_interned, count, counts}
+use Rattle.value_functions.specs.declared.functions.ValueFunction.{ValueFunction}
+use Rattle.value_functions.specs.Functions.{function_named}
+use Rattle.evaluator.specs.Operators.{Operator, operator_named, operator_of, function_operator, pazturrok, pazturrok_operator, is_interned, count, counts}
 use Rattle.evaluator.specs.Operations.{operator, action_of, among, operators_on_data, operators_on_packages, operators_on_readtables}
-use Rattle.evaluator.specs.Value.{value, form_value_by, action_value, value_by}
+use Rattle.evaluator.specs.Value.{value, form_value_by, action_value, value_over}
 use Rattle.evaluator.specs.Gathered.{parts}
 
 module _ (names : List Name) (name : Name) where
@@ -58,6 +61,28 @@ operator_named_among names name r is =
     ap (option_map (operator names)) (is ∙ (ap (option_or (among operators_on_data name)) (sym (among_joined operators_on_packages operators_on_readtables name)) ∙ sym (among_joined operators_on_data (operators_on_packages ++ operators_on_readtables) name)))
     ∙ all_among names name
 
+-- the operator of a symbol, by its home
+module _ (names : List Name) (h n : Name) (r : Option Operation) (lisp own : Bool) where
+  pub of_lisp : lisp ≡ bytes_eq h common_lisp → lisp ≡ true → option_map (operator names) r ≡ operator_named names n → option_map (operator names) r ≡ operator_of names (symbol h n)
+  of_lisp is so same = same ∙ ap (λ b. cond b (operator_named names n) (cond (bytes_eq h pazturrok) (pazturrok_operator n) None)) (sym so ∙ is)
+
+  pub of_own : lisp ≡ bytes_eq h common_lisp → lisp ≡ false → own ≡ bytes_eq h pazturrok → own ≡ true → option_map (operator names) r ≡ pazturrok_operator n → option_map (operator names) r ≡ operator_of names (symbol h n)
+  of_own is other at so same =
+      same ∙ ap (λ b. cond b (pazturrok_operator n) None) (sym so ∙ at)
+      ∙ ap (λ b. cond b (operator_named names n) (cond (bytes_eq h pazturrok) (pazturrok_operator n) None)) (sym other ∙ is)
+
+pub of_none : (names : List Name) (h n : Name) (lisp own : Bool) → lisp ≡ bytes_eq h common_lisp → lisp ≡ false → own ≡ bytes_eq h pazturrok → own ≡ false
+    → option_map (operator names) None ≡ operator_of names (symbol h n)
+of_none names h n lisp own is other at neither =
+    ap (λ b. cond b (pazturrok_operator n) None) (sym neither ∙ at)
+    ∙ ap (λ b. cond b (operator_named names n) (cond (bytes_eq h pazturrok) (pazturrok_operator n) None)) (sym other ∙ is)
+
+pub function_found : (names : List Name) (n : Name) (function : ValueFunction) → Some function ≡ function_named n → option_map (operator names) (Some (Computes function)) ≡ pazturrok_operator n
+function_found names n function is = ap (option_map function_operator) is
+
+pub function_missing : (names : List Name) (n : Name) → None ≡ function_named n → option_map (operator names) None ≡ pazturrok_operator n
+function_missing names n is = ap (option_map function_operator) is
+
 -- an interned symbol at the head
 pub symbol_of_some : (x : Object) (p : Name × Name) → a_symbol x ≡ Some p → x ≡ symbol p.0 p.1
 symbol_of_some (symbol h n) p e = ap (λ q. symbol q.0 q.1) (same_some (h, n) p e)
@@ -70,18 +95,18 @@ symbol_of_some (pair a b) p e = absurd (none_some p e)
 symbol_of_some (vector xs) p e = absurd (none_some p e)
 
 pub head_value : (names : List Name) (s : WorldState) (head arguments : Object) → is_interned head ≡ true → is_proper_list arguments ≡ true → value names s (pair head arguments) ≡ form_value_by true s (operator_of names head) arguments (parts names s arguments)
-unfolding value_by
+unfolding value_over
 head_value names s head arguments interned proper = rw (interned, proper) refl
 
 pub head_symbol : (names : List Name) (s : WorldState) (head arguments : Object) (h n : Name) → Some (h, n) ≡ a_symbol head → is_proper_list arguments ≡ true
-    → value names s (pair head arguments) ≡ form_value_by true s (cond (bytes_eq h common_lisp) (operator_named names n) None) arguments (parts names s arguments)
+    → value names s (pair head arguments) ≡ form_value_by true s (operator_of names (symbol h n)) arguments (parts names s arguments)
 head_symbol names s head arguments h n is proper =
     let same : head ≡ symbol h n = symbol_of_some head (h, n) (sym is) in
-    subst (λ k. value names s (pair k arguments) ≡ form_value_by true s (cond (bytes_eq h common_lisp) (operator_named names n) None) arguments (parts names s arguments)) (sym same)
+    subst (λ k. value names s (pair k arguments) ≡ form_value_by true s (operator_of names (symbol h n)) arguments (parts names s arguments)) (sym same)
     (head_value names s (symbol h n) arguments refl proper)
 
 pub head_other : (names : List Name) (s : WorldState) (head arguments : Object) → None ≡ a_symbol head → value names s (pair head arguments) ≡ Err NOT_A_FORM
-unfolding value_by
+unfolding value_over
 head_other names s (symbol h n) arguments is = absurd (none_some (h, n) is)
 head_other names s (integer n) arguments is = refl
 head_other names s (rational n d) arguments is = refl
@@ -93,24 +118,22 @@ head_other names s (vector xs) arguments is = refl
 
 -- no operator
 pub head_unknown : (names : List Name) (s : WorldState) (head arguments : Object) (h n : Name) → Some (h, n) ≡ a_symbol head → is_proper_list arguments ≡ true
-    → cond (bytes_eq h common_lisp) (operator_named names n) None ≡ None → value names s (pair head arguments) ≡ Err UNKNOWN_OPERATOR
+    → operator_of names (symbol h n) ≡ None → value names s (pair head arguments) ≡ Err UNKNOWN_OPERATOR
 head_unknown names s head arguments h n is proper none =
     head_symbol names s head arguments h n is proper ∙ ap (λ o. form_value_by true s o arguments (parts names s arguments)) none
 
 -- a wrong count, and a right one
 pub head_count : (names : List Name) (s : WorldState) (head arguments : Object) (h n : Name) (operation : Operation) (number : ℕ) → Some (h, n) ≡ a_symbol head → is_proper_list arguments ≡ true
-    → bytes_eq h common_lisp ≡ true → Some (operator names operation) ≡ operator_named names n → count arguments ≡ number → counts (operator names operation) number ≡ false → value names s (pair head arguments) ≡ Err ARGUMENT_COUNT
-head_count names s head arguments h n operation number is proper home named counted wrong =
+    → Some (operator names operation) ≡ operator_of names (symbol h n) → count arguments ≡ number → counts (operator names operation) number ≡ false → value names s (pair head arguments) ≡ Err ARGUMENT_COUNT
+head_count names s head arguments h n operation number is proper named counted wrong =
     head_symbol names s head arguments h n is proper
-    ∙ ap (λ b. form_value_by true s (cond b (operator_named names n) None) arguments (parts names s arguments)) home
     ∙ ap (λ o. form_value_by true s o arguments (parts names s arguments)) (sym named)
     ∙ ap (λ b. cond (not b) (Err ARGUMENT_COUNT) (action_value s (action_of names operation) arguments (parts names s arguments))) (ap (counts (operator names operation)) counted ∙ wrong)
 
 pub head_acts : (names : List Name) (s : WorldState) (head arguments : Object) (h n : Name) (operation : Operation) (number : ℕ) → Some (h, n) ≡ a_symbol head → is_proper_list arguments ≡ true
-    → bytes_eq h common_lisp ≡ true → Some (operator names operation) ≡ operator_named names n → count arguments ≡ number → counts (operator names operation) number ≡ true
+    → Some (operator names operation) ≡ operator_of names (symbol h n) → count arguments ≡ number → counts (operator names operation) number ≡ true
     → value names s (pair head arguments) ≡ action_value s (action_of names operation) arguments (parts names s arguments)
-head_acts names s head arguments h n operation number is proper home named counted right =
+head_acts names s head arguments h n operation number is proper named counted right =
     head_symbol names s head arguments h n is proper
-    ∙ ap (λ b. form_value_by true s (cond b (operator_named names n) None) arguments (parts names s arguments)) home
     ∙ ap (λ o. form_value_by true s o arguments (parts names s arguments)) (sym named)
     ∙ ap (λ b. cond (not b) (Err ARGUMENT_COUNT) (action_value s (action_of names operation) arguments (parts names s arguments))) (ap (counts (operator names operation)) counted ∙ right)

@@ -2,7 +2,7 @@
 --     Operators      what is asked of the operators
 --     Steps      what is asked of each step
 --     every_value      the value of a form
-use Rattle.std.proofs.Common.{◌≡◌, pos, refl, Bool, true, false, not, ◌&&◌, ◌||◌, ◌==◌, cond, List, [], ◌∷◌, ◌++◌, Option, Some, None, Err, codes, bytes_eq, arith}
+use Rattle.std.proofs.Common.{◌≡◌, pos, refl, Bool, true, false, not, ◌&&◌, ◌||◌, ◌==◌, cond, List, [], ◌∷◌, ◌++◌, Option, Some, None, option_map, Err, codes, bytes_eq, arith}
 use Rattle.std.specs.Prelude.{ℕ}
 use Rattle.std.proofs.lemmas.Bool.{and_parts}
 use Rattle.lisp_object.specs.Object.{Object, integer, rational, character, text, symbol, uninterned, pair, vector, nil, is_proper_list}
@@ -15,8 +15,10 @@ use Rattle.lisp_operators.specs.Packages.{make, enter, intern, export, import, u
 use Rattle.lisp_operators.specs.ReadBase.{set_base}
 use Rattle.lisp_operators.specs.Readtables.{a_keyword_of, readtable_case, set_case, copy_readtable, enter_readtable, set_syntax, set_macro, get_macro, make_dispatch, set_dispatch, get_dispatch}
 use Rattle.lisp_operators.proofs.Numbered.{IsNumber}
-use Rattle.evaluator.specs.Operators.{Operator, Action, quotes, sequence, chooses, assigns, increments, pushes, enters_package, calls, operator_named, operator_of, is_standard, is_interned, count, counts, first}
-use Rattle.evaluator.specs.Value.{value_by, values_by, choice_by, other_value_by, values_at_place_by, values_before_place_by, symbol_value_by, Parts, action_value_by, form_value_by, unless, last, is_base_by, is_case_place, place_refusal_by, case_place_refusal, get_place_refusal, set_place_by, rest}
+use Rattle.value_functions.specs.declared.functions.ValueFunction.{ValueFunction as OfValues}
+use Rattle.value_functions.specs.Functions.{function_named}
+use Rattle.evaluator.specs.Operators.{Operator, Action, quotes, sequence, chooses, assigns, increments, pushes, enters_package, calls, computed, function_operator, operator_named, pazturrok, pazturrok_operator, operator_of, is_standard, is_interned, count, counts, first}
+use Rattle.evaluator.specs.Value.{value_by, values_by, choice_by, other_value_by, values_at_place_by, values_before_place_by, symbol_value_by, Parts, action_value_by, form_value_by, unless, last, is_base_by, is_case_place, place_refusal_by, case_place_refusal, get_place_refusal, set_place_by, rest, value_over}
 
 -- ---- why an object is no place
 abbrev IsNumbered : Option ℕ → Type 0
@@ -69,6 +71,7 @@ module _ (based : Bool) (names : List Name) (Asks : WorldState → Object → Ty
     pub sets_dispatch : Function (set_dispatch names)
     pub gets_dispatch : Function get_dispatch
     pub sets_base : based ≡ true → Function set_base
+    pub computes : (function : OfValues) → Function (computed function)
 
   -- what is asked of a form stays so from the first state to the second
   abbrev pub Later : WorldState → WorldState → Type 0
@@ -139,8 +142,14 @@ module _ (based : Bool) (names : List Name) (Asks : WorldState → Object → Ty
         (either (bytes_eq name (codes "GET-DISPATCH-MACRO-CHARACTER")) _ _ steps.operators.gets_dispatch
         (either (bytes_eq name (codes "READTABLE-CASE")) _ _ steps.operators.cases tt))))))))))))))))))))))))
 
+    of_function : (function : Option OfValues) → OperatorHolds (option_map function_operator function)
+    of_function (Some function) = steps.operators.computes function
+    of_function None = tt
+
     of_head : (head : Object) → OperatorHolds (operator_of names head)
-    of_head (symbol home name) = either (bytes_eq home common_lisp) (operator_named names name) None (of_name name) tt
+    of_head (symbol home name) =
+        either (bytes_eq home common_lisp) (operator_named names name) _ (of_name name)
+        (either (bytes_eq home pazturrok) (pazturrok_operator name) None (of_function (function_named name)) tt)
     of_head (integer n) = tt
     of_head (rational n d) = tt
     of_head (character c) = tt
@@ -207,7 +216,7 @@ module _ (based : Bool) (names : List Name) (Asks : WorldState → Object → Ty
         (if_one s (is_base_by based (symbol home name)) _ _ (steps.read_base s (symbol home name) asks) (steps.refused s _ (omega arith, omega arith)))))
 
     mutual
-      unfolding value_by
+      unfolding value_over
 
       pub every_value : (s : WorldState) (x : Object) → Asks s x → One s (value_by based names s x)
       every_value s (pair head arguments) asks =

@@ -11,6 +11,7 @@ use Rattle.lisp_operators.proofs.Keeping.{keeps_then}
 use Rattle.lisp_operators.proofs.KeepingOperators as family
 use Rattle.lisp_operators.proofs.KeepingOperators.{Changes, list_keeps, get_keeps, set_keeps, remove_keeps, symbol_plist_keeps, increment_keeps, push_keeps, make_keeps, enter_keeps, intern_keeps, export_keeps, import_keeps, use_keeps, case_keeps, set_case_keeps, copy_keeps, enter_readtable_keeps, set_syntax_keeps, set_macro_keeps, get_macro_keeps, make_dispatch_keeps, set_dispatch_keeps, get_dispatch_keeps, set_base_keeps}
 use Rattle.evaluator.specs.Value.{value_by}
+use Rattle.evaluator.proofs.FunctionLaws.{computed_keeps}
 use Rattle.evaluator.proofs.Induction.{Operators, Steps, every_value}
 
 -- where SETF of *READ-BASE* is known, it is asked of a change of the base too
@@ -49,6 +50,7 @@ module _ (based : Bool) (names : List Name) (Kept : WorldState → WorldState �
     sets_dispatch = set_dispatch_keeps names Kept changes;
     gets_dispatch = get_dispatch_keeps names Kept changes;
     sets_base = λ known. set_base_keeps names Kept changes (base known);
+    computes = λ function xs s. computed_keeps Kept function xs s (changes.none s);
   }
 
   steps : Steps based names Asks Keeps Keeps IsKeeping

@@ -11,9 +11,12 @@ pub mod QuotedKeys
 pub mod RowForms
 pub mod Rows
 pub mod WorldRows
+pub mod FunctionLaws
+pub mod ListValues
 pub mod Induction
 pub mod SilentForms
 pub mod SoundForms
 pub mod NumberedForms
 pub mod KeepingForms
+pub mod Widening
 pub mod WithoutBase

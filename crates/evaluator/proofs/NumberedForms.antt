@@ -8,6 +8,7 @@ use Rattle.lisp_operators.specs.Evaluation.{Evaluation}
 use Rattle.lisp_operators.proofs.Numbered.{Numbered, numbered_then}
 use Rattle.lisp_operators.proofs.NumberedOperators.{IsNumberedFunction, list_numbered, get_numbered, set_numbered, remove_numbered, symbol_plist_numbered, increment_numbered, push_numbered, make_numbered, enter_numbered, intern_numbered, export_numbered, import_numbered, use_numbered, case_numbered, set_case_numbered, copy_numbered, enter_readtable_numbered, set_syntax_numbered, set_macro_numbered, get_macro_numbered, make_dispatch_numbered, set_dispatch_numbered, get_dispatch_numbered, set_base_numbered}
 use Rattle.evaluator.specs.Value.{value}
+use Rattle.evaluator.proofs.FunctionLaws.{computed_numbered}
 use Rattle.evaluator.proofs.Induction.{Operators, Steps, every_value}
 
 module _ (names : List Name) where
@@ -42,6 +43,7 @@ module _ (names : List Name) where
     sets_dispatch = set_dispatch_numbered names;
     gets_dispatch = get_dispatch_numbered;
     sets_base = λ _. set_base_numbered;
+    computes = computed_numbered;
   }
 
   steps : Steps true names Asks Of Of IsNumberedFunction

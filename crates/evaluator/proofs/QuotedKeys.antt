@@ -25,7 +25,7 @@ use Rattle.lisp_operators.specs.Evaluation.{gives, writes}
 use Rattle.lisp_operators.specs.Evaluated.{IsProper, AreProper, object_of_symbol}
 use Rattle.lisp_operators.proofs.Storable.{value_parts, symbol_kind}
 use Rattle.evaluator.specs.declared.operation.Operation.TheVariants.{Get, Setf}
-use Rattle.evaluator.specs.Value.{value, value_by}
+use Rattle.evaluator.specs.Value.{value, value_over}
 use Rattle.evaluator.specs.Gathered.{arguments_of, operation_value}
 use Rattle.evaluator.specs.Direct.{quoted, quoted_key, IsLiteral, setf}
 use Rattle.evaluator.proofs.Steps.{is_constant, value_constant}
@@ -69,19 +69,19 @@ third_back (a ∷ b ∷ e ∷ f ∷ fs) xs y three is at = absurd (omega arith)
 
 -- ---- what forms give
 pub quoted_literal : (x : Object) → IsLiteral (quoted x) x
-unfolding value_by
+unfolding value_over
 quoted_literal x names s = refl
 
 pub constant_literal : (x : Object) → is_constant x ≡ true → IsLiteral x x
 constant_literal x is names s = value_constant names s x is
 
 pub get_of_key : (names : List Name) (s : WorldState) (x i : Symbol) → operation_value names Get (quoted_key x i) s ≡ gives (unwrap_or (property s x i) nil) s
-unfolding value_by
+unfolding value_over
 get_of_key names s x i = refl
 
 pub set_of_key : (names : List Name) (s : WorldState) (x i : Symbol) (form v : Object) → IsLiteral form v
     → operation_value names Setf (pair (pair (symbol common_lisp (codes "GET")) (quoted_key x i)) (pair form nil)) s ≡ writes v (with_property s x i v)
-unfolding value_by
+unfolding value_over
 set_of_key names s x i form v is = rw (is names s) refl
 
 pub assignment_given : (names : List Name) (s : WorldState) (arguments place form v : Object) (x i : Symbol) → arguments ≡ pair place (pair form nil)
@@ -90,7 +90,7 @@ assignment_given names s arguments place form v x i is at literal =
     ap (λ a. operation_value names Setf a s) (is ∙ ap (λ p. pair p (pair form nil)) at) ∙ set_of_key names s x i form v literal
 
 value_of_setf : (names : List Name) (s : WorldState) (place form : Object) → value names s (setf place form) ≡ operation_value names Setf (pair place (pair form nil)) s
-unfolding value_by
+unfolding value_over
 value_of_setf names s place form = refl
 
 pub setf_given : (names : List Name) (s : WorldState) (place form v : Object) (x i : Symbol) → place ≡ pair (symbol common_lisp (codes "GET")) (quoted_key x i) → IsLiteral form v

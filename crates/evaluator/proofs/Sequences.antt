@@ -13,7 +13,7 @@ use Rattle.lisp_operators.specs.declared.error.EvaluationError.{EvaluationError}
 use Rattle.lisp_operators.specs.declared.error.EvaluationError.TheVariants.{Refused, OutOfMemory}
 use Rattle.lisp_operators.specs.Evaluated.{Answers, done}
 use Rattle.lisp_operators.specs.Evaluation.{Evaluation, gives, also, and_then}
-use Rattle.evaluator.specs.Value.{last, value, values, value_by}
+use Rattle.evaluator.specs.Value.{last, value, values, value_over}
 use Rattle.evaluator.specs.Gathered.{arguments_of, sequence_value}
 use Rattle.evaluator.proofs.Steps.{or_false, forms_from, value_first}
 
@@ -49,7 +49,7 @@ also_last v (Ok d) = ap (λ b. Ok (record { value = last d.value; state = d.stat
 
 two_forms : (names : List Name) (t : WorldState) (y g rest : Object)
     → and_then (and_then (values names t (pair g rest)) (λ ys end'. gives (y ∷ ys) end')) (λ xs later. gives (last xs) later) ≡ sequence_value names t (pair g rest)
-unfolding value_by
+unfolding value_over
 two_forms names t y g rest = after_first y (value names t g) (λ later. values names later rest)
 
 step_of : (names : List Name) (s t : WorldState) (x g rest y : Object) (v : Bool) → value names s x ≡ Ok (record { value = y; state = t; wrote = v })
@@ -76,7 +76,7 @@ sequence_step names s t items i f y v within at is =
     ∙ ap (λ l. also v (sequence_value names t l)) (sym next)
 
 refused_first : (names : List Name) (s : WorldState) (x rest : Object) (code : ℕ) → value names s x ≡ Err code → sequence_value names s (pair x rest) ≡ Err code
-unfolding value_by
+unfolding value_over
 refused_first names s x rest code e = ap (λ o. and_then (and_then o (λ y later. and_then (values names later rest) (λ ys end'. gives (y ∷ ys) end'))) (λ xs later. gives (last xs) later)) e
 
 pub sequence_stops : (names : List Name) (s t u : WorldState) (items : List Datum) (i : ℕ) (f : Datum) (e : EvaluationError) → i < length items → f ≡ get_or items i f
@@ -94,7 +94,7 @@ one_form (Ok d) = ap (λ b. Ok (record { value = d.value; state = d.state; wrote
     alone false = refl
 
 last_form : (names : List Name) (s : WorldState) (x : Object) → sequence_value names s (pair x nil) ≡ value names s x
-unfolding value_by
+unfolding value_over
 last_form names s x = one_form (value names s x)
 
 pub sequence_last : (names : List Name) (s : WorldState) (items : List Datum) (i : ℕ) (f : Datum) → i + 1 ≡ length items → f ≡ get_or items i f
@@ -104,7 +104,7 @@ sequence_last names s items i f is at =
     ∙ last_form names s (object_of f)
 
 sequence_none : (names : List Name) (s : WorldState) → sequence_value names s nil ≡ gives nil s
-unfolding value_by
+unfolding value_over
 sequence_none names s = refl
 
 pub no_forms : (names : List Name) (s : WorldState) (items : List Datum) → length items ≡ 1 → sequence_value names s (arguments_of (map object_of items)) ≡ gives nil s

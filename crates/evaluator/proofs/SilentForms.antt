@@ -7,6 +7,7 @@ use Rattle.plist_state.specs.State.{WorldState}
 use Rattle.lisp_operators.proofs.Silence.{Keeps, keeps_then}
 use Rattle.lisp_operators.proofs.SilentOperators.{IsSilent, list_silent, get_silent, set_silent, remove_silent, symbol_plist_silent, increment_silent, push_silent, make_silent, enter_silent, intern_silent, export_silent, import_silent, use_silent, case_silent, set_case_silent, copy_silent, enter_readtable_silent, set_syntax_silent, set_macro_silent, get_macro_silent, make_dispatch_silent, set_dispatch_silent, get_dispatch_silent, set_base_silent}
 use Rattle.evaluator.specs.Value.{value}
+use Rattle.evaluator.proofs.FunctionLaws.{computed_silent}
 use Rattle.evaluator.proofs.Induction.{Operators, Steps, every_value}
 
 module _ (names : List Name) where
@@ -38,6 +39,7 @@ module _ (names : List Name) where
     sets_dispatch = set_dispatch_silent names;
     gets_dispatch = get_dispatch_silent;
     sets_base = λ _. set_base_silent;
+    computes = computed_silent;
   }
 
   steps : Steps true names Asks Keeps Keeps IsSilent

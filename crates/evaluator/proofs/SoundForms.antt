@@ -17,6 +17,7 @@ use Rattle.lisp_operators.proofs.SoundPackages.{make_safe, enter_safe, intern_sa
 use Rattle.lisp_operators.proofs.SoundReadtables.{case_safe, set_case_safe, copy_safe, enter_readtable_safe, set_syntax_safe, set_macro_safe, get_macro_safe, make_dispatch_safe, set_dispatch_safe, get_dispatch_safe}
 use Rattle.lisp_operators.proofs.SoundBase.{set_base_safe, base_value}
 use Rattle.evaluator.specs.Value.{value, last}
+use Rattle.evaluator.proofs.FunctionLaws.{computed_safe}
 use Rattle.evaluator.proofs.Induction.{Operators, Steps, every_value}
 
 abbrev Asks : WorldState → Object → Type 0
@@ -66,6 +67,7 @@ module _ (names : List Name) (all : AreFunctionNames names) where
     sets_dispatch = set_dispatch_safe names all;
     gets_dispatch = get_dispatch_safe;
     sets_base = λ _. set_base_safe;
+    computes = computed_safe;
   }
 
   steps : Steps true names Asks (Goods IsValue) (Goods AreValues) IsSafe

@@ -22,7 +22,7 @@ use Rattle.plist_state.specs.Sound.{IsSound, IsValue}
 use Rattle.lisp_operators.specs.declared.error.EvaluationError.{EvaluationError}
 use Rattle.lisp_operators.specs.declared.error.EvaluationError.TheVariants.{Refused, OutOfMemory}
 use Rattle.lisp_operators.specs.Evaluation.{Done, Evaluation, gives, also, and_then}
-use Rattle.evaluator.specs.Value.{value, values, symbol_value, value_by}
+use Rattle.evaluator.specs.Value.{value, values, symbol_value, value_over}
 use Rattle.lisp_operators.specs.Readtables.{AreFunctionNames}
 use Rattle.lisp_operators.specs.Evaluated.{IsArgument, Answers, done}
 use Rattle.evaluator.specs.Gathered.{all_done}
@@ -34,11 +34,11 @@ use Rattle.lisp_operators.proofs.Shapes.{dotted_pair}
 
 -- ---- atoms, and lists that do not end in NIL
 pub value_symbol : (names : List Name) (s : WorldState) (home name : Name) → value names s (symbol home name) ≡ symbol_value home name s
-unfolding value_by
+unfolding value_over
 value_symbol names s home name = refl
 
 pub value_uninterned : (names : List Name) (s : WorldState) (name : Name) → value names s (uninterned name) ≡ Err NOT_A_FORM
-unfolding value_by
+unfolding value_over
 value_uninterned names s name = refl
 
 abbrev pub is_constant : Object → Bool
@@ -48,7 +48,7 @@ is_constant (pair a b) = false
 is_constant _ = true
 
 pub value_constant : (names : List Name) (s : WorldState) (x : Object) → is_constant x ≡ true → value names s x ≡ gives x s
-unfolding value_by
+unfolding value_over
 value_constant names s (integer n) e = refl
 value_constant names s (rational n d) e = refl
 value_constant names s (character c) e = refl
@@ -59,7 +59,7 @@ value_constant names s (uninterned n) e = absurd (false≢true e)
 value_constant names s (pair a b) e = absurd (false≢true e)
 
 value_improper : (names : List Name) (s : WorldState) (a b : Object) → is_proper_list b ≡ false → value names s (pair a b) ≡ Err NOT_A_FORM
-unfolding value_by
+unfolding value_over
 value_improper names s a b e = rw (e, and-false) refl
 
 pub value_dotted : (names : List Name) (s : WorldState) (d : Datum) (items : List Datum) (tail : Option Datum) → d ≡ Datum.List items tail → is_proper d ≡ true → is_some tail ≡ true → value names s (object_of d) ≡ Err NOT_A_FORM
@@ -136,7 +136,7 @@ forms_from forms i f within is =
 
 pub value_first : (names : List Name) (s : WorldState) (x rest : Object) (y : Object) (t : WorldState) (v : Bool) → value names s x ≡ Ok (record { value = y; state = t; wrote = v })
     → values names s (pair x rest) ≡ also v (and_then (values names t rest) (λ ys end'. gives (y ∷ ys) end'))
-unfolding value_by
+unfolding value_over
 value_first names s x rest y t v e = ap (λ o. and_then o (λ y later. and_then (values names later rest) (λ ys end'. gives (y ∷ ys) end'))) e
 
 pub followed_step : (names : List Name) (xs : List Object) (w : Bool) (s : WorldState) (forms : List Datum) (i : ℕ) (f : Datum) (y : Object) (t : WorldState) (v : Bool) → i < length forms → f ≡ get_or forms i f
@@ -148,7 +148,7 @@ followed_step names xs w s forms i f y t v within is e =
     ∙ next xs w y v (values names t (list_of (map object_of (drop (i + 1) forms))))
 
 refused_first : (names : List Name) (s : WorldState) (x rest : Object) (code : ℕ) → value names s x ≡ Err code → values names s (pair x rest) ≡ Err code
-unfolding value_by
+unfolding value_over
 refused_first names s x rest code e = ap (λ o. and_then o (λ y later. and_then (values names later rest) (λ ys end'. gives (y ∷ ys) end'))) e
 
 pub followed_refused : (names : List Name) (xs : List Object) (w : Bool) (s : WorldState) (forms : List Datum) (i : ℕ) (f : Datum) (code : ℕ) → i < length forms → f ≡ get_or forms i f
@@ -158,7 +158,7 @@ followed_refused names xs w s forms i f code within is e =
     ∙ ap (λ o. also w (and_then o (λ ys end'. gives (xs ++ ys) end'))) (refused_first names s (object_of f) (list_of (map object_of (drop (i + 1) forms))) code e)
 
 values_none : (names : List Name) (s : WorldState) → values names s nil ≡ gives [] s
-unfolding value_by
+unfolding value_over
 values_none names s = refl
 
 pub followed_end : (names : List Name) (xs : List Object) (w : Bool) (s : WorldState) (forms : List Datum) → followed names xs w s (list_of (map object_of (drop (length forms) forms))) ≡ Ok (record { value = xs; state = s; wrote = w })

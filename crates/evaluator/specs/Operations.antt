@@ -1,11 +1,11 @@
 -- The operators as the evaluator has them: how many arguments each takes, and what it does.
-use Rattle.std.specs.Prelude.{ℕ, ◌+◌, ◌≤◌, Bool, true, false, if◌then◌else◌, List, [], ◌∷◌, bytes_eq, codes, Option, Some, None, IfSome, Err}
+use Rattle.std.specs.Prelude.{ℕ, ◌+◌, ◌≤◌, Bool, true, false, if◌then◌else◌, List, [], ◌∷◌, bytes_eq, codes, Option, Some, None, IfSome, is_some, Err}
 use Rattle.lisp_object.specs.Object.{Object}
 use Rattle.lisp_object.specs.declared.refusal.TheConstants.{ARGUMENT_KIND}
 use Rattle.plist_state.specs.State.{WorldState}
 use Rattle.package_table.specs.Table.{Name}
 use Rattle.evaluator.specs.declared.operation.Operation.{Operation}
-use Rattle.evaluator.specs.declared.operation.Operation.TheVariants.{Quote, Progn, If, MakeList, Get, Setf, Remprop, SymbolPlist, Incf, Push, MakePackage, InPackage, Export, Import, UsePackage, Intern, CopyReadtable, InReadtable, SetSyntaxFromChar, SetMacroCharacter, GetMacroCharacter, MakeDispatchMacroCharacter, SetDispatchMacroCharacter, GetDispatchMacroCharacter, ReadtableCase}
+use Rattle.evaluator.specs.declared.operation.Operation.TheVariants.{Quote, Progn, If, MakeList, Get, Setf, Remprop, SymbolPlist, Incf, Push, MakePackage, InPackage, Export, Import, UsePackage, Intern, CopyReadtable, InReadtable, SetSyntaxFromChar, SetMacroCharacter, GetMacroCharacter, MakeDispatchMacroCharacter, SetDispatchMacroCharacter, GetDispatchMacroCharacter, ReadtableCase, Computes}
 use Rattle.evaluator.specs.declared.place.Place.{Place}
 use Rattle.evaluator.specs.declared.place.Place.TheVariants.{Property, Case, ReadBase}
 use Rattle.lisp_operators.specs.Evaluation.{Evaluation}
@@ -13,7 +13,8 @@ use Rattle.lisp_operators.specs.Properties.{list, get, set, remove, symbol_plist
 use Rattle.lisp_operators.specs.Packages.{make, intern, export, import, use_package}
 use Rattle.lisp_operators.specs.Readtables.{readtable_case, set_case, copy_readtable, enter_readtable, set_syntax, set_macro, get_macro, make_dispatch, set_dispatch, get_dispatch}
 use Rattle.lisp_operators.specs.ReadBase.{set_base}
-use Rattle.evaluator.specs.Operators.{Operator, Action, quotes, sequence, chooses, assigns, increments, pushes, enters_package, calls}
+use Rattle.evaluator.specs.Operators.{Operator, Action, quotes, sequence, chooses, assigns, increments, pushes, enters_package, calls, computed, computed_value}
+use Rattle.value_functions.specs.Functions as functions
 
 abbrev pub least : Operation → ℕ
 least Quote = 1
@@ -41,6 +42,7 @@ least MakeDispatchMacroCharacter = 1
 least SetDispatchMacroCharacter = 3
 least GetDispatchMacroCharacter = 2
 least ReadtableCase = 1
+least (Computes function) = functions.fewest_arguments function
 
 abbrev pub most : Operation → Option ℕ
 most Quote = Some 1
@@ -68,6 +70,7 @@ most MakeDispatchMacroCharacter = Some 3
 most SetDispatchMacroCharacter = Some 4
 most GetDispatchMacroCharacter = Some 3
 most ReadtableCase = Some 1
+most (Computes function) = functions.most_arguments function
 
 -- what it does, where these are the names of macro functions
 abbrev pub action_of : List Name → Operation → Action
@@ -96,6 +99,7 @@ action_of names MakeDispatchMacroCharacter = calls make_dispatch
 action_of names SetDispatchMacroCharacter = calls (set_dispatch names)
 action_of names GetDispatchMacroCharacter = calls get_dispatch
 action_of names ReadtableCase = calls readtable_case
+action_of names (Computes function) = calls (computed function)
 
 abbrev pub operator : List Name → Operation → Operator
 operator names operation = record { least = least operation; most = most operation; action = action_of names operation }
@@ -104,13 +108,14 @@ operator names operation = record { least = least operation; most = most operati
 abbrev pub IsCounted : Operation → ℕ → Type 0
 IsCounted operation n = (least operation + 1 ≤ n) × IfSome (most operation) (λ m. n ≤ m + 1)
 
--- whether it gives a function of the values of its arguments
+-- whether it gives a function of the values of its arguments, of which all are held
 abbrev pub is_ordinary : Operation → Bool
 is_ordinary Quote = false
 is_ordinary Progn = false
 is_ordinary If = false
 is_ordinary MakeList = false
 is_ordinary InPackage = false
+is_ordinary (Computes function) = is_some (functions.most_arguments function)
 is_ordinary _ = true
 
 -- that function; SETF has three, as its place is the read base, a readtable's case or a property
@@ -128,6 +133,7 @@ function_of names Setf place xs s = set_at place xs s
 function_of names Incf place xs s = increment xs s
 function_of names Push place xs s = push xs s
 function_of names MakeList place xs s = Err ARGUMENT_KIND
+function_of names (Computes function) place xs s = computed_value function xs s
 function_of names operation place xs s = of_values (action_of names operation) xs s
 
 -- the operators of control and on data, by their names

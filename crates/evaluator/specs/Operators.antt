@@ -1,15 +1,18 @@
--- The operators (standard 3.1.2.1.2): the symbols of COMMON-LISP that may be at the head of a form, and how many arguments each
--- takes.
-use Rattle.std.specs.Prelude.{ℕ, ◌+◌, Bool, true, false, ◌&&◌, nat_le, if◌then◌else◌, List, Option, Some, None, codes}
+-- The operators (standard 3.1.2.1.2): the symbols that may be at the head of a form, and how many arguments each takes. They are
+-- at home in COMMON-LISP; or in PAZTURROK, a package like others, which a form makes.
+use Rattle.std.specs.Prelude.{◌≡◌, ℕ, ◌+◌, Bool, true, false, ◌&&◌, nat_le, if◌then◌else◌, List, Option, Some, None, option_map, Result, Ok, Err, codes}
 use Rattle.std.specs.Str.{bytes_eq}
 use Rattle.std.specs.Option.{option_map_or}
 use Rattle.lisp_object.specs.Object.{Object, symbol, pair, nil}
 use Rattle.package_table.specs.Table.{Name, common_lisp}
 use Rattle.plist_state.specs.State.{WorldState}
-use Rattle.lisp_operators.specs.Evaluation.{Evaluation}
+use Rattle.lisp_operators.specs.Evaluation.{Evaluation, gives}
 use Rattle.lisp_operators.specs.Properties.{list, get, remove, symbol_plist}
 use Rattle.lisp_operators.specs.Packages.{make, intern, export, import, use_package}
 use Rattle.lisp_operators.specs.Readtables.{readtable_case, copy_readtable, enter_readtable, set_syntax, set_macro, get_macro, make_dispatch, set_dispatch, get_dispatch}
+use Rattle.value_functions.specs.declared.functions.ValueFunction.{ValueFunction}
+use Rattle.value_functions.specs.Functions as functions
+use Rattle.value_functions.specs.Functions.{function_named, function_value, call_value}
 
 -- What a form does: an operator with a rule of its own, or a function of the values of its arguments.
 pub data Action : Type 0 where
@@ -64,10 +67,47 @@ operator_named names name =
     else (if bytes_eq name (codes "READTABLE-CASE") then takes 1 1 (calls readtable_case)
     else None))))))))))))))))))))))))
 
--- the operator of a symbol of COMMON-LISP
-abbrev pub operator_of : List Name → Object → Option Operator
-operator_of names (symbol home name) = if bytes_eq home common_lisp then operator_named names name else None
+-- which objects are operators
+abbrev pub OperatorTable : Type 0
+OperatorTable = Object → Option Operator
+
+-- the symbols of COMMON-LISP alone
+abbrev pub standard_operator_of : List Name → OperatorTable
+standard_operator_of names (symbol home name) = if bytes_eq home common_lisp then operator_named names name else None
+standard_operator_of names _ = None
+
+-- a function of values alone, in a state that stays as it is
+abbrev pub value_here : WorldState → Result Object ℕ → Evaluation Object
+value_here s (Ok x) = gives x s
+value_here s (Err code) = Err code
+
+abbrev pub computed : ValueFunction → List Object → WorldState → Evaluation Object
+computed function xs s = value_here s (call_value function xs)
+
+-- the same, where it takes so many arguments at most
+abbrev pub computed_value : ValueFunction → List Object → WorldState → Evaluation Object
+computed_value function xs s = value_here s (function_value function xs)
+
+abbrev pub pazturrok : Name
+pazturrok = codes "PAZTURROK"
+
+abbrev pub function_operator : ValueFunction → Operator
+function_operator function = record { least = functions.fewest_arguments function; most = functions.most_arguments function; action = calls (computed function) }
+
+-- the operator of PAZTURROK of this name
+abbrev pub pazturrok_operator : Name → Option Operator
+pazturrok_operator name = option_map function_operator (function_named name)
+
+-- the operator of a symbol
+abbrev pub operator_of : List Name → OperatorTable
+operator_of names (symbol home name) =
+    if bytes_eq home common_lisp then operator_named names name
+    else (if bytes_eq home pazturrok then pazturrok_operator name else None)
 operator_of names _ = None
+
+-- each operator of the first table is the same one in the second
+abbrev pub AreOperatorsAmong : OperatorTable → OperatorTable → Type 0
+AreOperatorsAmong fewer more = (head : Object) (operator : Operator) → fewer head ≡ Some operator → more head ≡ Some operator
 
 -- whether it is the symbol of COMMON-LISP with this name
 abbrev pub is_standard : List ℕ → Object → Bool

@@ -14,7 +14,7 @@ use Rattle.lisp_operators.specs.Properties.{set, increment, push}
 use Rattle.lisp_operators.specs.Packages.{enter}
 use Rattle.lisp_operators.specs.Readtables.{a_keyword_of, set_case}
 use Rattle.lisp_operators.specs.ReadBase.{set_base}
-use Rattle.evaluator.specs.Operators.{Operator, Action, quotes, sequence, chooses, assigns, increments, pushes, enters_package, calls, operator_of, is_standard, is_interned, count, counts, first}
+use Rattle.evaluator.specs.Operators.{Operator, Action, quotes, sequence, chooses, assigns, increments, pushes, enters_package, calls, OperatorTable, operator_of, is_standard, is_interned, count, counts, first}
 
 -- the values of a sequence are those of its last form (standard 5.3, progn); NIL where there is none
 abbrev pub last : List Object → Object
@@ -108,50 +108,70 @@ module _ (based : Bool) where
       if not (counts operator (count arguments)) then Err ARGUMENT_COUNT
       else action_value_by s operator.action arguments parts
 
+-- A table says which objects at the head of a form are operators.
 unfoldable mutual
-  -- the value of a form, where these are the names of macro functions
-  pub value_by : Bool → List Name → WorldState → Object → Evaluation Object
-  value_by based names s (pair operator arguments) =
+  -- the value of a form
+  pub value_over : Bool → OperatorTable → WorldState → Object → Evaluation Object
+  value_over based table s (pair operator arguments) =
       if not (is_interned operator && is_proper_list arguments) then Err NOT_A_FORM
-      else form_value_by based s (operator_of names operator) arguments
+      else form_value_by based s (table operator) arguments
       (record {
-        in_order = values_by based names s arguments;
-        chosen = choice_by based names s arguments;
-        at_place = values_at_place_by based names s arguments;
-        before_place = values_before_place_by based names s arguments;
+        in_order = values_over based table s arguments;
+        chosen = choice_over based table s arguments;
+        at_place = values_at_place_over based table s arguments;
+        before_place = values_before_place_over based table s arguments;
       })
-  value_by based names s (symbol home name) = symbol_value_by based home name s
-  value_by based names s (uninterned name) = Err NOT_A_FORM
-  value_by based names s x = gives x s
+  value_over based table s (symbol home name) = symbol_value_by based home name s
+  value_over based table s (uninterned name) = Err NOT_A_FORM
+  value_over based table s x = gives x s
 
   -- the values of forms, from left to right (standard 3.1.2.1.2.3)
-  pub values_by : Bool → List Name → WorldState → Object → Evaluation (List Object)
-  values_by based names s (pair x xs) =
-      and_then (value_by based names s x) (λ y later. and_then (values_by based names later xs) (λ ys end'. gives (y ∷ ys) end'))
-  values_by based names s _ = gives [] s
+  pub values_over : Bool → OperatorTable → WorldState → Object → Evaluation (List Object)
+  values_over based table s (pair x xs) =
+      and_then (value_over based table s x) (λ y later. and_then (values_over based table later xs) (λ ys end'. gives (y ∷ ys) end'))
+  values_over based table s _ = gives [] s
 
   -- IF (standard 5.3): NIL where the first is false and there is no third
-  pub choice_by : Bool → List Name → WorldState → Object → Evaluation Object
-  choice_by based names s (pair test (pair then' others)) =
-      and_then (value_by based names s test) (λ x later. if is_true x then value_by based names later then' else other_value_by based names later others)
-  choice_by based names s _ = Err ARGUMENT_COUNT
+  pub choice_over : Bool → OperatorTable → WorldState → Object → Evaluation Object
+  choice_over based table s (pair test (pair then' others)) =
+      and_then (value_over based table s test) (λ x later. if is_true x then value_over based table later then' else other_value_over based table later others)
+  choice_over based table s _ = Err ARGUMENT_COUNT
 
-  pub other_value_by : Bool → List Name → WorldState → Object → Evaluation Object
-  other_value_by based names s (pair x xs) = value_by based names s x
-  other_value_by based names s _ = gives nil s
+  pub other_value_over : Bool → OperatorTable → WorldState → Object → Evaluation Object
+  other_value_over based table s (pair x xs) = value_over based table s x
+  other_value_over based table s _ = gives nil s
 
   -- the values of a place's subforms, and of the forms after it (standard 5.1.1.1); a symbol has no subforms
-  pub values_at_place_by : Bool → List Name → WorldState → Object → Evaluation (List Object)
-  values_at_place_by based names s (pair (pair operator subforms) forms) =
-      and_then (values_by based names s subforms) (λ xs later. and_then (values_by based names later forms) (λ ys end'. gives (xs ++ ys) end'))
-  values_at_place_by based names s (pair (symbol home name) forms) = values_by based names s forms
-  values_at_place_by based names s _ = Err ARGUMENT_KIND
+  pub values_at_place_over : Bool → OperatorTable → WorldState → Object → Evaluation (List Object)
+  values_at_place_over based table s (pair (pair operator subforms) forms) =
+      and_then (values_over based table s subforms) (λ xs later. and_then (values_over based table later forms) (λ ys end'. gives (xs ++ ys) end'))
+  values_at_place_over based table s (pair (symbol home name) forms) = values_over based table s forms
+  values_at_place_over based table s _ = Err ARGUMENT_KIND
 
   -- the value of a form, and then those of the subforms of the place after it
-  pub values_before_place_by : Bool → List Name → WorldState → Object → Evaluation (List Object)
-  values_before_place_by based names s (pair x (pair (pair operator subforms) forms)) =
-      and_then (value_by based names s x) (λ y later. and_then (values_by based names later subforms) (λ ys end'. gives (y ∷ ys) end'))
-  values_before_place_by based names s _ = Err ARGUMENT_KIND
+  pub values_before_place_over : Bool → OperatorTable → WorldState → Object → Evaluation (List Object)
+  values_before_place_over based table s (pair x (pair (pair operator subforms) forms)) =
+      and_then (value_over based table s x) (λ y later. and_then (values_over based table later subforms) (λ ys end'. gives (y ∷ ys) end'))
+  values_before_place_over based table s _ = Err ARGUMENT_KIND
+
+-- ---- by the operators there are, where these are the names of macro functions
+abbrev pub value_by : Bool → List Name → WorldState → Object → Evaluation Object
+value_by based names = value_over based (operator_of names)
+
+abbrev pub values_by : Bool → List Name → WorldState → Object → Evaluation (List Object)
+values_by based names = values_over based (operator_of names)
+
+abbrev pub choice_by : Bool → List Name → WorldState → Object → Evaluation Object
+choice_by based names = choice_over based (operator_of names)
+
+abbrev pub other_value_by : Bool → List Name → WorldState → Object → Evaluation Object
+other_value_by based names = other_value_over based (operator_of names)
+
+abbrev pub values_at_place_by : Bool → List Name → WorldState → Object → Evaluation (List Object)
+values_at_place_by based names = values_at_place_over based (operator_of names)
+
+abbrev pub values_before_place_by : Bool → List Name → WorldState → Object → Evaluation (List Object)
+values_before_place_by based names = values_before_place_over based (operator_of names)
 
 -- ---- where it is
 abbrev pub is_base_place : Object → Bool

@@ -5,16 +5,14 @@ ghost use Rattle.lisp_object.specs.Datum.{object_of};
 ghost use Rattle.evaluator.specs.Value.{values_at_place, values_before_place, choice};
 ghost use Rattle.lisp_operators.specs.Readtables.{AreFunctionNames};
 ghost use Rattle.lisp_operators.specs.Evaluated.{IsArgument, KeepsArguments, Answers, done, IsProperValue, AreArgumentsOf, objects};
-ghost use Rattle.evaluator.specs.Gathered.{all_done, arguments_in, EvaluatesFor, Operates};
+ghost use Rattle.evaluator.specs.Gathered.{all_done, arguments_in, EvaluatesFor, Operates, followed, subforms, gathered, sequence_value, list_value};
 ghost use Rattle.evaluator.specs.Operations.{IsCounted, is_ordinary};
-ghost use Rattle.evaluator.specs.Gathered.{followed, subforms, gathered, sequence_value, list_value};
 ghost use Rattle.evaluator.specs.Wanted.{seen};
 
+use crate::computed::computed_of_list;
 use crate::control::{after, atom, nothing, quoted};
 use crate::direct::{get_directly, literal_assignment, quoted_property, set_directly};
 use crate::operation::{Operation, operation_of};
-use crate::perform::perform;
-use crate::place::check_place;
 use crate::values::Values;
 use crate::wanted::{Task, Wanted, seen, wanted_for};
 use lisp_object::refusal::{ARGUMENT_KIND, NOT_A_FORM};
@@ -128,6 +126,13 @@ fn act(
             None => ordinary(alloc, world, names, task, items),
         },
         Operation::MakeList => seen(listed(alloc, world, names, items), task.wanted),
+        Operation::Computes(function) => match function.most() {
+            Some(_) => ordinary(alloc, world, names, task, items),
+            None => seen(
+                computed_of_list(alloc, function, listed(alloc, world, names, items)),
+                task.wanted,
+            ),
+        },
         _ => ordinary(alloc, world, names, task, items),
     }
 }
@@ -149,12 +154,12 @@ fn ordinary(
     ensures proper { IfOk result IsProperValue }
     ensures marked { world.new.1 ≡ world.old.1 }
 {
-    let place = match check_place(task.operation, items) {
+    let place = match crate::place::check_place(task.operation, items) {
         Ok(place) => place,
         Err(error) => return Err(error),
     };
     match gathered(alloc, world, names, task.operation, items) {
-        Ok(values) => perform(alloc, world, names, task, place, values),
+        Ok(values) => crate::perform::perform(alloc, world, names, task, place, values),
         Err(error) => Err(error),
     }
 }
@@ -294,8 +299,7 @@ fn extended(
     Ok(values)
 }
 
-// LIST: the list of the values of these forms (standard 14.2, `list`). Of values that are too large together none is held, and those after
-// them are not made.
+// LIST: the list of the values of these forms (standard 14.2, `list`). Of values that are too large together none is held.
 #[cycle(evaluation)]
 fn listed(
     alloc: Global,

@@ -1,5 +1,5 @@
 //! What holds of the value of every form, for proofs.
-ghost use Rattle.std.specs.Prelude.{ℕ, ◌≡◌, ◌≤◌, false, List, Ok, Err};
+ghost use Rattle.std.specs.Prelude.{ℕ, Bool, ◌≡◌, ◌≤◌, false, List, Ok, Err};
 ghost use Rattle.lisp_object.specs.Object.{Object};
 ghost use Rattle.package_table.specs.Growth.{Grows};
 ghost use Rattle.package_table.specs.Table.{Name};
@@ -7,7 +7,8 @@ ghost use Rattle.plist_state.specs.State.{WorldState};
 ghost use Rattle.plist_state.specs.Sound.{IsSound, IsValue};
 ghost use Rattle.lisp_operators.specs.Evaluation.{Done};
 ghost use Rattle.lisp_operators.specs.Readtables.{AreCovered, AreFunctionNames};
-ghost use Rattle.evaluator.specs.Value.{value};
+ghost use Rattle.evaluator.specs.Operators.{OperatorTable, AreOperatorsAmong, standard_operator_of};
+ghost use Rattle.evaluator.specs.Value.{value, value_by, value_over};
 
 /// The value of a form that writes nothing leaves the state as it was. For proofs: it does nothing.
 pub fn silent_values_change_nothing()
@@ -35,4 +36,15 @@ pub fn values_leave_covered_readtables()
 pub fn values_are_refused_by_evaluation()
     ensures { (names : List Name) (s : WorldState) (x : Object) (code : ℕ)
         → value names s x ≡ Err code → (30 ≤ code) × (code ≤ 46) }
+{}
+
+/// What a form gives with the operators of one table, it gives with those of another that has the same ones and more. So where
+/// a symbol becomes an operator, each form that had a value keeps it. Both with and without the variable `*READ-BASE*`. For
+/// proofs: it does nothing.
+pub fn more_operators_change_no_value()
+    ensures tables { (based : Bool) (fewer more : OperatorTable) (s : WorldState) (x : Object)
+        → (d : Done Object) → AreOperatorsAmong fewer more
+        → value_over based fewer s x ≡ Ok d → value_over based more s x ≡ Ok d }
+    ensures standard { (based : Bool) (names : List Name) (s : WorldState) (x : Object)
+        → (d : Done Object) → value_over based (standard_operator_of names) s x ≡ Ok d → value_by based names s x ≡ Ok d }
 {}

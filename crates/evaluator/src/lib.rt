@@ -12,7 +12,8 @@
 //! - `direct`: GET of two quoted symbols, and SETF of such a property to a literal, from the form as it stands; `apply` moves the
 //!   literal. `trimmed`: a datum that is to be kept
 //! - `operation`: what is at its head; `place`: the places of SETF, INCF and PUSH; `control`: the operators of control, and
-//!   atoms; `perform`, `effects`: what an operator makes of the values of its arguments; `values`: these values
+//!   atoms; `perform`, `effects`: what an operator makes of the values of its arguments; `computed`: a function of values
+//!   alone; `values`: these values
 //!
 //! # Laws for the crates above
 //!
@@ -20,11 +21,14 @@
 //! - proofs/SoundForms.antt: a form that is evaluated in a sound state leaves a sound one.
 //! - proofs/KeepingForms.antt: a relation that holds of each change holds of a form.
 //! - proofs/NumberedForms.antt: a form is refused under a number of evaluation.
+//! - proofs/FunctionLaws.antt: what these laws ask of an operator, for the functions of values alone.
+//! - proofs/Widening.antt: of two evaluations the second gives what the first gives: one induction for all laws of this kind.
 //! - proofs/WithoutBase.antt: what a form gives where `*READ-BASE*` is no variable.
 //! - proofs/Induction.antt: one induction over the value of a form, in which what holds of each step holds of it (`every_value`).
 #![tactic(auto)]
 
 mod calls;
+mod computed;
 mod control;
 mod direct;
 mod effects;

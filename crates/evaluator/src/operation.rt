@@ -1,8 +1,9 @@
 //! The operators, by their names.
 ghost use Rattle.std.specs.Prelude.{◌≡◌, ◌+◌, true, bytes_eq, List, option_map, IfOk};
 ghost use Rattle.lisp_object.specs.Datum.{object_of};
+ghost use Rattle.lisp_object.specs.Object.{symbol};
 ghost use Rattle.package_table.specs.Table.{Name};
-ghost use Rattle.evaluator.specs.Operators.{operator_named, counts};
+ghost use Rattle.evaluator.specs.Operators.{operator_named, operator_of, pazturrok_operator, counts};
 ghost use Rattle.evaluator.specs.Operations.{least, most, operator, IsCounted, among, operators_on_data, operators_on_packages, operators_on_readtables};
 ghost use Rattle.evaluator.specs.Gathered.{IsHead};
 ghost use Rattle.lisp_operators.specs.Evaluated.{IsProper};
@@ -12,8 +13,13 @@ use lisp_object::refusal::{ARGUMENT_COUNT, NOT_A_FORM, UNKNOWN_OPERATOR};
 use lisp_operators::EvaluationError::Refused;
 use lisp_operators::{EvaluationError, kinds};
 use package_table::standardized::COMMON_LISP;
+use value_functions::ValueFunction;
 
-/// An operator: a symbol of COMMON-LISP that may be at the head of a form (standard 3.1.2.1.2).
+// The package of the operators that COMMON-LISP does not have.
+const PAZTURROK: &[u8] = b"PAZTURROK";
+
+/// An operator: a symbol that may be at the head of a form (standard 3.1.2.1.2). `Computes` are those of PAZTURROK that are a
+/// function of the values of their arguments alone, all others are at home in COMMON-LISP.
 #[derive(Clone, Copy, Debug, PartialEq, Eq)]
 pub(crate) enum Operation {
     Quote,
@@ -41,6 +47,7 @@ pub(crate) enum Operation {
     SetDispatchMacroCharacter,
     GetDispatchMacroCharacter,
     ReadtableCase,
+    Computes(ValueFunction),
 }
 
 impl Operation {
@@ -57,6 +64,33 @@ impl Operation {
                 None => on_readtables(name),
             },
         }
+    }
+
+    /// The operator of PAZTURROK of this name.
+    #[tactic(auto, using(crate::proofs::Heads::function_found, crate::proofs::Heads::function_missing))]
+    fn of_pazturrok(name: &[u8]) -> Option<Operation>
+        ensures { (names : List Name)
+            → option_map (operator names) result ≡ pazturrok_operator name.now }
+    {
+        match ValueFunction::named(name) {
+            Some(function) => Some(Operation::Computes(function)),
+            None => None,
+        }
+    }
+
+    /// The operator of the symbol with this home and this name.
+    #[tactic(auto, using(crate::proofs::Heads::of_lisp, crate::proofs::Heads::of_own, crate::proofs::Heads::of_none))]
+    fn of_symbol(home: &[u8], name: &[u8]) -> Option<Operation>
+        ensures { (names : List Name)
+            → option_map (operator names) result ≡ operator_of names (symbol home.now name.now) }
+    {
+        if is_name(home, COMMON_LISP) {
+            return Operation::named(name);
+        }
+        if is_name(home, PAZTURROK) {
+            return Operation::of_pazturrok(name);
+        }
+        None
     }
 
     // How many arguments it takes at least.
@@ -88,6 +122,7 @@ impl Operation {
             | Operation::SetMacroCharacter
             | Operation::GetDispatchMacroCharacter => 2,
             Operation::SetDispatchMacroCharacter => 3,
+            Operation::Computes(function) => function.least(),
         }
     }
 
@@ -120,6 +155,7 @@ impl Operation {
             Operation::SetSyntaxFromChar
             | Operation::SetMacroCharacter
             | Operation::SetDispatchMacroCharacter => Some(4),
+            Operation::Computes(function) => function.most(),
         }
     }
 
@@ -147,10 +183,7 @@ pub(crate) fn operation_of(head: &Datum, number: usize) -> Result<Operation, Eva
     let Ok((home, name)) = kinds::symbol(head) else {
         return Err(Refused(NOT_A_FORM));
     };
-    if !is_name(home, COMMON_LISP) {
-        return Err(Refused(UNKNOWN_OPERATOR));
-    }
-    let Some(operation) = Operation::named(name) else {
+    let Some(operation) = Operation::of_symbol(home, name) else {
         return Err(Refused(UNKNOWN_OPERATOR));
     };
     if !operation.counts(number) {

@@ -6,6 +6,7 @@ ghost use Rattle.evaluator.specs.Operations.{function_of, set_at};
 ghost use Rattle.evaluator.specs.Wanted.{seen};
 ghost use Rattle.lisp_operators.specs.Evaluated.{Answers, done, IsProperValue, AreArgumentsOf, CarriesOut, objects};
 
+use crate::computed::computed;
 use crate::control::after;
 use crate::effects::{effect, truth};
 use crate::operation::Operation;
@@ -96,6 +97,7 @@ pub(crate) fn carry_out(
         ),
         Operation::GetDispatchMacroCharacter => get_dispatch(alloc, world, values.as_slice()),
         Operation::ReadtableCase => readtables::readtable_case(alloc, world, values.as_slice()),
+        Operation::Computes(function) => computed(alloc, function, values),
         Operation::Quote => Err(Refused(ARGUMENT_KIND)),
         Operation::Progn => Err(Refused(ARGUMENT_KIND)),
         Operation::If => Err(Refused(ARGUMENT_KIND)),

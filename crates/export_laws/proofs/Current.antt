@@ -13,7 +13,7 @@ use Rattle.plist_state.specs.State.{WorldState}
 use Rattle.user_macros.specs.Functions.{no_functions}
 use Rattle.canon_printer.specs.Written.{printed_text}
 use Rattle.lisp_operators.specs.Evaluation.{also, and_then, gives, writes}
-use Rattle.evaluator.specs.Value.{last, value_by, values_by}
+use Rattle.evaluator.specs.Value.{last, value_by, values_by, value_over}
 use Rattle.form_eval.specs.Acceptance.{accept, accepted_by}
 use Rattle.form_eval.proofs.KnownSymbols.{known_symbols}
 use Rattle.prevalence_store.specs.meaning.Acceptance.{form_limits}
@@ -83,12 +83,12 @@ module _ (names : List Name) (s : WorldState) (sound : packages.IsSound s.packag
   entered = record s { current_package = p }
 
   pub enter_value : value_by true names s (enter_object p) ≡ writes (text p) entered
-  unfolding value_by
+  unfolding value_over
   enter_value =
       ap (λ o. option_map_or (λ q. writes (text q) (record s { current_package = q })) o (Err NO_SUCH_PACKAGE)) (named_so names s sound p there)
 
   current_value : value_by true names s (current_object p) ≡ writes (text p) entered
-  unfolding value_by
+  unfolding value_over
   current_value =
       λ i. and_then (and_then (enter_value i) (λ y later. and_then (values_by true names later nil) (λ ys end'. gives (y ∷ ys) end'))) (λ xs later. gives (last xs) later)
 

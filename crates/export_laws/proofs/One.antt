@@ -22,7 +22,7 @@ use Rattle.plist_state.specs.State.{WorldState}
 use Rattle.lisp_operators.specs.Evaluation.{also, and_then, gives, writes}
 use Rattle.lisp_operators.specs.Packages.{intern, interned}
 use Rattle.lisp_operators.specs.Properties.{set}
-use Rattle.evaluator.specs.Value.{value_by, values_by}
+use Rattle.evaluator.specs.Value.{value_by, values_by, value_over}
 use Rattle.form_eval.specs.Acceptance.{accept, accepted_by}
 use Rattle.form_eval.proofs.KnownSymbols.{known_symbols}
 use Rattle.world_forms.specs.Tokens.{is_too_long}
@@ -63,11 +63,11 @@ module _ (names : List Name) (s : WorldState) (sound : packages.IsSound s.packag
         ∙ (λ i. interned s n (none_new i) (interned_is i))
 
     pub interned_value : value_by true names s (call (codes "INTERN") (text n ∷ text h ∷ [])) ≡ gives (symbol h n) s
-    unfolding value_by
+    unfolding value_over
     interned_value = ap (also false) intern_is
 
     quoted_value : value_by true names s (call (codes "QUOTE") (symbol h n ∷ [])) ≡ gives (symbol h n) s
-    unfolding value_by
+    unfolding value_over
     quoted_value = refl
 
     symbol_value : value_by true names s (symbol_form (h, n)) ≡ gives (symbol h n) s
@@ -91,7 +91,7 @@ module _ (names : List Name) (s : WorldState) (sound : packages.IsSound s.packag
 
   pub two_values : (a b u v : Object) → value_by true names s a ≡ gives u s → value_by true names s b ≡ gives v s
       → values_by true names s (pair a (pair b nil)) ≡ gives (u ∷ v ∷ []) s
-  unfolding value_by
+  unfolding value_over
   two_values a b u v first second =
       (λ i. and_then (first i) (λ y later. and_then (values_by true names later (pair b nil)) (λ ys end'. gives (y ∷ ys) end')))
       ∙ (λ i. also false (and_then (and_then (second i) (λ y later. and_then (values_by true names later nil) (λ ys end'. gives (y ∷ ys) end'))) (λ ys end'. gives (u ∷ ys) end')))
@@ -101,7 +101,7 @@ module _ (names : List Name) (s : WorldState) (sound : packages.IsSound s.packag
     quoted = call (codes "QUOTE") (p.1 ∷ [])
 
     property_value : value_by true names s (property_object x p) ≡ writes p.1 (with_property s x p.0 p.1)
-    unfolding value_by
+    unfolding value_over
     property_value = λ i.
         and_then (and_then (two_values (symbol_form x) (symbol_form p.0) (symbol x.0 x.1) (symbol p.0.0 p.0.1) (symbol_value x.0 x.1 there) (symbol_value p.0.0 p.0.1 indicator) i)
         (λ xs later. and_then (values_by true names later (pair quoted nil)) (λ ys end'. gives (xs ++ ys) end'))) set

@@ -23,7 +23,7 @@ use Rattle.lisp_operators.specs.Evaluation.{Done, also, and_then, gives, of_kind
 use Rattle.lisp_operators.specs.Kinds.{a_symbol, one_or_each}
 use Rattle.lisp_operators.specs.Packages.{after_exports, after_imports, changed, export, finds_symbol, import, interned, made, packages_named, then_others, use_all}
 use Rattle.lisp_operators.specs.Properties.{t as t_object}
-use Rattle.evaluator.specs.Value.{value_by, values_by}
+use Rattle.evaluator.specs.Value.{value_by, values_by, value_over}
 use Rattle.form_eval.specs.Acceptance.{accept, accepted_by}
 use Rattle.form_eval.proofs.KnownSymbols.{known_symbols}
 use Rattle.world_forms.specs.Tokens.{is_too_long, prefix_length}
@@ -76,7 +76,7 @@ module _ (names : List Name) (s : WorldState) (sound : packages.IsSound s.packag
   -- ---- MAKE-PACKAGE
 
   make_value : (p : Name) (u : Table) → after_make t p ≡ Ok u → value_by true names s (call (codes "MAKE-PACKAGE") (text p ∷ [])) ≡ writes (text p) (with_packages s u)
-  unfolding value_by
+  unfolding value_over
   make_value p u goes = ap (λ r. also false (made s p r)) goes
 
   pub make_leaves : (p : Name) (u : Table) → after_make t p ≡ Ok u → Leaves (call (codes "MAKE-PACKAGE") (text p ∷ [])) u
@@ -92,7 +92,7 @@ module _ (names : List Name) (s : WorldState) (sound : packages.IsSound s.packag
 
   intern_value : (p n h : Name) (u : Table) → IsPackage t p → after_intern t p n ≡ Ok (h, u)
       → value_by true names s (call (codes "INTERN") (text n ∷ text p ∷ [])) ≡ Ok (record { value = symbol h n; state = with_packages s u; wrote = intern_changes t p n })
-  unfolding value_by
+  unfolding value_over
   intern_value p n h u there goes =
       (λ i. also false (option_map_or (λ q. interned s n (intern_changes t q n) (after_intern t q n)) (named_so p there i) (Err NO_SUCH_PACKAGE)))
       ∙ ap (λ r. also false (interned s n (intern_changes t p n) r)) goes
@@ -144,7 +144,7 @@ module _ (names : List Name) (s : WorldState) (sound : packages.IsSound s.packag
     quoted = call (codes "QUOTE") (listed ∷ [])
 
     quote_gives : value_by true names s quoted ≡ gives listed s
-    unfolding value_by
+    unfolding value_over
     quote_gives = refl
 
     alone : is_nil h n ≡ false → one_or_each a_symbol (symbol h n) ≡ Some ((h, n) ∷ [])
@@ -173,7 +173,7 @@ module _ (names : List Name) (s : WorldState) (sound : packages.IsSound s.packag
 
   module _ (p h n : Name) (u : Table) (there : IsPackage t p) (locked : is_locked p ≡ false) (x : Object) (a : IsSymbolArgument x h n) where
     text_value : value_by true names s (text p) ≡ gives (text p) s
-    unfolding value_by
+    unfolding value_over
     text_value = refl
 
     arguments : values_by true names s (pair x (pair (text p) nil)) ≡ gives (a.value ∷ text p ∷ []) s
@@ -181,7 +181,7 @@ module _ (names : List Name) (s : WorldState) (sound : packages.IsSound s.packag
 
     import_value : after_import t p h n ≡ Ok u
         → value_by true names s (call (codes "IMPORT") (x ∷ text p ∷ [])) ≡ Ok (record { value = t_object; state = with_packages s u; wrote = import_changes t p n })
-    unfolding value_by
+    unfolding value_over
     import_value goes =
         (λ i. and_then (arguments i) import)
         ∙ (λ i. also false (of_kind (a.each i) (λ xs. option_map_or (λ q. if is_locked q then Err PACKAGE_IS_LOCKED else changed s (after_imports t q xs)) (named_so p there i) (Err NO_SUCH_PACKAGE))))
@@ -195,7 +195,7 @@ module _ (names : List Name) (s : WorldState) (sound : packages.IsSound s.packag
 
     export_value : finds_this t p h n ≡ true → after_export t p h n ≡ Ok u
         → value_by true names s (call (codes "EXPORT") (x ∷ text p ∷ [])) ≡ Ok (record { value = t_object; state = with_packages s u; wrote = export_changes t p n })
-    unfolding value_by
+    unfolding value_over
     export_value finds goes =
         (λ i. and_then (arguments i) export)
         ∙ (λ i. also false (of_kind (a.each i) (λ xs. option_map_or (λ q. if is_locked q then Err PACKAGE_IS_LOCKED
@@ -214,7 +214,7 @@ module _ (names : List Name) (s : WorldState) (sound : packages.IsSound s.packag
   module _ (p q : Name) (u : Table) (there : IsPackage t p) (that : IsPackage t q) (locked : is_locked p ≡ false) (other : bytes_eq keyword q ≡ false) where
     use_value : after_use t p q ≡ Ok u
         → value_by true names s (call (codes "USE-PACKAGE") (text q ∷ text p ∷ [])) ≡ Ok (record { value = t_object; state = with_packages s u; wrote = use_changes t p q })
-    unfolding value_by
+    unfolding value_over
     use_value goes =
         (λ i. also false (option_map_or (λ qs. option_map_or (λ p. use_all s p qs) (package_named t p) (Err NO_SUCH_PACKAGE))
         (option_map_or (λ r. option_map_or (λ rs. Some (r ∷ rs)) (packages_named t []) None) (named_so q that i) None) (Err NO_SUCH_PACKAGE)))

@@ -7,7 +7,7 @@ use Rattle.package_table.specs.Lookup.{found}
 use Rattle.plist_state.specs.State.{WorldState}
 use Rattle.plist_state.specs.Changes.{with_packages}
 use Rattle.lisp_operators.specs.Evaluation.{gives, writes}
-use Rattle.evaluator.specs.Value.{value_by}
+use Rattle.evaluator.specs.Value.{value_over}
 use Rattle.form_eval.specs.Acceptance.{accept}
 
 abbrev named : Name → Object
@@ -16,14 +16,14 @@ named name = symbol (codes "KEYWORD") name
 module _ (s : WorldState) where
   symbols_first : finite.contains_key s.packages (codes "P") ≡ true → found s.packages (codes "P") (codes "FROB") ≡ None → nat_le 1000000 (symbol_count s.packages) ≡ true
       → accept [] s (list_of (symbol (codes "P") (codes "FROB") ∷ [])) ≡ Err 46
-  unfolding value_by
+  unfolding value_over
   symbols_first p none full = rw (p, none, full) refl
 
   interned_alone : finite.contains_key s.packages keyword ≡ true → found s.packages keyword (codes "K") ≡ None → nat_le 1000000 (symbol_count s.packages) ≡ false
       → accept [] s (named (codes "K")) ≡ writes (named (codes "K")) (with_packages s (with_entry s.packages keyword (codes "K") (record { home = keyword; external = true })))
-  unfolding value_by
+  unfolding value_over
   interned_alone there none room = rw (none, there, room) refl
 
   known_alone : finite.contains_key s.packages keyword ≡ true → found s.packages keyword (codes "K") ≡ Some keyword → accept [] s (named (codes "K")) ≡ gives (named (codes "K")) s
-  unfolding value_by
+  unfolding value_over
   known_alone there here = rw (here, there) refl

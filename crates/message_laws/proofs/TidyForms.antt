@@ -11,6 +11,7 @@ use Rattle.package_table.specs.Table.{Name, Table}
 use Rattle.plist_state.specs.State.{WorldState}
 use Rattle.plist_state.specs.Changes.{with_packages}
 use Rattle.evaluator.specs.Value.{value}
+use Rattle.evaluator.proofs.FunctionLaws.{computed_keeps}
 use Rattle.evaluator.proofs.Induction.{Operators, Steps, every_value}
 use Rattle.form_eval.specs.Acceptance.{accept, accepted_by as accepted_with, with_symbols}
 use Rattle.session_words.specs.declared.mode.Mode.{Mode}
@@ -52,6 +53,7 @@ module _ (names : List Name) where
     sets_dispatch = set_dispatch_keeps names;
     gets_dispatch = get_dispatch_keeps;
     sets_base = λ _. set_base_keeps;
+    computes = λ function xs s. computed_keeps Kept function xs s (λ tidy. tidy);
   }
 
   steps : Steps true names Asks Keeps Keeps IsKeeping

@@ -17,7 +17,7 @@ use Rattle.plist_state.specs.State.{WorldState}
 use Rattle.user_macros.specs.Functions.{no_functions}
 use Rattle.canon_printer.specs.Written.{character_name, printed_character, printed_text}
 use Rattle.lisp_operators.specs.Evaluation.{gives}
-use Rattle.evaluator.specs.Value.{value_by}
+use Rattle.evaluator.specs.Value.{value_by, value_over}
 use Rattle.prevalence_store.specs.meaning.Acceptance.{form_limits}
 use Rattle.world_text.proofs.Atoms.{home_ascii, own_ascii}
 use Rattle.world_text.proofs.Spelling.{IsAscii}
@@ -75,7 +75,7 @@ module _ (names : List Name) (s : WorldState) (sound : packages.IsSound s.packag
 
   module _ (n : Name) (there : IsSymbol t (keyword, n)) where
     pub keyword_is : length n ≤ 4000 → IsArgument names s sound (symbol_text keyword n) (symbol keyword n) (symbol keyword n)
-    unfolding value_by is_too_long
+    unfolding value_over is_too_long
     keyword_is short = record {
       read = within (symbol_text keyword n) (symbol keyword n) (symbol_is_read form_limits t no_functions sound (room t sound) keyword n there (omega arith) (not_long (length n) short));
       there = there_alone t keyword n there;
@@ -96,7 +96,7 @@ module _ (names : List Name) (s : WorldState) (sound : packages.IsSound s.packag
     many_short short = omega (arith, short, text_short n, text_short keyword, length-append (flat_map text_argument (n ∷ keyword ∷ [])) (codes ")"), length-append (text_argument n) (flat_map text_argument (keyword ∷ [])), length-append (text_argument keyword) [])
 
     pub table_is : IsArgument names s sound (value_text [] [] keyword n) (table_form n) (symbol keyword n)
-    unfolding value_text common_lisp_names value_by
+    unfolding value_text common_lisp_names value_over
     table_is = by_length (is_too_long keyword n) refl
       where
         by_length : (b : Bool) → is_too_long keyword n ≡ b
@@ -127,7 +127,7 @@ module _ (names : List Name) (s : WorldState) (sound : packages.IsSound s.packag
   -- ---- a character
 
   pub character_is : (c : ℕ) → c < 128 → IsArgument names s sound (printed_character c) (character c) (character c)
-  unfolding value_by
+  unfolding value_over
   character_is c below = record {
     read = within (printed_character c) (character c) (object_is_read form_limits t no_functions sound (room t sound) (character c) below tt (omega (arith, name_short c)));
     there = refl;
@@ -142,7 +142,7 @@ module _ (names : List Name) (s : WorldState) (sound : packages.IsSound s.packag
   lisp_is n read listed short value = record { read = within n (symbol common_lisp n) read; there = lisp_there t sound n listed; short = omega (arith, short); value = value }
 
   pub flag_is : (b : Bool) → IsArgument names s sound (flag_text b) (flag b) (flag b)
-  unfolding value_by common_lisp_names
+  unfolding value_over common_lisp_names
   flag_is true = lisp_is (codes "T") (lisp_is_read form_limits t no_functions sound (room t sound) (codes "T") refl refl (omega arith)) refl (omega arith) refl
   flag_is false = lisp_is (codes "NIL") (lisp_is_read form_limits t no_functions sound (room t sound) (codes "NIL") refl refl (omega arith)) refl (omega arith) refl
 
@@ -152,7 +152,7 @@ module _ (names : List Name) (s : WorldState) (sound : packages.IsSound s.packag
   few_digits n small = omega (arith, length-decimal-le_wide 39 n (omega arith) (omega (arith, small)) (omega (arith, small)))
 
   pub base_is : (n : ℕ) → n ≤ 36 → IsArgument names s sound (decimal n) (integer (pos n)) (integer (pos n))
-  unfolding value_by
+  unfolding value_over
   base_is n small = record {
     read = within (decimal n) (integer (pos n)) (object_is_read form_limits t no_functions sound (room t sound) (integer (pos n)) (omega (arith, small)) tt (few_digits n small));
     there = refl;
@@ -162,7 +162,7 @@ module _ (names : List Name) (s : WorldState) (sound : packages.IsSound s.packag
 
   -- the variable, which is a place too
   pub base_variable : IsArgument names s sound (codes "*READ-BASE*") (symbol common_lisp (codes "*READ-BASE*")) (integer (pos s.read_base))
-  unfolding value_by common_lisp_names
+  unfolding value_over common_lisp_names
   base_variable = record {
     read = within (codes "*READ-BASE*") (symbol common_lisp (codes "*READ-BASE*")) (lisp_is_read form_limits t no_functions sound (room t sound) (codes "*READ-BASE*") refl refl (omega arith));
     there = lisp_there t sound (codes "*READ-BASE*") refl;
@@ -173,7 +173,7 @@ module _ (names : List Name) (s : WorldState) (sound : packages.IsSound s.packag
   -- ---- the name of a package
 
   pub text_is : (p : Name) → IsPackage t p → IsArgument names s sound (printed_text p) (text p) (text p)
-  unfolding value_by
+  unfolding value_over
   text_is p there =
       let few : length p ≤ 256 = (sound.within.package_names p there).short in
       record {

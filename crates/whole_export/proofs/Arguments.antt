@@ -11,7 +11,7 @@ use Rattle.package_table.specs.Table.{Name, common_lisp, common_lisp_user}
 use Rattle.plist_state.specs.State.{WorldState}
 use Rattle.user_macros.specs.Functions.{no_functions}
 use Rattle.lisp_operators.specs.Evaluation.{also, and_then, gives, writes}
-use Rattle.evaluator.specs.Value.{value_by, values_by}
+use Rattle.evaluator.specs.Value.{value_by, values_by, value_over}
 use Rattle.form_eval.specs.Acceptance.{accept, accepted_by}
 use Rattle.form_eval.proofs.KnownSymbols.{known_symbols}
 use Rattle.lisp_reading.specs.declared.found.Found.TheVariants.{One as one}
@@ -57,7 +57,7 @@ module _ (names : List Name) (s : WorldState) (sound : packages.IsSound s.packag
   all_short _ _ _ (argument text x v more xs vs is others) = omega (arith, is.short, all_short more xs vs others, length-append text more)
 
   pub call_values : (more : List ℕ) (xs vs : List Object) → AreArguments more xs vs → values_by true names s (list_of xs) ≡ gives vs s
-  unfolding value_by
+  unfolding value_over
   call_values _ _ _ no_argument = refl
   call_values _ _ _ (argument text x v more xs vs is others) =
       (λ i. and_then (is.value i) (λ y later. and_then (values_by true names later (list_of xs)) (λ ys end'. gives (y ∷ ys) end')))

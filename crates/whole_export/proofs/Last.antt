@@ -21,7 +21,7 @@ use Rattle.canon_printer.specs.Written.{printed_text}
 use Rattle.lisp_operators.specs.Evaluation.{also, and_then, gives, writes}
 use Rattle.lisp_operators.specs.ReadBase.{is_base}
 use Rattle.lisp_operators.specs.Readtables.{after, enter_readtable}
-use Rattle.evaluator.specs.Value.{last, value_by, values_by}
+use Rattle.evaluator.specs.Value.{last, value_by, values_by, value_over}
 use Rattle.form_eval.specs.Acceptance.{accept}
 use Rattle.lisp_reading.specs.declared.found.Found.TheVariants.{One as one}
 use Rattle.prevalence_store.specs.meaning.Acceptance.{form_limits}
@@ -146,13 +146,13 @@ module _ (names : List Name) (s : WorldState) (sound : packages.IsSound s.packag
   based = with_base entered n
 
   base_value : value_by true names entered (base_object n) ≡ writes (integer (pos n)) based
-  unfolding value_by
+  unfolding value_over
   base_value =
       let is : is_base n ≡ true = and_from (nat_le 2 n) (nat_le n 36) (le-leb 2 n lowest) (le-leb n 36 highest) in
       ap (λ (b : Bool). also false (option_map_or (λ base. writes (integer (pos n)) (with_base entered base)) (if b then Some n else None) (Err INTEGER_RANGE))) is
 
   table_value : value_by true names based (enter_table r) ≡ writes (symbol keyword r) (with_current s p n r)
-  unfolding value_by
+  unfolding value_over
   table_value =
       ap (λ e. and_then e enter_readtable)
       (call_values names based sound table_more (table_form r ∷ []) (symbol keyword r ∷ [])
@@ -160,7 +160,7 @@ module _ (names : List Name) (s : WorldState) (sound : packages.IsSound s.packag
       ∙ ap (λ (b : Bool). also false (after based (symbol keyword r) (if b then Ok (with_current s p n r) else Err NoReadtable))) is_table
 
   last_value : value_by true names s (last_object p n r) ≡ writes (symbol keyword r) (with_current s p n r)
-  unfolding value_by
+  unfolding value_over
   last_value =
       let a = enter_object p in
       let b = base_object n in

@@ -23,7 +23,7 @@ use Rattle.lisp_operators.specs.Evaluation.{Evaluation, also, and_then, gives, o
 use Rattle.lisp_operators.specs.Kinds.{case_named}
 use Rattle.lisp_operators.specs.Properties.{t as t_object}
 use Rattle.lisp_operators.specs.Readtables.{a_function, after, copy_readtable, is_function, make_dispatch, set_case, set_dispatch, set_macro, set_syntax, with_readtables}
-use Rattle.evaluator.specs.Value.{value_by, values_by}
+use Rattle.evaluator.specs.Value.{value_by, values_by, value_over}
 use Rattle.snapshot_text.specs.Built.{CanBeMade, IsSubFunction, IsWritable, with_table}
 use Rattle.snapshot_text.proofs.ReadtableParts.{copied}
 use Rattle.snapshot_text.proofs.TableParts.{changed_to, dispatched_is}
@@ -53,7 +53,7 @@ module _ (names : List Name) (s : WorldState) (n : Name) where
 
   pub copy_made : CanBeMade s.readtables n → (z r : Object) → Are (z ∷ r ∷ []) (symbol keyword standard_name ∷ name_value ∷ [])
       → value_by true names s (call (codes "COPY-READTABLE") (z ∷ r ∷ [])) ≡ writes name_value (with_table s n standard)
-  unfolding value_by
+  unfolding value_over
   copy_made can z r are =
       ap (λ e. and_then e copy_readtable) are ∙ ap (λ said. also false (after s name_value said)) (copied s n can)
 
@@ -66,7 +66,7 @@ module _ (names : List Name) (s : WorldState) (n : Name) where
     pub case_set : (k : Case) (r y : Object) → values_by true names s (pair r nil) ≡ gives (name_value ∷ []) s
         → values_by true names s (pair y nil) ≡ gives (symbol keyword (case_name k) ∷ []) s
         → Becomes (call (codes "SETF") (call (codes "READTABLE-CASE") (r ∷ []) ∷ y ∷ [])) (symbol keyword (case_name k)) (record table { letters = k })
-    unfolding value_by
+    unfolding value_over
     case_set k r y first second =
         let v = symbol keyword (case_name k) in
         (λ i. and_then (and_then (first i) (λ xs later. and_then (values_by true names later (pair y nil)) (λ ys end'. gives (xs ++ ys) end'))) set_case)
@@ -78,7 +78,7 @@ module _ (names : List Name) (s : WorldState) (n : Name) where
 
     pub like_set : (c d : ℕ) (x y r z : Object) → Are (x ∷ y ∷ r ∷ z ∷ []) (character c ∷ character d ∷ name_value ∷ symbol keyword standard_name ∷ [])
         → Becomes (call (codes "SET-SYNTAX-FROM-CHAR") (x ∷ y ∷ r ∷ z ∷ [])) t_object (with_entry table c (entry_at standard d))
-    unfolding value_by
+    unfolding value_over
     like_set c d x y r z are =
         ap (λ e. and_then e set_syntax) are
         ∙ (λ i. also false (after s t_object (in_state s (option_map_or (λ z. changed s.readtables n (λ t. Ok (with_entry t c (entry_at z d)))) (w.standard i) (Err NoReadtable)))))
@@ -96,7 +96,7 @@ module _ (names : List Name) (s : WorldState) (n : Name) where
 
     pub macro_set : (c : ℕ) (f : Name) (b : Bool) (x y z r : Object) → is_function names f ≡ true → Are (x ∷ y ∷ z ∷ r ∷ []) (character c ∷ symbol keyword f ∷ flag b ∷ name_value ∷ [])
         → Becomes (call (codes "SET-MACRO-CHARACTER") (x ∷ y ∷ z ∷ r ∷ [])) t_object (with_entry table c (macro_entry f b))
-    unfolding value_by
+    unfolding value_over
     macro_set c f b x y z r may are =
         let done = with_readtables s t_object (with_macro s.readtables n c f b) in
         ap (λ e. and_then e (set_macro names)) are ∙ by_flag b
@@ -112,7 +112,7 @@ module _ (names : List Name) (s : WorldState) (n : Name) where
 
     pub dispatching_set : (c : ℕ) (b : Bool) (x z r : Object) → Are (x ∷ z ∷ r ∷ []) (character c ∷ flag b ∷ name_value ∷ [])
         → Becomes (call (codes "MAKE-DISPATCH-MACRO-CHARACTER") (x ∷ z ∷ r ∷ [])) t_object (with_entry table c (dispatching_entry b))
-    unfolding value_by
+    unfolding value_over
     dispatching_set c b x z r are =
         ap (λ e. and_then e make_dispatch) are ∙ by_flag b
         ∙ ap (λ said. also false (after s t_object said)) (changed_to s n table (with_entry table c (dispatching_entry b)) (λ t. Ok (with_entry t c (dispatching_entry b))) w refl)
@@ -124,7 +124,7 @@ module _ (names : List Name) (s : WorldState) (n : Name) where
     pub sub_set : (c sub : ℕ) (f : Name) (x y z r : Object) → is_function names f ≡ true → IsSubFunction s.packages sub f → is_dispatching (entry_at table c) ≡ true
         → Are (x ∷ y ∷ z ∷ r ∷ []) (character c ∷ character sub ∷ symbol keyword f ∷ name_value ∷ [])
         → Becomes (call (codes "SET-DISPATCH-MACRO-CHARACTER") (x ∷ y ∷ z ∷ r ∷ [])) t_object (with_entry table c (with_function (entry_at table c) sub f))
-    unfolding value_by
+    unfolding value_over
     sub_set c sub f x y z r may is dispatches are =
         let done = with_readtables s t_object (with_dispatch s.readtables n c sub f) in
         ap (λ e. and_then e (set_dispatch names)) are

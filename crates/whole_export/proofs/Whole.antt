@@ -16,7 +16,7 @@ use Rattle.plist_state.specs.State.{WorldState, initial, standard_name, user_nam
 use Rattle.user_macros.specs.Functions.{Functions}
 use Rattle.lisp_operators.specs.Evaluation.{also, and_then, writes}
 use Rattle.lisp_operators.specs.Readtables.{after, enter_readtable}
-use Rattle.evaluator.specs.Value.{value_by}
+use Rattle.evaluator.specs.Value.{value_by, value_over}
 use Rattle.snapshot_text.specs.Covered.{are_covered}
 use Rattle.session_words.specs.declared.content.Content.TheVariants.{World}
 use Rattle.world_forms.specs.Forms.{current_form, forms, last_newline}
@@ -66,7 +66,7 @@ module _ (functions : Functions) (whole : List ℕ) where
   its_arguments = argument (codes ":STANDARD") (symbol keyword standard_name) (symbol keyword standard_name) (codes ")") [] [] (standard_argument functions.names initial first_sound) no_argument
 
   first_value : value_by true functions.names initial first_object ≡ writes (symbol keyword standard_name) begun
-  unfolding value_by
+  unfolding value_over
   first_value =
       let name = symbol keyword standard_name in
       ap (λ e. and_then e enter_readtable) (call_values functions.names initial first_sound more (name ∷ []) (name ∷ []) its_arguments)

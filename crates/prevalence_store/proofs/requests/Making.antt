@@ -16,7 +16,7 @@ use Rattle.lisp_operators.specs.Evaluated.{done}
 use Rattle.lisp_operators.specs.Evaluation.{Done, Evaluation, also, writes}
 use Rattle.lisp_operators.specs.Properties.{removed, t}
 use Rattle.lisp_operators.specs.declared.evaluated.Evaluated.{Evaluated}
-use Rattle.evaluator.specs.Value.{value, value_by}
+use Rattle.evaluator.specs.Value.{value, value_over}
 use Rattle.package_table.specs.Symbols.{are_there, symbols}
 use Rattle.package_table.specs.Table.{Name}
 use Rattle.plist_state.specs.State.{WorldState}
@@ -59,7 +59,7 @@ abbrev cleared_to : WorldState → Option Object → Evaluation Object
 cleared_to s o = also false (removed o s (without_position s))
 
 clearing_value : (names : List Name) (s : WorldState) → value names s (own_form Clearing) ≡ cleared_to s (position_property s)
-unfolding value_by
+unfolding value_over
 clearing_value names s = refl
 
 cleared_some : (s : WorldState) (o : Option Object) → IsSome o → (x : Object) × (cleared_to s o ≡ writes x (without_position s))
@@ -67,7 +67,7 @@ cleared_some s None some = absurd (cc)
 cleared_some s (Some v) some = (t, refl)
 
 position_value : (names : List Name) (s : WorldState) (n : ℕ) → value names s (own_form (Position n)) ≡ writes (integer (pos n)) (with_position n s)
-unfolding value_by
+unfolding value_over
 position_value names s n = refl
 
 own_value : (names : List Name) (s : WorldState) (own : Own) → IsNeeded own s → (x : Object) × (value names s (own_form own) ≡ writes x (own_left own s))

@@ -9,22 +9,22 @@ use Rattle.std.proofs.lemmas.List.{map-append}
 use Rattle.lisp_object.specs.declared.datum.Datum.TheViews.{sized-List, the_lemmas}
 use Rattle.lisp_object.proofs.datum.Datum.TheLaws.{the_size}
 use Rattle.lisp_operators.specs.Kinds.{is_pair}
-use Rattle.evaluator.specs.Gathered.{arguments_of, operation_value, followed, subforms, sequence_value}
+use Rattle.evaluator.specs.Gathered.{all_done, arguments_of, operation_value, followed, subforms, sequence_value}
 use Rattle.evaluator.specs.declared.wanted.Wanted.TheVariants.{Value, Nothing}
 use Rattle.evaluator.specs.Wanted.{stand_in, seen}
 use Rattle.evaluator.proofs.ListItems.{held_so}
 use Rattle.evaluator.proofs.Seen.{seen_value, seen_also, refused_seen, refused_so, evaluated_so, stand_in_value}
 use Rattle.evaluator.proofs.Sequences.{sequence_step, sequence_stops, sequence_last, no_forms, also_refused, also_also}
-use Rattle.evaluator.specs.Value.{value}
+use Rattle.evaluator.specs.Value.{value, values}
 use Rattle.lisp_operators.specs.Properties.{list}
 use Rattle.plist_state.specs.Shown.{symbol_named}
 use Rattle.evaluator.specs.declared.operation.Operation.TheVariants.{Get}
 use Rattle.evaluator.proofs.QuotedKeys.{get_of_key}
 use Rattle.evaluator.proofs.Lists.{list_stops, list_given}
 use Rattle.lisp_operators.specs.Evaluated.{IsArgument, Answers, done}
-use Rattle.evaluator.proofs.Steps.{value_dotted, items_arguments, good_value, followed_step, followed_stops, followed_at_end, argument_grown, all_more}
+use Rattle.evaluator.proofs.Steps.{followed_start, value_dotted, items_arguments, good_value, followed_step, followed_stops, followed_at_end, argument_grown, all_more}
 use Rattle.evaluator.proofs.Places.{some_items}
-use Rattle.evaluator.proofs.Forms.{head_form, head_refused, place_first, place_given, push_no_place, push_refused, push_given, same_item, subforms_given, performed}
+use Rattle.evaluator.proofs.Forms.{arguments_from, gathered_in_order, head_form, head_refused, place_first, place_given, push_no_place, push_refused, push_given, same_item, subforms_given, performed}
 use Rattle.evaluator.proofs.Branches.{choice_refused, choice_true, choice_none, choice_other}
 use Rattle.evaluator.proofs.evaluation.+evaluation.Goals as goal
 
@@ -41,6 +41,33 @@ act-returns-in-Some-clause-gives t c =
     ∙ ap (λ a. operation_value names Get a s) c.in-Some.ensures
     ∙ get_of_key names s (symbol_named p.symbol) (symbol_named p.indicator)))
     c.get_directly.ensures.gives
+
+pub act-returns-in-Some-literal_assignment-clause-gives : goal.act-returns-in-Some-literal_assignment-clause-gives
+act-returns-in-Some-literal_assignment-clause-gives t c =
+    let names = c.args.names.now in
+    let s = c.args.world.now.0 in
+    subst (λ o. Answers done c.set_directly.result c.set_directly.new.world.0 (seen c.args.task.wanted o))
+    (sym (ap (λ o. operation_value names o (arguments_of (map object_of c.args.items.now)) s) c.in-Setf.is
+    ∙ c.in-Some-literal_assignment.ensures.value names s))
+    c.set_directly.ensures.gives
+
+pub gathered-returns-in_default : goal.gathered-returns-in_default
+gathered-returns-in_default t c =
+    let names = c.args.names.now in
+    let s = c.args.world.now.0 in
+    let items = c.args.items.now in
+    let forms = list_of (map object_of (drop 1 items)) in
+    record {
+      gives = subst (Answers all_done c.extended.result c.extended.new.world.0)
+          (ap (λ l. followed names (map object_of l) c.none.result.wrote s forms) c.none.ensures.values
+          ∙ ap (λ b. followed names [] b s forms) c.none.ensures.wrote
+          ∙ followed_start names s forms
+          ∙ ap (values names s) (sym (arguments_from items))
+          ∙ sym (gathered_in_order names s c.args.operation (arguments_of (map object_of items)) c.in_default.not-Setf c.in_default.not-Incf c.in_default.not-Push))
+          c.extended.ensures.gives;
+      values = c.extended.ensures.values;
+      marked = c.extended.ensures.marked;
+    }
 
 pub any_form-returns-then-is_some-clause-gives : goal.any_form-returns-then-is_some-clause-gives
 any_form-returns-then-is_some-clause-gives t c =

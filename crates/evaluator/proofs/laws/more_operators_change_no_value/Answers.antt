@@ -1,0 +1,9 @@
+use Rattle.evaluator.specs.Operators.{operator_of, standard_operator_of}
+use Rattle.evaluator.proofs.Widening.{wider_operators, standard_among}
+use Rattle.evaluator.proofs.laws.more_operators_change_no_value.Goals as goal
+
+pub returns-clause-tables : goal.returns-clause-tables
+returns-clause-tables c = λ based fewer more s x d among is. wider_operators based fewer more among s x d is
+
+pub returns-clause-standard : goal.returns-clause-standard
+returns-clause-standard c = λ based names s x d is. wider_operators based (standard_operator_of names) (operator_of names) (standard_among names) s x d is
