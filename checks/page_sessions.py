@@ -1,5 +1,8 @@
 """The sessions that pages show, as files of checks/sessions have them."""
+import os
 import re
+
+TOP = os.path.dirname(os.path.dirname(os.path.abspath(__file__)))
 
 
 def blocks_of(text):
@@ -30,10 +33,15 @@ def scripts_of_block(block):
     """The sessions of a block between fences. One that is killed, checks/campaign has."""
     for first, rest in re.findall(r"^\$ (.*)\n((?:(?!\$ ).*\n)*)", block, flags=re.M):
         here = re.fullmatch(r"\./pazturrok run \S+(.*?) <<'END'", first)
+        fed = re.fullmatch(r"\./pazturrok run \S+(.*?) < (lisp/\S+)", first)
         echo = re.fullmatch(r"echo (['\"])(.*)\1 \| \./pazturrok run \S+(.*)", first)
         if here and "kill" not in block:
             forms, _, answers = rest.partition("END\n")
             yield f"$ run DIR{here[1]}\n" + lines_of("< ", forms.split("\n")[:-1]) + "0\n" + wanted_of(answers.split("\n")[:-1])
+        elif fed:
+            with open(os.path.join(TOP, fed[2]), encoding="ascii") as file:
+                forms = file.read()
+            yield f"$ run DIR{fed[1]}\n" + lines_of("< ", forms.split("\n")[:-1]) + "0\n" + wanted_of(rest.split("\n")[:-1])
         elif echo and "kill" not in block:
             yield f"$ run DIR{echo[3]}\n" + lines_of("< ", [echo[2]]) + "0\n" + wanted_of(rest.split("\n")[:-1])
 
