@@ -8,12 +8,15 @@
 # The kinds of tables, by their first lines.
 BEGIN {
     kinds["Form|Value|Writes|Refusals"] = "operator"
+    kinds["Form|Value|Refusals"] = "function"
     kinds["Form|Answer|"] = "example"
     kinds["In the table|What it is"] = "letter"
+    kinds["In the table of functions|What it is"] = "function letter"
     kinds["Numbers|What it means|What comes next"] = "range"
     kinds["No.|Name|When|Place that is told"] = "refusal"
     kinds["No.|Name|When"] = "refusal"
     kinds["Number|What happened|What to do"] = "fault"
+    FUNCTIONS = "A function of the package PAZTURROK: lisp/operators.lisp makes the plain names known to a store."
 }
 
 # A cell without the marks of a page.
@@ -95,11 +98,19 @@ kind == "operator" {
     refusals[form_count] = cells[5]
 }
 
+kind == "function" {
+    forms[++form_count] = cells[2]
+    values[form_count] = cells[3]
+    writes[form_count] = "no"
+    refusals[form_count] = cells[4]
+    is_function[form_count] = 1
+}
+
 # Of the examples the first that has the operator at its head and is accepted is the best one, worth 3. One that is
 # refused is worth 2, and one that has the name elsewhere 1.
 kind == "example" {
     worth = 0
-    if (index(cells[2] " ", "(" asked " ") == 1)
+    if (index(cells[2] " ", "(" asked " ") == 1 || index(cells[2], "(PAZTURROK::" asked " ") == 1)
         worth = substr(cells[3], 1, 1) == "!" ? 2 : 3
     else if (has_word(cells[2], asked) && substr(cells[3], 1, 1) != "!")
         worth = 1
@@ -110,9 +121,10 @@ kind == "example" {
     }
 }
 
-kind == "letter" {
+kind == "letter" || kind == "function letter" {
     letters[++letter_count] = cells[2]
     meanings[letter_count] = cells[3]
+    is_of_functions[letter_count] = kind != "letter"
 }
 
 kind == "range" {
@@ -160,9 +172,11 @@ function tell_refusal(at,    other) {
             tell("What to do after " faults[other] ": " fault_does[other], 2)
 }
 
-# Tells what the letters of the forms stand for, of which there are those in `text`.
-function tell_letters(text,    at, words, count, word) {
+# Tells what the letters of the forms stand for, of which there are those in `text`; of operators or of functions.
+function tell_letters(text, of_functions,    at, words, count, word) {
     for (at = 1; at <= letter_count; at++) {
+        if (is_of_functions[at] != of_functions)
+            continue
         count = split(letters[at], words, ", ")
         for (word = 1; word <= count; word++)
             if (has_word(text, words[word])) {
@@ -172,10 +186,11 @@ function tell_letters(text,    at, words, count, word) {
     }
 }
 
-function tell_operator(    at, found, text) {
+function tell_operator(    at, found, text, of_functions) {
     for (at = 1; at <= form_count; at++)
         if (has_word(forms[at], asked)) {
             found = 1
+            of_functions = is_function[at] + 0
             print forms[at]
             tell("Value: " values[at], 2)
             tell("Writes: " writes[at], 2)
@@ -187,7 +202,9 @@ function tell_operator(    at, found, text) {
         return 0
     if (found) {
         print ""
-        tell_letters(text)
+        tell_letters(text, of_functions)
+        if (of_functions)
+            tell(FUNCTIONS, 2)
     }
     if (best)
         print (found ? "\n" : "") "In a session:\n  " example "\n  " answer
@@ -195,19 +212,29 @@ function tell_operator(    at, found, text) {
     return 1
 }
 
-function tell_manual(    at) {
-    print ".TH PAZTURROK-FORMS 7 \"\" \"Pazturrok\""
-    print ".SH NAME\npazturrok-forms \\- the forms of a store, and the numbers of refusals"
-    print ".SH FORMS"
+# The forms of operators or of functions, and what their letters stand for, as a part of a manual page.
+function tell_forms(of_functions,    at) {
     for (at = 1; at <= form_count; at++) {
+        if (is_function[at] + 0 != of_functions)
+            continue
         print ".TP\n.B \"" escaped(forms[at]) "\""
-        print escaped(values[at] ". Writes: " writes[at] ".")
+        print escaped(values[at] "." (of_functions ? "" : " Writes: " writes[at] "."))
         if (refusals[at] != "")
             print escaped("Refused with: " refusals[at] ".")
     }
     print ".PP"
     for (at = 1; at <= letter_count; at++)
-        print ".TP\n.B \"" escaped(letters[at]) "\"\n" escaped(meanings[at])
+        if (is_of_functions[at] == of_functions)
+            print ".TP\n.B \"" escaped(letters[at]) "\"\n" escaped(meanings[at])
+}
+
+function tell_manual(    at) {
+    print ".TH PAZTURROK-FORMS 7 \"\" \"Pazturrok\""
+    print ".SH NAME\npazturrok-forms \\- the forms of a store, and the numbers of refusals"
+    print ".SH FORMS"
+    tell_forms(0)
+    print ".SH FUNCTIONS\n" escaped(FUNCTIONS)
+    tell_forms(1)
     print ".SH REFUSALS"
     for (at = 1; at <= number_count; at++)
         print ".TP\n.B \"" escaped(numbers[at] " " names[at]) "\"\n" escaped(causes[at])

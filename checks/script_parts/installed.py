@@ -46,7 +46,7 @@ def check_proved(script, room):
     manual, usage = text_of(page), helps[2].splitlines()[0]
     check("the manual page has the help", (usage.replace("-", "\\-") in manual, manual.count(".SS ") > 5, ".SS run \\-\\-messages\n" in manual), (True, True, True))
     forms = os.path.join(moved, "share", "man", "man7", "pazturrok-forms.7")
-    check("the manual page of forms", (".B \"(GET s i [x])\"\n" in text_of(forms), ".B \"31 UNKNOWN\\-OPERATOR\"\n" in text_of(forms)), (True, True))
+    check("the manual page of forms", (".B \"(GET s i [x])\"\n" in text_of(forms), ".B \"31 UNKNOWN\\-OPERATOR\"\n" in text_of(forms), ".B \"(SYMBOL\\-NAME s)\"\n" in text_of(forms)), (True, True, True))
     check("its help from the pages", [called(there, "help", word)[1].split(b"\n")[0] for word in ("GET", "31")], [b"(GET s i [x])", b"31 UNKNOWN-OPERATOR"])
     for name in (page, forms) if shutil.which("groff") else ():
         linted = subprocess.run(["groff", "-man", "-ww", "-Tascii", "-z", name], capture_output=True, check=False)

@@ -31,8 +31,34 @@ def operator_told(script: str, operator: str, rows: List[str]) -> None:
         check(f"help of {operator} in lower case", told(script, operator.lower()), (status, out, err))
 
 
+def function_told(script: str, function: str, rows: List[str]) -> None:
+    """The help of a function has the forms of its row and what comes of them, says whose function it is, and takes a letter for none of an operator."""
+    status, out, err = told(script, function)
+    forms = [" ".join(re.findall(r"`([^`]*)`", row.split("|")[1])) for row in rows if f"`({function} " in row]
+    lines = out.decode().splitlines()
+    check(f"help of {function}", (status, err, len(forms), lines[:1], "of the package PAZTURROK" in out.decode()), (0, b"", 1, forms, True))
+    check(f"letters of {function}", b"stands for its name\n" in out or b"an n that names" in out, False)
+    check(f"help of {function} in lower case", told(script, function.lower()), (status, out, err))
+
+
+def check_functions(script: str) -> None:
+    """The help of each function: those of the page are those that lisp/operators.lisp makes known."""
+    table = page("operators.md").split("\n| Form | Value | Refusals |\n")[1].split("\n\n")[0]
+    rows = [row for row in table.splitlines() if row.startswith("| `")]
+    of_page = {name for row in rows for name in re.findall(r"`\(([^ )]+)[^`]*`", row.split("|")[1])}
+    with open(os.path.join(TOP, "lisp", "operators.lisp"), encoding="ascii") as file:
+        made_known = set(re.findall(r"PAZTURROK::([^ )\n]+)", file.read()))
+    check("functions of the page", (sorted(of_page), len(of_page) > 30), (sorted(made_known), True))
+    for function in sorted(made_known):
+        function_told(script, function, rows)
+    check("an example of a function", b"In a session:\n  (PAZTURROK::FLOOR -7 2)\n  -4\n" in told(script, "FLOOR")[1], True)
+    for word in ("/", "<>", "=="):
+        check(f"no function {word}", told(script, word)[:2], (2, b""))
+
+
 def check_all(script: str) -> None:
     """Checks all of it."""
+    check_functions(script)
     rows = re.findall(r"^\| `(\([^`]*)` \|.*\| (?:yes|no|if [^|]*) \|.*\|$", page("operators.md"), re.M)
     operators = {row[1:].replace(")", " ").split()[0] for row in rows}
     check("rows of the page", (len(rows) >= 27, "GET" in operators), (True, True))
