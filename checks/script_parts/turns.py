@@ -4,7 +4,7 @@ import subprocess
 import time
 from typing import List
 
-from calls import called, check, is_refused
+from calls import called, check, command, is_refused
 
 # How many sessions are started at once, and for how many seconds each may wait: on a machine that works none does.
 SESSIONS, PATIENCE = 30, "600"
@@ -66,12 +66,34 @@ def taken(script: str, store: str) -> None:
     check("the one that waited", (waiting.communicate(b"(LIST 2)"), waiting.returncode), ((b"(2)\n", b""), 0))
 
 
+# What stands in the place of stat: it tells the file of another store, on a device that may be another.
+STAT = """#!/bin/sh
+echo "{device} {number}"
+"""
+
+
+def on_another_device(script: str, room: str) -> None:
+    """A lock on a file of the same number, of another file system, is none on this store."""
+    one, two = os.path.join(room, "device one"), os.path.join(room, "device two")
+    called(script, "run", two, stdin=b"(LIST 1)")
+    running = begun(script, one)
+    answered(running, b"(LIST 1)")
+    half = os.stat(os.path.join(one, "half-a"))
+    for device, is_served in ((half.st_dev, True), (half.st_dev + 1, False), (half.st_dev + 256, False)):
+        folder = command(room, "stat", STAT.format(device=device, number=half.st_ino))
+        err = called(script, "snapshot", two, PATH=folder + ":" + os.environ["PATH"])[2]
+        check(f"a lock on the device {device}", err.startswith(f"pazturrok: {two} is served by process {running.pid} (".encode()), is_served)
+    os.remove(os.path.join(room, "commands", "stat"))
+    running.communicate()
+
+
 def check_all(script: str, room: str) -> None:
     """Checks all of it in a room."""
     store = os.path.join(room, "turns")
     together(script, store)
     together(script, os.path.join(room, "turns two"))
     taken(script, store)
+    on_another_device(script, room)
     for text in ("", "x", "1x", "-1", "1.5", "9999999999"):
         is_refused("seconds", script, "run", store, "--wait", text, says="a number of seconds")
     is_refused("seconds", script, "run", store, "--wait", says="a number of seconds")
