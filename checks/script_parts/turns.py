@@ -66,6 +66,17 @@ def taken(script: str, store: str) -> None:
     check("the one that waited", (waiting.communicate(b"(LIST 2)"), waiting.returncode), ((b"(2)\n", b""), 0))
 
 
+def beside_a_new_store(script: str, room: str) -> None:
+    """A session that makes its store keeps nobody waiting who wants another store beside it."""
+    one = begun(script, os.path.join(room, "new one"), "--wait", PATIENCE)
+    check("a new store", answered(one, b"(LIST 1)"), b"(1)\n")
+    start = time.monotonic()
+    two = called(script, "run", os.path.join(room, "new two"), "--wait", PATIENCE, stdin=b"(LIST 2)")
+    check("another one beside it", (two, time.monotonic() - start < int(PATIENCE) / 2, one.poll()), ((0, b"(2)\n", b""), True, None))
+    refused(script, os.path.join(room, "new one"), one.pid, [os.path.join(room, "new one"), "--wait", "1"], 1)
+    check("its end", (one.communicate(), one.returncode), ((b"", b""), 0))
+
+
 # What stands in the place of stat: it tells the file of another store, on a device that may be another.
 STAT = """#!/bin/sh
 echo "{device} {number}"
@@ -94,6 +105,7 @@ def check_all(script: str, room: str) -> None:
     together(script, os.path.join(room, "turns two"))
     taken(script, store)
     on_another_device(script, room)
+    beside_a_new_store(script, room)
     for text in ("", "x", "1x", "-1", "1.5", "9999999999"):
         is_refused("seconds", script, "run", store, "--wait", text, says="a number of seconds")
     is_refused("seconds", script, "run", store, "--wait", says="a number of seconds")
