@@ -160,6 +160,8 @@ def torn(folder, program):
         number, text = client.request(b"do more", ADD)
         faults += [] if (number, text) == (3, "2") else [f"the next form is answered {number} {text}"]
         faults += [] if client.request(b"do add", ADD)[1] in ("1", LOST) and value(node) == "2" else ["a name was forgotten"]
+        told = client.request(b"do add", LOOK)
+        faults += [] if told == (0, "! 55 OTHER-TEXT") else [f"a name that is there with another text is answered {told}"]
         return faults
     finally:
         node.end()

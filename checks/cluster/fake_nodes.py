@@ -63,8 +63,9 @@ class FakeNodes:
                 return "ask", f'("COMMON-LISP-USER" {found}'
             if head[1] not in self.done:
                 self.number += 1
-                self.done[head[1]] = str(self.number), self.carry_out(text)
-            return self.done[head[1]]
+                self.done[head[1]] = text, (str(self.number), self.carry_out(text))
+            before, answer = self.done[head[1]]
+            return answer if text == before else ("0", "! 55 OTHER-TEXT")
 
     def carry_out(self, text: str) -> str:
         if text != ADD:

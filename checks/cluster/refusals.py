@@ -272,6 +272,8 @@ def strangers(folder, program):
             held.append(one)
         held.append(never_reads(host))
         faults = [] if value(cluster, 0) == "5" else ["strangers have changed something"]
+        told = Client(cluster.places).request(b"do add-0", LOOK)
+        faults += [] if told == (0, "! 55 OTHER-TEXT") else [f"a name that is there with another text is answered {told}"]
         many = [socket.create_connection(host, LONG) for _ in range(1000)]
         for number, one in enumerate(many):
             one.sendall(b"do many-%d %d\n%s\n" % (number, len(ADD), ADD))

@@ -13,10 +13,10 @@ sys.path.insert(0, os.path.join(os.path.dirname(os.path.abspath(__file__)), ".."
 
 from pazturrok_node import journal as journals  # noqa: E402
 from pazturrok_node.answers import Answers  # noqa: E402
-from pazturrok_node.appender import Appender, Refused  # noqa: E402
-from pazturrok_node.frames import ANSWER, LIMIT, LOST, NO_ROOM, REQUEST, Frames, NoFrameError, request_of  # noqa: E402
+from pazturrok_node.appender import Appender  # noqa: E402
+from pazturrok_node.frames import ANSWER, LIMIT, LOST, NO_ROOM, OTHER_TEXT, REQUEST, Frames, NoFrameError, request_of  # noqa: E402
 from pazturrok_node.journal import Journal, records, written  # noqa: E402
-from pazturrok_node.log import BehindError, BusyError, FullError, Reached, RefusedStoreError  # noqa: E402
+from pazturrok_node.log import BehindError, BusyError, FullError, Reached, Refused, RefusedStoreError  # noqa: E402
 from pazturrok_node.main import free_socket  # noqa: E402
 
 SENT = b"do own.name-1 5\n(A B)\nask 3\n(C)\nread 0\n\nask 17 1\nD\ndo 3\na\nb\n"
@@ -90,13 +90,27 @@ class JournalTest(unittest.IsolatedAsyncioTestCase):
     async def test_names(self):
         one = self.begun(7)
         self.assertEqual(await one.append([(b"a", b"1"), (b"b", b"2")], 0), [8, 9])
-        self.assertEqual(await one.append([(b"b", b"other"), (b"c", b"3"), (b"a", b"1")], 0), [9, 10, 8])
+        self.assertEqual(await one.append([(b"b", b"2"), (b"c", b"3"), (b"a", b"1")], 0), [9, 10, 8])
         one.close()
         with mock.patch.object(journals.os, "fsync", wraps=os.fsync) as synced:
             two = self.begun(9)
         self.assertTrue(synced.called, "what a killed node has written and not synced is not synced")
         self.assertEqual(await two.append([(b"c", b"3")], 0), [10])
         self.assertEqual(await self.given(two, 8), [(9, b"b", b"2"), (10, b"c", b"3")])
+
+    async def test_another_text(self):
+        """A name that is there with another text is refused, and the entry under it stays; as after the journal was read again."""
+        one, other = self.begun(), Refused(OTHER_TEXT)
+        await one.append([(b"a", b"(x)")], 0)
+        self.assertEqual(await one.append([(b"a", b"(y)"), (b"b", b"(y)")], 0), [other, 2])
+        with mock.patch.object(journals, "MOST_NAMES", 1), self.assertRaises(FullError) as raised:
+            await one.append([(b"a", b"(y)"), (b"b", b"(y)"), (b"c", b"(z)")], 0)
+        self.assertEqual(raised.exception.placed, {b"a": other, b"b": 2})
+        one.close()
+        two = self.begun()
+        self.assertEqual(await two.append([(b"a", b""), (b"b", b"(x)"), (b"c", b"(z)")], 0), [other, other, 3])
+        self.assertEqual(await two.append([(b"a", b"(x)"), (b"b", b"(y)")], 0), [1, 2])
+        self.assertEqual(await self.given(two, 0), [(1, b"a", b"(x)"), (2, b"b", b"(y)"), (3, b"c", b"(z)")])
 
     async def test_synced_before_it_is_fed(self):
         one, calls = self.begun(), []
@@ -183,7 +197,7 @@ class JournalTest(unittest.IsolatedAsyncioTestCase):
             await one.append([(b"a", b"1"), (b"b", b"2")], 0)
             with self.assertRaises(FullError) as raised:
                 await one.append([(b"c", b"3"), (b"a", b"1")], 0)
-            self.assertEqual(raised.exception.numbers, {b"a": 1})
+            self.assertEqual(raised.exception.placed, {b"a": 1})
             self.assertEqual(await one.append([(b"b", b"2")], 0), [2])
         with mock.patch.object(journals.os, "write", side_effect=OSError(errno.ENOSPC, "No space left on device")), self.assertRaises(FullError):
             await one.append([(b"c", b"3")], 0)

@@ -29,6 +29,7 @@
        (expect "after all that was answered" 3 (ask-fresh feed *look*))
        (expect "a refusal is signalled" 4 (number-of-refusal (feed-form feed ")")))
        (expect "a name of one's own" '(4 4) (list (send-named feed "order-17" *add*) (send-named feed "order-17" *add*)))
+       (expect "a name of one's own with another text" 55 (number-of-refusal (send-named feed "order-17" '(list 1))))
        (expect "what cannot be sent" 'unsendable (signalled (feed-form feed "(LIST 1.5d0 \"ä\")")))
        (close-feed feed)
        (expect "a feed that was closed" 'closed (signalled (feed-form feed *add*)))))))

@@ -58,6 +58,9 @@ class Nodes(StoreTest):
         for _ in range(2):
             with NodeStore(nodes.names) as store:
                 self.assertEqual(1, store.do(ADD, name="order-17"))
+                with self.assertRaises(RefusedError) as raised:
+                    store.do("(LIST 1)", name="order-17")
+                self.assertEqual((55, "OTHER-TEXT"), (raised.exception.number, raised.exception.name))
         self.assertEqual(1, nodes.value)
 
     def test_a_node_that_says_nothing(self) -> None:

@@ -7,10 +7,10 @@ import collections
 import logging
 import time
 from collections.abc import Callable, Sequence
-from typing import NamedTuple, Union
+from typing import NamedTuple
 
 from .frames import NO_ROOM
-from .log import BusyError, FullError
+from .log import BusyError, FullError, Placed, Refused
 from .node import Node
 
 logger = logging.getLogger(__name__)
@@ -22,25 +22,17 @@ PAUSE = 1.0
 """Seconds after which entries are put again that the log did not take for now."""
 
 
-class Refused(NamedTuple):
-    """A form is no entry and will be none, and this is its answer."""
-
-    answer: bytes
-
-
-Placed = Union[int, Refused, None]
-"""The number of an entry; or why it is none; or None, where it waited for so long that one of its name may be deleted
-already."""
-
-
 class Unplaced(NamedTuple):
-    """A request that is no entry yet, who sent it, and how far its node had come when it came."""
+    """A request that is no entry yet, who sent it, and how far its node had come when it came.
+
+    Taken is None where it waited for so long that an entry of its name may be deleted already.
+    """
 
     sender: object
     name: bytes
     text: bytes
     position: int
-    take: Callable[[Placed], None]
+    take: Callable[[Placed | None], None]
 
 
 class Appender:
@@ -57,9 +49,8 @@ class Appender:
         self._first = 0
         """The position of the store as it was opened, before any of them came."""
 
-    def append(self, sender: object, name: bytes, text: bytes, take: Callable[[Placed], None]) -> None:
-        """Puts an entry into the log, once, however often it is tried, and after those of earlier calls of this
-        sender."""
+    def append(self, sender: object, name: bytes, text: bytes, take: Callable[[Placed | None], None]) -> None:
+        """Puts an entry into the log, once, however often it is tried, and after those of earlier calls of this sender."""
         self._waiting.append(Unplaced(sender, name, text, self._node.position, take))
         self._wake()
 
@@ -119,7 +110,7 @@ class Appender:
                 await asyncio.sleep(PAUSE)
             except FullError as error:
                 self._tell_full(error)
-                return [error.numbers.get(one.name, Refused(NO_ROOM)) for one in some]
+                return [error.placed.get(one.name, Refused(NO_ROOM)) for one in some]
 
     def _tell_full(self, error: FullError) -> None:
         now = time.monotonic()

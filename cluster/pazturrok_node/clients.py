@@ -8,9 +8,10 @@ import logging
 import socket
 import uuid
 
-from .appender import Appender, Placed, Refused
+from .appender import Appender
 from .etcd import EtcdError, PutBackError
 from .frames import LIMIT, REQUEST, Frames, NoFrameError, Request, answer, answer_at, request_of
+from .log import Placed, Refused
 from .node import Node, Told
 
 logger = logging.getLogger(__name__)
@@ -182,7 +183,7 @@ class Client(asyncio.Protocol):
         else:
             self._begin_first()
 
-    def _take_place(self, slot: Slot, placed: Placed) -> None:
+    def _take_place(self, slot: Slot, placed: Placed | None) -> None:
         """A form has come into the log, or will not."""
         self._unplaced -= len(slot.request.text)
         if placed is None:

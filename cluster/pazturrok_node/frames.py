@@ -27,6 +27,9 @@ SKIPPED = b"! 53 SKIPPED"
 NO_ROOM = b"! 54 NO-ROOM"
 """The answer to a form for which the log has no room: nothing of it was carried out, and its name is free."""
 
+OTHER_TEXT = b"! 55 OTHER-TEXT"
+"""The answer to a form whose name the log has with another text: nothing of it was carried out."""
+
 NO_MEMORY = b"! 90 NO-MEMORY"
 """The answer to a question beside which the store has ended twice: it is not asked again."""
 

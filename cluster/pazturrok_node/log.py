@@ -29,12 +29,22 @@ class RefusedStoreError(Exception):
     """The store is none of the log as it stands; nothing was carried out."""
 
 
+class Refused(NamedTuple):
+    """A form is no entry and will be none, and this is its answer."""
+
+    answer: bytes
+
+
+Placed = Union[int, Refused]
+"""The number of an entry; or why a form is none, as where its name is that of an entry with another text."""
+
+
 class FullError(Exception):
     """The log has no room for entries, and took none of them but those that it has already."""
 
-    def __init__(self, reason: str, numbers: dict[bytes, int] | None = None) -> None:
+    def __init__(self, reason: str, placed: dict[bytes, Placed] | None = None) -> None:
         super().__init__(reason)
-        self.numbers = numbers or {}
+        self.placed = placed or {}
         """Of the names that it has."""
 
 
@@ -82,8 +92,9 @@ class Log(abc.ABC):
         return None
 
     @abc.abstractmethod
-    async def append(self, entries: Sequence[tuple[bytes, bytes]], floor: int) -> list[int] | None:
-        """Puts entries under their names, each unless it is there, in this order: the number of each. All names differ.
+    async def append(self, entries: Sequence[tuple[bytes, bytes]], floor: int) -> list[Placed] | None:
+        """Puts entries under their names, each unless one is there, in this order: the number of each, or Refused where the one that is
+        there has another text. All names differ.
 
         None, and nothing is put, where entries after the number `floor` are deleted: one of them may have had such a
         name. FullError and
