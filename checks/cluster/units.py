@@ -3,15 +3,20 @@ import asyncio
 import errno
 import logging
 import os
+import pathlib
 import socket
 import sys
 import tempfile
+import threading
 import unittest
 from unittest import mock
+
+FULL = OSError(errno.ENOSPC, "No space left on device")
 
 sys.path.insert(0, os.path.join(os.path.dirname(os.path.abspath(__file__)), "..", "..", "cluster"))
 
 from pazturrok_node import journal as journals  # noqa: E402
+from pazturrok_node.alone import AloneKeeper  # noqa: E402
 from pazturrok_node.answers import Answers  # noqa: E402
 from pazturrok_node.appender import Appender  # noqa: E402
 from pazturrok_node.frames import ANSWER, LIMIT, LOST, NO_ROOM, OTHER_TEXT, REQUEST, Frames, NoFrameError, request_of  # noqa: E402
@@ -199,7 +204,7 @@ class JournalTest(unittest.IsolatedAsyncioTestCase):
                 await one.append([(b"c", b"3"), (b"a", b"1")], 0)
             self.assertEqual(raised.exception.placed, {b"a": 1})
             self.assertEqual(await one.append([(b"b", b"2")], 0), [2])
-        with mock.patch.object(journals.os, "write", side_effect=OSError(errno.ENOSPC, "No space left on device")), self.assertRaises(FullError):
+        with mock.patch.object(journals.os, "write", side_effect=FULL), self.assertRaises(FullError):
             await one.append([(b"c", b"3")], 0)
         one._looked = -1.0
         with mock.patch.object(journals.os, "statvfs", return_value=mock.Mock(f_bavail=1, f_frsize=1)), self.assertRaises(FullError):
@@ -207,6 +212,81 @@ class JournalTest(unittest.IsolatedAsyncioTestCase):
         one._looked = -1.0
         self.assertEqual(await one.append([(b"c", b"3")], 0), [3])
         self.assertEqual(await self.given(one, 0), [(1, b"a", b"1"), (2, b"b", b"2"), (3, b"c", b"3")])
+
+    async def test_no_room_for_a_segment(self):
+        """That no file can be made, or its first line not be written, is no room; the journal goes on when there is some."""
+        one = self.begun()
+        await one.append([(b"a", b"1")], 0)
+        for call in ("open", "write"):
+            with mock.patch.object(journals, "SEGMENT", 0), mock.patch.object(journals.os, call, side_effect=FULL):
+                with self.assertRaises(FullError):
+                    await one.append([(b"b", b"2")], 0)
+            self.assertEqual(len(self.segments()), 1)
+        with mock.patch.object(journals, "SEGMENT", 0):
+            self.assertEqual(await one.append([(b"b", b"2")], 0), [2])
+        self.assertEqual(len(self.segments()), 2)
+        one.close()
+        self.assertEqual(await self.given(self.begun(), 0), [(1, b"a", b"1"), (2, b"b", b"2")])
+
+    async def test_no_room_for_a_skip(self):
+        """The store ends there again, and then it is tried again."""
+        one = self.begun()
+        await one.append([(b"a", b"1")], 0)
+        keeper = AloneKeeper(one)
+        with mock.patch.object(journals.os, "write", side_effect=FULL):
+            await keeper.ended_at(1, b"! 90 NO-MEMORY")
+        self.assertEqual(await one.skipped(), {})
+        await keeper.ended_at(1, b"! 90 NO-MEMORY")
+        self.assertEqual(await one.skipped(), {1: b"! 90 NO-MEMORY"})
+
+    async def test_cancelled(self):
+        """Whoever waits for an entry may go: what is written is an entry, and no other one has its number."""
+        one, synced, goes_on = self.begun(), asyncio.Event(), threading.Event()
+        loop = asyncio.get_running_loop()
+
+        def sync(_):
+            loop.call_soon_threadsafe(synced.set)
+            goes_on.wait(10)
+
+        one._took = 1.0
+        with mock.patch.object(journals.os, "fdatasync", side_effect=sync):
+            for number, call in ((1, one.append([(b"a", b"1")], 0)), (2, one.append([(b"b", b"2")], 0)), (3, one.skip(1, b"! 90 NO-MEMORY"))):
+                task = asyncio.ensure_future(call)
+                await synced.wait()
+                task.cancel()
+                self.assertEqual(await asyncio.gather(task, return_exceptions=True), [mock.ANY], number)
+                self.assertTrue(task.cancelled())
+                synced.clear()
+                goes_on.set()
+                async with one._writing:
+                    goes_on.clear()
+        self.assertEqual((await one.skipped(), one.size), ({1: b"! 90 NO-MEMORY"}, os.path.getsize(self.segments()[0])))
+        self.assertEqual(await one.append([(b"c", b"3"), (b"a", b"1"), (b"b", b"2")], 0), [3, 1, 2])
+        one.close()
+        two = self.begun()
+        self.assertEqual(await self.given(two, 0), [(1, b"a", b"1"), (2, b"b", b"2"), (3, b"c", b"3")])
+        self.assertEqual(await two.skipped(), {1: b"! 90 NO-MEMORY"})
+
+    async def test_name_of_a_younger_entry(self):
+        """A segment that came back by a crash has a name that is another entry's since: that one keeps it."""
+        one = self.begun(keep=0.0)
+        for number in (1, 2, 3):
+            await one.append([(b"%d" % number, b"x")], 0)
+        kept = {path: pathlib.Path(path).read_bytes() for path in self.segments()}
+        calls = []
+        with mock.patch.object(journals, "sync_folder", side_effect=lambda path: calls.append((path, len(self.segments())))):
+            await one.trim(2)
+        self.assertEqual(calls, [(os.path.join(self.room, "journal"), 1)], "what was taken away is not taken away for good")
+        self.assertEqual(await one.append([(b"1", b"y"), (b"2", b"y")], 0), [4, 5])
+        one.close()
+        for path, data in kept.items():
+            pathlib.Path(path).write_bytes(data)
+        two = self.begun(5, keep=0.0)
+        self.assertEqual(await two.append([(b"4", b"x")], 0), [6])
+        await two.trim(3)
+        self.assertEqual(await two.append([(b"1", b"y"), (b"2", b"y"), (b"3", b"x")], 0), [4, 5, 7])
+        await two.trim(1000)
+        self.assertEqual(two.names, 1)
 
     async def test_lock(self):
         self.begun()

@@ -6,7 +6,7 @@ import asyncio
 import logging
 
 from .journal import Journal
-from .log import Entry, Keeper
+from .log import Entry, FullError, Keeper
 from .marks import Marker
 from .node import Node
 
@@ -35,10 +35,15 @@ class AloneKeeper(Keeper):
         """Nothing: it is this node itself that skips."""
 
     async def ended_at(self, number: int, refusal: bytes) -> None:
-        if refusal.startswith(PASSED):
-            told = refusal.decode("ascii", "replace")
-            logger.warning("the form with the number %d is answered with %s, and is not tried again", number, told)
+        if not refusal.startswith(PASSED):
+            return
+        told = refusal.decode("ascii", "replace")
+        try:
             await self._journal.skip(number, refusal)
+        except FullError as error:
+            logger.error("%s: the form with the number %d is tried once more before it is answered with %s", error, number, told)
+        else:
+            logger.warning("the form with the number %d is answered with %s, and is not tried again", number, told)
 
     def will_skip(self, number: int) -> None:
         """Nothing: the journal has it."""
