@@ -46,9 +46,10 @@ def commands(code):
 
 
 def row_of_script():
-    """The row of the one option that the script carries out, and not the program."""
-    does = re.search('WAIT_DOES="([^"]*)"', read(SCRIPT))[1]
-    return f"| `--wait SECONDS` | {does}. `./pazturrok` does it, before it starts the program |"
+    """The rows of the options that the script carries out, and not the program."""
+    of_name = dict(re.findall('^([A-Z]+)_DOES="([^"]*)"', read(SCRIPT), re.M))
+    rows_of_it = (("--operators", of_name["OPERATORS"]), ("--wait SECONDS", of_name["WAIT"]))
+    return "\n".join(f"| `{option}` | {does}. `./pazturrok` does it, before it starts the program |" for option, does in rows_of_it)
 
 
 def rows(usage, known):

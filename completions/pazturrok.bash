@@ -11,10 +11,10 @@ _pazturrok() {
         install) words=--all ;;
         release) kind=-f ;;
         run)
-            words='--existing --rescue --strict --group --snapshot-every --snapshot-ratio --quiet --help --wait --messages'
+            words='--existing --rescue --strict --group --snapshot-every --snapshot-ratio --quiet --help --operators --wait --messages'
             case " ${COMP_WORDS[*]} " in
-                *' --messages '*) words='--existing --messages --snapshot-every --help --wait' ;;
-                *' --rescue '* | *' --strict '* | *' --group '* | *' --snapshot-ratio '* | *' --quiet '*) words='--existing --rescue --strict --group --snapshot-every --snapshot-ratio --quiet --help --wait' ;;
+                *' --messages '*) words='--existing --messages --snapshot-every --help --operators --wait' ;;
+                *' --rescue '* | *' --strict '* | *' --group '* | *' --snapshot-ratio '* | *' --quiet '*) words='--existing --rescue --strict --group --snapshot-every --snapshot-ratio --quiet --help --operators --wait' ;;
             esac
             ;;
         snapshot) words='--existing --help' ;;

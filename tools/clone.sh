@@ -202,7 +202,7 @@ help_of_command() {
     text_of PROGRAM_HELP | sed -n "s/^  $1  *//p"
     printf '\nUsage: %s\n\n' "$(text_of "${name}_USAGE")"
     text_of "${name}_HELP"
-    [ "$1" != run ] || printf '\n%s\n' "$WAIT_HELP"
+    [ "$1" != run ] || printf '\n%s\n' "$OWN_HELP"
 }
 
 # Answers words that ask for help or the version from the texts of the sources, and ends.
@@ -237,7 +237,7 @@ words_of_run() {
 # Refuses what `run` would refuse, before anything is compiled for it, and sets `folder` and which word it is. Numbers are left to the program.
 look_at_words() {
     shift
-    known=" $(words_of_run "$@") [--wait SECONDS] " folder='' is_value='' count=0
+    known=" $(words_of_run "$@") [--operators] [--wait SECONDS] " folder='' is_value='' count=0
     for word in "$@"; do
         count=$((count + 1))
         case $is_value$word in

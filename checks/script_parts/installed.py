@@ -27,11 +27,12 @@ def check_proved(script, room):
         is_refused("words", script, *words, says="takes")
     prefix = os.path.join(room, "prefix")
     done = called(script, "install", prefix)
-    check("install", (done[0], done[1].count(prefix.encode()), done[2]), (0, 7, b""))
+    check("install", (done[0], done[1].count(prefix.encode()), done[2]), (0, 8, b""))
     moved = os.path.join(room, "moved")
     os.rename(prefix, moved)
     there = os.path.join(moved, "bin", "pazturrok")
     check("what is installed runs", called(there, "run", os.path.join(room, "store"), stdin=b"(LIST 1)"), (0, b"(1)\n", b""))
+    check("what is installed has the functions", called(there, "run", os.path.join(room, "of functions"), "--operators", stdin=b"(EQL 1 1)"), (0, b"T\n", b""))
     is_refused("installed", there, "run", os.path.join(room, "store"), says="write a number", PAZTURROK_MEMORY="abc")
     for word in ("compile", "build", "install", "release"):
         is_refused("installed", there, word, room, says="is installed")

@@ -98,6 +98,26 @@ def on_another_device(script: str, room: str) -> None:
     running.communicate()
 
 
+def with_operators(script: str, room: str) -> None:
+    """The functions are known to a new store and to an old one, under any package and readtable, and a second time nothing is told."""
+    store, none = os.path.join(room, "functions"), os.path.join(room, "no functions")
+    form = b"(IF (< 1 2) 1 0)"
+    check("a store without them", called(script, "run", store, stdin=b"(MAKE-PACKAGE \"P\") (IN-PACKAGE P) (< 1 2)")[:2], (0, b'"P"\n"P"\n! 31 UNKNOWN-OPERATOR\n'))
+    for words in (["--operators"], ["--operators", "--wait", PATIENCE], ["--wait=9", "--rescue", "--operators"]):
+        check(f"they are known: {words}", called(script, "run", store, *words, stdin=b"(COMMON-LISP:IN-PACKAGE COMMON-LISP-USER)" + form), (0, b'"COMMON-LISP-USER"\n1\n', b""))
+    check("a new store", called(script, "run", none + "1", "--wait", PATIENCE, "--operators", stdin=form), (0, b"1\n", b""))
+    check("no store", (called(script, "run", none, "--existing", "--operators"), os.path.exists(none)), (called(script, "run", none, "--existing"), False))
+    check("wrong words", (called(script, "run", none, "--operators", "--bogus")[0], os.path.exists(none)), (2, False))
+    called(script, "run", none, stdin=b"'EQL")
+    status, out, err = called(script, "run", none, "--operators", stdin=b"(PAZTURROK:EQL 2 2)")
+    check("a symbol of such a name", (status, out, err.count(b"\n"), b"is there already (37 NAME-CONFLICT)" in err), (0, b"T\n", 1, True))
+    running = begun(script, none, "--operators")
+    answered(running, b"(LIST 1)")
+    status, out, err = called(script, "run", none, "--operators")
+    check("another has it", (status, out, err.count(b"is served by"), err.count(b"! 60 DEVICE")), (3, b"", 1, 1))
+    running.communicate()
+
+
 def check_all(script: str, room: str) -> None:
     """Checks all of it in a room."""
     store = os.path.join(room, "turns")
@@ -106,6 +126,7 @@ def check_all(script: str, room: str) -> None:
     taken(script, store)
     on_another_device(script, room)
     beside_a_new_store(script, room)
+    with_operators(script, room)
     for text in ("", "x", "1x", "-1", "1.5", "9999999999"):
         is_refused("seconds", script, "run", store, "--wait", text, says="a number of seconds")
     is_refused("seconds", script, "run", store, "--wait", says="a number of seconds")
