@@ -19,7 +19,7 @@ TAKES = {
     "MIN": "II*", "MAX": "II*", "+": "I*", "-": "II*", "*": "I*", "FLOOR": "II", "MOD": "II", "STRING=": "DD",
     "STRING<": "DD", "SYMBOL-NAME": "D", "CONS": "OO", "CAR": "L", "CDR": "L", "NTH": "NL", "MEMBER": "OL",
     "ASSOC": "OP", "ADJOIN": "OL", "LENGTH": "S", "REVERSE": "S", "REMOVE": "OS", "SVREF": "VN", "APPEND": "L*",
-    "VECTOR": "O*", "AND": "O*", "OR": "O*", "WHEN": "OO", "UNLESS": "OO", "IF": "OOO", "PROG1": "OO", "LIST": "O*",
+    "VECTOR": "O*", "IF": "OOO", "LIST": "O*",
 }
 # What gives an argument of a kind, often enough for calls within calls to meet.
 GIVES = {
