@@ -100,7 +100,8 @@ stop_build() {
 # Runs what proves, in a folder of its own, and ends it with this one.
 prove_in_room() {
     cd "$room" || exit 2
-    TMPDIR=$room/tmp
+    # beside the room: rt takes each file in it for a part of the repository
+    TMPDIR=$room.tmp
     export TMPDIR
     trap 'kill "$running" 2>/dev/null; wait "$running"; exit 143' TERM
     if has_schedule; then
@@ -124,7 +125,7 @@ start_proof() {
     if is_kept; then
         # shellcheck disable=SC2086 # a name each
         copy_crates $names
-        mkdir "$room/tmp"
+        mkdir "$room.tmp"
         # rt runs what it built as nobody.
         chmod 711 "$room"
         made=$room/crates/store_program/out/store_program

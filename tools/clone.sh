@@ -18,17 +18,17 @@ OTHER_SOURCES="the program was built from other sources than those of this clone
 
 # ---- rooms, and turns
 
-# Makes a folder that goes when the script ends, however it ends, and sets `room`.
+# Makes a folder that goes when the script ends, however it ends, with what is beside it under its name, and sets `room`.
 make_room() {
     room=$(mktemp -d "${TMPDIR:-/tmp}/pazturrok-XXXXXX") || refuse "no folder can be made in ${TMPDIR:-/tmp}"
-    trap 'rm -rf "$room" || true' EXIT
+    trap 'rm -rf "$room" "$room.tmp" || true' EXIT
     trap 'exit 129' HUP
     trap 'exit 130' INT
     trap 'exit 143' TERM
 }
 
 leave_room() {
-    rm -rf "$room"
+    rm -rf "$room" "$room.tmp"
     trap - EXIT HUP INT TERM
 }
 
