@@ -37,6 +37,14 @@ class Calls(StoreTest):
         self.assertEqual([(Symbol("PRICE"), 7), (keyword("OTHER"), (1, "two"))], store.plist("APPLE"))
         with self.assertRaises(StoreError):
             store.put("APPLE", Symbol("X", "NO-PACKAGE"), 1)
+        with self.assertRaises(StoreError):
+            store.compare_and_set("APPLE", "PRICE", 7, 8)
+        store._put_form([Symbol("MAKE-PACKAGE"), "PAZTURROK"])
+        self.assertTrue(store.compare_and_set("APPLE", "PRICE", 7, 8))
+        self.assertFalse(store.compare_and_set("APPLE", "PRICE", 7, 9))
+        self.assertTrue(store.compare_and_set("APPLE", "WEIGHT", [], [1, "two"]))
+        self.assertTrue(store.compare_and_set("APPLE", "WEIGHT", [1, "two"], 8))
+        self.assertEqual((8, 8), (store.get("APPLE", "PRICE"), store.get("APPLE", "WEIGHT")))
 
     def test_pipe(self) -> None:
         self.has_calls(self.store())

@@ -22,6 +22,13 @@
   (put-form store `(setf (get ',symbol ',indicator) ',value))
   value)
 
+(defun compare-and-set (store symbol indicator old new)
+  "Sets the property of a symbol in STORE where it is EQUAL to OLD, and tells whether it did; NIL stands for none. The store has to know
+EQUAL by its plain name, as `run DIR --operators` makes it known."
+  (put-form store `(if (equal (get ',symbol ',indicator) ',old)
+                       (progn (setf (get ',symbol ',indicator) ',new) t)
+                       nil)))
+
 (defun properties (store symbol)
   "The property list of a symbol in STORE: indicators and properties in turn."
   (look-form store `(symbol-plist ',symbol)))

@@ -12,6 +12,7 @@ Name = Union[Symbol, str]
 """A symbol, or the name of one in COMMON-LISP-USER, as it is printed."""
 
 GET, SETF, SYMBOL_PLIST = Symbol("GET"), Symbol("SETF"), Symbol("SYMBOL-PLIST")
+IF, PROGN, T, EQUAL = Symbol("IF"), Symbol("PROGN"), Symbol("T"), Symbol("EQUAL", "PAZTURROK")
 
 
 class Properties:
@@ -32,6 +33,13 @@ class Properties:
     def put(self, name: Name, indicator: Name, value: Value) -> Value:
         """Sets the property of a symbol, and gives the value back, as the store has it."""
         return self._put_form([SETF, [GET, *both(name, indicator)], quote(value)])
+
+    def compare_and_set(self, name: Name, indicator: Name, old: Value, new: Value) -> bool:
+        """Sets the property of a symbol where it is EQUAL to the old value, and tells whether it did; NIL stands for none.
+        The store has to have the package PAZTURROK, as `run DIR --operators` makes it."""
+        place: list[Value] = [GET, *both(name, indicator)]
+        form: list[Value] = [IF, [EQUAL, place, quote(old)], [PROGN, [SETF, place, quote(new)], T], NIL]
+        return self._put_form(form) not in (NIL, [])
 
     def plist(self, name: Name) -> list[tuple[Value, Value]]:
         """The indicators of a symbol, each with its property."""
