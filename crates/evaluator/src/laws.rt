@@ -32,10 +32,10 @@ pub fn values_leave_covered_readtables()
         → AreCovered names s.readtables → AreCovered names d.state.readtables }
 {}
 
-/// A form has no value under a number of evaluation alone, 30 to 46. For proofs: it does nothing.
+/// A form has no value under a number of evaluation alone, 30 to 47. For proofs: it does nothing.
 pub fn values_are_refused_by_evaluation()
     ensures { (names : List Name) (s : WorldState) (x : Object) (code : ℕ)
-        → value names s x ≡ Err code → (30 ≤ code) × (code ≤ 46) }
+        → value names s x ≡ Err code → (30 ≤ code) × (code ≤ 47) }
 {}
 
 /// What a form gives with the operators of one table, it gives with those of another that has the same ones and more. So where

@@ -107,7 +107,7 @@ accept_numbered names s x =
     numbered_after_symbols names s (with_symbols s.packages (symbols x)) x
     (one_numbered after_symbol (λ u (y : Symbol). intern_changes u y.0 y.1) symbol_numbered s.packages false (symbols x))
 
-pub accepted_numbered : (names : List Name) (s : WorldState) (x : Object) (code : ℕ) → accept names s x ≡ Err code → (30 ≤ code) × (code ≤ 46)
+pub accepted_numbered : (names : List Name) (s : WorldState) (x : Object) (code : ℕ) → accept names s x ≡ Err code → (30 ≤ code) × (code ≤ 47)
 accepted_numbered names s x code is = (subst Numbered is (accept_numbered names s x)).number
 
 -- ---- questions

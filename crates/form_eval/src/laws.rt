@@ -31,10 +31,10 @@ pub fn accepted_readtables_are_covered()
         → AreCovered names s.readtables → AreCovered names d.state.readtables }
 {}
 
-/// A form is refused under a number of evaluation alone, 30 to 46. For proofs: it does nothing.
+/// A form is refused under a number of evaluation alone, 30 to 47. For proofs: it does nothing.
 pub fn refusals_are_of_evaluation()
     ensures { (names : List Name) (s : WorldState) (x : Object) (code : ℕ)
-        → accept names s x ≡ Err code → (30 ≤ code) × (code ≤ 46) }
+        → accept names s x ≡ Err code → (30 ≤ code) × (code ≤ 47) }
 {}
 
 /// A form that is accepted where `*READ-BASE*` is no variable is accepted where it is one, with the same value and the same

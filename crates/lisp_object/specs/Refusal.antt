@@ -12,7 +12,7 @@ name_among (row ∷ rows) number = if row.0 == number then row.1 else name_among
 abbrev pub rows_of : List (ℕ × Bor (List ℕ)) → List (ℕ × List ℕ)
 rows_of = map (λ row. (row.0, row.1.now))
 
--- of reading (1 to 26), of evaluation (30 to 46), of the store and its program (60 to 68, and 90)
+-- of reading (1 to 26), of evaluation (30 to 47), of the store and its program (60 to 68, and 90)
 abbrev pub names : List (ℕ × List ℕ)
 names =
     (1, codes "END-OF-FILE") ∷
@@ -58,6 +58,7 @@ names =
     (44, codes "INTEGER-RANGE") ∷
     (45, codes "VALUE-TOO-DEEP") ∷
     (46, codes "LIMIT") ∷
+    (47, codes "ASSERTION-FAILED") ∷
     (60, codes "DEVICE") ∷
     (61, codes "REOPEN") ∷
     (62, codes "DAMAGED") ∷

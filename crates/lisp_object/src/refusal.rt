@@ -85,7 +85,7 @@ pub const OUT_OF_PROFILE: u16 = 25;
 /// More text after the form.
 pub const TEXT_LEFT_OVER: u16 = 26;
 
-// Evaluation: 30 to 46.
+// Evaluation: 30 to 47.
 
 /// An object that is no form.
 pub const NOT_A_FORM: u16 = 30;
@@ -138,6 +138,9 @@ pub const VALUE_TOO_DEEP: u16 = 45;
 /// A limit of the world or of a value's size.
 pub const LIMIT: u16 = 46;
 
+/// The test of an assertion has the value NIL.
+pub const ASSERTION_FAILED: u16 = 47;
+
 // The store: 60 to 68, and 90.
 
 /// The device failed.
@@ -171,7 +174,7 @@ pub const OUTPUT: u16 = 68;
 pub const NO_MEMORY: u16 = 90;
 
 // Each refusal by its number, with its name as it is in an answer, in the order of the numbers.
-pub(crate) const NAMES: [(u16, &str); 53] = [
+pub(crate) const NAMES: [(u16, &str); 54] = [
     (END_OF_FILE, "END-OF-FILE"),
     (INVALID_CHARACTER, "INVALID-CHARACTER"),
     (INVALID_TRAIT, "INVALID-TRAIT"),
@@ -215,6 +218,7 @@ pub(crate) const NAMES: [(u16, &str); 53] = [
     (INTEGER_RANGE, "INTEGER-RANGE"),
     (VALUE_TOO_DEEP, "VALUE-TOO-DEEP"),
     (LIMIT, "LIMIT"),
+    (ASSERTION_FAILED, "ASSERTION-FAILED"),
     (DEVICE, "DEVICE"),
     (REOPEN, "REOPEN"),
     (DAMAGED, "DAMAGED"),

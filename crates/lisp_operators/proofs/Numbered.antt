@@ -1,4 +1,4 @@
--- That an outcome which is refused has a number of evaluation: 30 to 46.
+-- That an outcome which is refused has a number of evaluation: 30 to 47.
 --     Numbered      what is said of an outcome
 --     numbered_also, numbered_then, numbered_kind, numbered_if, numbered_option      how outcomes are put together
 --     numbered_make .. numbered_use, numbered_case .. numbered_copy      the changes of packages and of readtables
@@ -25,7 +25,7 @@ use Rattle.lisp_operators.specs.Evaluation.{Evaluation, also, and_then, of_kind}
 
 -- a number of evaluation
 abbrev pub IsNumber : ℕ → Type 0
-IsNumber code = (30 ≤ code) × (code ≤ 46)
+IsNumber code = (30 ≤ code) × (code ≤ 47)
 
 abbrev pub NumberedWhere : {A : Type 0} → Evaluation A → Type 0
 NumberedWhere (Ok d) = Unit {0}

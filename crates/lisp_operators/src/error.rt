@@ -8,7 +8,7 @@ use std::alloc::{AllocError, AllocFailed};
 /// Why a form has no value.
 #[derive(Clone, Copy, Debug, PartialEq, Eq)]
 pub enum EvaluationError {
-    /// The form is refused, by this number of `lisp_object::refusal`, 30 to 46.
+    /// The form is refused, by this number of `lisp_object::refusal`, 30 to 47.
     Refused(u16),
     /// Memory ran out.
     OutOfMemory,

@@ -37,7 +37,7 @@ pub(crate) fn symbol(alloc: Global, home: &[u8], name: &[u8]) -> Result<Datum, A
 }
 
 /// T, the symbol for true (standard 5.3, `t`).
-pub(crate) fn truth(alloc: Global) -> Result<Datum, AllocError>
+pub fn truth(alloc: Global) -> Result<Datum, AllocError>
     ensures value { IfOk result (λ d. object_of d ≡ t) }
     ensures proper { IfOk result IsProper }
 {

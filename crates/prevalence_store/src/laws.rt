@@ -45,7 +45,7 @@ pub fn version_1_stays()
         → MeansWorld functions image world × (world.read_base ≡ 10) }
 {}
 
-/// A form is refused under a number of 1 to 46 alone: the numbers from 60 on are those of the store.
+/// A form is refused under a number of 1 to 47 alone: the numbers from 60 on are those of the store.
 pub fn form_numbers()
     ensures { (functions : Functions) (world : WorldState) (mode : Mode) (text : List ℕ)
         → (number : ℕ) → accepts functions world mode text ≡ Err number → IsFormNumber number }

@@ -25,7 +25,7 @@
 //!   files of both versions alike.
 //!
 //! Of every disk: each call returns; 60 comes exactly if the device's count of failures rose, and after it each call but
-//! `close`, `world`, `half`, `version`, `generation` and `record_count` answers 61; a refusal of 1 to 46, 64, 65 or 90 changes nothing.
+//! `close`, `world`, `half`, `version`, `generation` and `record_count` answers 61; a refusal of 1 to 47, 64, 65 or 90 changes nothing.
 //!
 //! - `Store::execute` answers what acceptance gives for a text in the world (`Executes`), each answer with its cause.
 //! - `Store::snapshot` starts the half that is not in use with the text of the world (`snapshot_text`), and changes neither

@@ -125,7 +125,7 @@ first_refusal functions world [] = None
 first_refusal functions world (entry ∷ entries) =
     elim (accepts functions world (mode_of entry.kind) entry.text) [ Ok given ↦ first_refusal functions given.world entries | Err number ↦ Some number ]
 
--- the numbers under which a form is refused, of reading and of evaluation: from 1 to 46
+-- the numbers under which a form is refused, of reading and of evaluation: from 1 to 47
 pub record IsFormNumber (number : ℕ) : Type 0 where
   pub from : END_OF_FILE ≤ number
   pub to : number ≤ LIMIT
