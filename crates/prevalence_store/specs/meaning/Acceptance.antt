@@ -15,7 +15,7 @@ use Rattle.form_eval.specs.Acceptance.{accept_by}
 use Rattle.session_words.specs.declared.mode.Mode.{Mode}
 use Rattle.session_words.specs.declared.mode.Mode.TheVariants.{Current, Rescue}
 use Rattle.user_macros.specs.Functions.{Functions}
-use Rattle.lisp_object.specs.declared.refusal.TheConstants.{LIMIT}
+use Rattle.lisp_object.specs.declared.refusal.TheConstants.{ASSERTION_FAILED}
 use Rattle.std.specs.Prelude.{◌≤◌}
 pub use Rattle.session_words.specs.Kinds.{kind_of, mode_of}
 
@@ -128,4 +128,4 @@ first_refusal functions world (entry ∷ entries) =
 -- the numbers under which a form is refused, of reading and of evaluation: from 1 to 47
 pub record IsFormNumber (number : ℕ) : Type 0 where
   pub from : END_OF_FILE ≤ number
-  pub to : number ≤ LIMIT
+  pub to : number ≤ ASSERTION_FAILED
