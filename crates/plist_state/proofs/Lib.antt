@@ -15,6 +15,7 @@ pub mod Listed
 pub mod InState
 pub mod Notes
 pub mod Restored
+pub mod Unnoted
 pub mod Marking
 pub mod Left
 pub mod Viewed

@@ -12,6 +12,7 @@ pub mod Indexed
 pub mod Undoing
 pub mod Kept
 pub mod Journal
+pub mod Overwritten
 pub mod Sizes
 pub mod Marked
 pub mod Viewed

@@ -23,7 +23,7 @@
 //! - `readers`: the lists that it gives
 //! - `properties`, `packages`, `readtables`, `base`: the calls that write
 //! - `marks`: `mark`, `mark_count`, `back_to`, `settle`, over `journal` (notes under marks) and `undo` (notes undone)
-//! - `note`: what is noted of a change
+//! - `note`: what is noted of a change; `overwritten`: what need not be
 //! - `numbers`: the number of a symbol, as `rows` takes it
 //! - `symbol`, `property`, `property_list`: `Symbol`, `BorrowedSymbol`, `Property`, `PropertyList`
 //! - `error`: `ReadtableError`
@@ -59,6 +59,7 @@ mod journal;
 mod marks;
 mod note;
 mod numbers;
+mod overwritten;
 mod packages;
 mod properties;
 mod property;

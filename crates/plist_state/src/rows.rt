@@ -42,6 +42,16 @@ pub(crate) fn has_properties(rows: &BTreeMap<u32, Row>, number: u32) -> bool
     }
 }
 
+/// How many properties the symbol of a number has.
+pub(crate) fn count(rows: &BTreeMap<u32, Row>, number: u32) -> usize
+    ensures { result ≡ length (row_of (lists_of rows.now) number) }
+{
+    match rows.get(&number) {
+        Some(row) => row.len(),
+        None => 0,
+    }
+}
+
 /// The value beside an indicator in the property list of the symbol of a number.
 pub(crate) fn value<'a>(
     rows: &'a BTreeMap<u32, Row>,

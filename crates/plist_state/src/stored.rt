@@ -5,13 +5,16 @@ ghost use Rattle.lisp_object.specs.Datum.{object_of, is_proper};
 ghost use Rattle.plist_state.specs.Pushed.{holds_pair, with_pushed_in};
 ghost use Rattle.plist_state.specs.State.{first_readtables};
 ghost use Rattle.plist_state.specs.Lists.{value_in, with_value_in, without_value_in};
-ghost use Rattle.plist_state.specs.Shown.{first_numbered, rest_of, readtables_of};
+ghost use Rattle.plist_state.specs.Shown.{NumberedRest, first_numbered, rest_of, lists_of, readtables_of};
 ghost use Rattle.plist_state.specs.Indexed.{AreIndexed};
 ghost use Rattle.plist_state.specs.Kept.{IsProperRows, IsWider};
+ghost use Rattle.plist_state.specs.Undoing.{undone};
+ghost use Rattle.plist_state.specs.declared.note.Note.TheVariants.{Property};
 ghost use Rattle.plist_state.specs.Journal.{marks_of, Continues};
 
 use crate::journal::{push_note, reserve_note};
-use crate::note::Note;
+use crate::note::{Note, PropertyChange};
+use crate::overwritten::{Place, is_overwritten};
 use crate::row_index::Indexes;
 use crate::rows;
 use crate::tables::{STANDARD, USER};
@@ -67,7 +70,28 @@ pub(crate) fn first_stored(alloc: Global) -> Result<Stored, AllocError>
     })
 }
 
-/// Sets a property of the symbol of a number, and notes what it overwrote.
+// Whether a value that was set need not be noted: the one that it overwrote is overwritten as earlier changes are undone.
+fn needs_no_note(
+    rows: &BTreeMap<u32, Row>,
+    marks: &[Vec<Note>],
+    number: u32,
+    change: &PropertyChange,
+) -> bool
+    ensures { result ≡ true → (t u : NumberedRest) → u.properties ≡ lists_of rows.now
+        → undone (Property number change.now) u ≡ t → Continues (marks_of marks.now) t (marks_of marks.now) u }
+{
+    let PropertyChange::Set { index, value } = change else {
+        return false;
+    };
+    let length = rows::count(rows, number);
+    let place = Place {
+        index: *index,
+        length,
+    };
+    is_overwritten(marks, number, place, value)
+}
+
+/// Sets a property of the symbol of a number, and notes what it overwrote, but where that need not be kept.
 pub(crate) fn put(
     alloc: Global,
     stored: &mut Stored,
@@ -100,6 +124,9 @@ pub(crate) fn put(
     ) else {
         return Err(AllocError);
     };
+    if needs_no_note(&stored.properties, marks.as_slice(), number, &change) {
+        return Ok(());
+    }
     push_note(marks, Note::Property { number, change });
     Ok(())
 }
