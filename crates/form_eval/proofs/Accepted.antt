@@ -2,6 +2,7 @@
 --     accepted_silent      one that does not write leaves the state as it was
 --     accepted_covers      it leaves no readtables which name other functions than those that may be named
 --     accepted_without_base      one that is accepted where *READ-BASE* is no variable is accepted where it is one
+--     accepted_with_more, accepted_as_before      one that is accepted with some operators is accepted with more
 --     accepted_numbered      it is refused under a number of evaluation
 --     accepted_as_asked      it gives what it gives as a question
 use Rattle.std.proofs.Common.{◌≡◌, ◌≤◌, ℕ, Bool, true, false, List, Ok, Err, Result, ap, refl, subst, sym, ◌∙◌}
@@ -21,13 +22,15 @@ use Rattle.lisp_operators.proofs.Keeping as keeping
 use Rattle.lisp_operators.proofs.Covering.{Covers, covering}
 use Rattle.lisp_operators.proofs.Numbered.{Numbered, IsPackagesNumbered, numbered_also, numbered_intern}
 use Rattle.lisp_operators.proofs.NumberedOperators.{one_numbered}
-use Rattle.evaluator.specs.Value.{value, value_by}
+use Rattle.evaluator.specs.Operators.{AreOperatorsAmong, OperatorTable, operator_of, standard_operator_of}
+use Rattle.evaluator.specs.Value.{value, value_by, value_over}
 use Rattle.evaluator.proofs.SilentForms.{value_silent}
 use Rattle.evaluator.proofs.KeepingForms.{value_keeps}
+use Rattle.evaluator.proofs.Widening.{standard_among, wider_operators}
 use Rattle.evaluator.proofs.WithoutBase.{value_without_base}
 use Rattle.evaluator.proofs.NumberedForms.{value_numbered}
 use Rattle.package_table.specs.Symbols.{symbols}
-use Rattle.form_eval.specs.Acceptance.{table_of, after_symbol, with_symbols, accepted_by, accept_by, accept, asked_with, asked}
+use Rattle.form_eval.specs.Acceptance.{table_of, after_symbol, with_symbols, accepted_over, accept_over, accepted_by, accept_by, accept, asked_with, asked}
 
 -- ---- one that does not write
 symbol_still : (t : Table) (x : Symbol) (u : Table) → after_symbol t x ≡ Ok u → intern_changes t x.0 x.1 ≡ false → u ≡ t
@@ -89,6 +92,24 @@ module _ (names : List Name) where
 
   pub accepted_without_base : (s : WorldState) (x : Object) (d : Done Object) → accept_by false names s x ≡ Ok d → (accept_by true names s x ≡ Ok d) × (d.state.read_base ≡ s.read_base)
   accepted_without_base s x d is = with_symbols_without_base s (with_symbols s.packages (symbols x)) x d is
+
+-- ---- more operators
+module _ (based : Bool) (fewer more : OperatorTable) (among : AreOperatorsAmong fewer more) where
+  also_too : (wrote : Bool) (o p : Evaluation Object) (d : Done Object) → ((e : Done Object) → o ≡ Ok e → p ≡ Ok e) → also wrote o ≡ Ok d → also wrote p ≡ Ok d
+  also_too wrote (Ok e) p d each is = ap (also wrote) (each e refl) ∙ is
+  also_too wrote (Err code) p d each is = absurd (let no : Err code ≡ Ok d = is in cc)
+
+  with_symbols_too : (s : WorldState) (r : Result (Table × Bool) PackageError) (x : Object) (d : Done Object) → accepted_over based fewer s r x ≡ Ok d → accepted_over based more s r x ≡ Ok d
+  with_symbols_too s (Ok p) x d is =
+      also_too p.1 (value_over based fewer (with_packages s p.0) x) (value_over based more (with_packages s p.0) x) d (wider_operators based fewer more among (with_packages s p.0) x) is
+  with_symbols_too s (Err e) x d is = absurd (let no : Err (number_of e) ≡ Ok d = is in cc)
+
+  pub accepted_with_more : (s : WorldState) (x : Object) (d : Done Object) → accept_over based fewer s x ≡ Ok d → accept_over based more s x ≡ Ok d
+  accepted_with_more s x d is = with_symbols_too s (with_symbols s.packages (symbols x)) x d is
+
+-- the operators of COMMON-LISP alone
+pub accepted_as_before : (based : Bool) (names : List Name) (s : WorldState) (x : Object) (d : Done Object) → accept_over based (standard_operator_of names) s x ≡ Ok d → accept_by based names s x ≡ Ok d
+accepted_as_before based names s x d is = accepted_with_more based (standard_operator_of names) (operator_of names) (standard_among names) s x d is
 
 -- ---- numbers
 symbol_numbered : (u : Table) (y : Symbol) → IsPackagesNumbered (after_symbol u y)

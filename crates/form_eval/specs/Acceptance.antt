@@ -14,7 +14,8 @@ use Rattle.lisp_operators.specs.declared.error.EvaluationError.{EvaluationError}
 use Rattle.lisp_operators.specs.declared.evaluated.Evaluated.{Evaluated}
 use Rattle.lisp_operators.specs.Evaluated.{Answers, done}
 use Rattle.lisp_operators.specs.Packages.{one_by_one}
-use Rattle.evaluator.specs.Value.{value, value_by}
+use Rattle.evaluator.specs.Operators.{OperatorTable, operator_of}
+use Rattle.evaluator.specs.Value.{value, value_over}
 
 abbrev pub table_of : Result (Name × Table) PackageError → Result Table PackageError
 table_of (Ok p) = Ok p.1
@@ -33,13 +34,20 @@ abbrev pub with_symbols : Table → List Symbol → Result (Table × Bool) Packa
 with_symbols packages xs = one_by_one after_symbol is_new packages false xs
 
 -- The value of a form, the state after it and whether it wrote; or the number of the refusal, and then nothing has changed. The
--- test in front is whether *READ-BASE* is a variable, as it is for `accept`.
+-- test in front is whether *READ-BASE* is a variable, as it is for `accept`. A table says which objects are operators.
+abbrev pub accepted_over : Bool → OperatorTable → WorldState → Result (Table × Bool) PackageError → Object → Evaluation Object
+accepted_over based table s (Ok p) x = also p.1 (value_over based table (with_packages s p.0) x)
+accepted_over based table s (Err e) x = Err (number_of e)
+
+abbrev pub accept_over : Bool → OperatorTable → WorldState → Object → Evaluation Object
+accept_over based table s x = accepted_over based table s (with_symbols s.packages (symbols x)) x
+
+-- by the operators there are, where these are the names of macro functions
 abbrev pub accepted_by : Bool → List Name → WorldState → Result (Table × Bool) PackageError → Object → Evaluation Object
-accepted_by based names s (Ok p) x = also p.1 (value_by based names (with_packages s p.0) x)
-accepted_by based names s (Err e) x = Err (number_of e)
+accepted_by based names = accepted_over based (operator_of names)
 
 abbrev pub accept_by : Bool → List Name → WorldState → Object → Evaluation Object
-accept_by based names s x = accepted_by based names s (with_symbols s.packages (symbols x)) x
+accept_by based names = accept_over based (operator_of names)
 
 abbrev pub accept : List Name → WorldState → Object → Evaluation Object
 accept = accept_by true

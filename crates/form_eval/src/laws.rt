@@ -5,7 +5,8 @@ ghost use Rattle.package_table.specs.Table.{Name};
 ghost use Rattle.plist_state.specs.State.{WorldState};
 ghost use Rattle.plist_state.specs.Sound.{IsSound};
 ghost use Rattle.lisp_operators.specs.Evaluation.{Done, also};
-ghost use Rattle.form_eval.specs.Acceptance.{accept, accept_by, asked};
+ghost use Rattle.evaluator.specs.Operators.{OperatorTable, AreOperatorsAmong, standard_operator_of};
+ghost use Rattle.form_eval.specs.Acceptance.{accept, accept_by, accept_over, asked};
 ghost use Rattle.lisp_operators.specs.Readtables.{AreCovered, AreFunctionNames};
 ghost use Rattle.form_eval.specs.Laws.{IsForm, IsSoundAfter};
 
@@ -43,6 +44,18 @@ pub fn without_a_base()
     ensures { (names : List Name) (s : WorldState) (x : Object) (d : Done Object)
         → accept_by false names s x ≡ Ok d
         → (accept_by true names s x ≡ Ok d) × (d.state.read_base ≡ s.read_base) }
+{}
+
+/// A form that is accepted with the operators of one table is accepted with those of another that has the same ones and more, with
+/// the same value and the same state. So where a symbol becomes an operator, each form that was accepted stays what it was. Both with
+/// and without the variable `*READ-BASE*`. For proofs: it does nothing.
+pub fn more_operators_change_no_form()
+    ensures tables { (based : Bool) (fewer more : OperatorTable) (s : WorldState) (x : Object)
+        → (d : Done Object) → AreOperatorsAmong fewer more
+        → accept_over based fewer s x ≡ Ok d → accept_over based more s x ≡ Ok d }
+    ensures standard { (based : Bool) (names : List Name) (s : WorldState) (x : Object)
+        → (d : Done Object) → accept_over based (standard_operator_of names) s x ≡ Ok d
+        → accept_by based names s x ≡ Ok d }
 {}
 
 /// What a form gives as a question it gives when it is accepted, and the same refusal; but that it is accepted counts as
