@@ -3,3 +3,4 @@ pub mod Acceptance
 pub mod Files
 pub mod Answers
 pub mod Version1
+pub mod BeforeOperators

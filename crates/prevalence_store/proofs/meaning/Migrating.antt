@@ -10,8 +10,9 @@ use Rattle.lisp_object.specs.declared.refusal.TheConstants.{TEXT_LEFT_OVER}
 use Rattle.lisp_operators.specs.Evaluation.{Evaluation}
 use Rattle.lisp_reading.specs.Reading.{Outcome as Reading, form, empty, refused}
 use Rattle.lisp_reading.proofs.Widening.{form_widens}
-use Rattle.form_eval.specs.Acceptance.{accept_by}
-use Rattle.form_eval.proofs.Accepted.{accepted_without_base}
+use Rattle.evaluator.specs.Operators.{standard_operator_of}
+use Rattle.form_eval.specs.Acceptance.{accept, accept_over}
+use Rattle.form_eval.proofs.Accepted.{accepted_as_before, accepted_without_base}
 use Rattle.plist_state.specs.State.{WorldState}
 use Rattle.world_text.specs.Snapshot.{snapshot_in}
 use Rattle.world_text.proofs.Versions.{text_with, third_by}
@@ -29,18 +30,18 @@ module _ (functions : Functions) where
     abbrev Stays : Result Acceptance ℕ → Acceptance → Type 0
     Stays now given = (now ≡ Ok given) × (given.world.read_base ≡ 10)
 
-    evaluated_stays : (own : List ℕ) (x : Object) (given : Acceptance) (was : Evaluation Object) → accept_by false functions.names w x ≡ was
-        → acceptance_of own was ≡ Ok given → Stays (acceptance_of own (accept_by true functions.names w x)) given
+    evaluated_stays : (own : List ℕ) (x : Object) (given : Acceptance) (was : Evaluation Object) → accept_over false (standard_operator_of functions.names) w x ≡ was
+        → acceptance_of own was ≡ Ok given → Stays (acceptance_of own (accept functions.names w x)) given
     evaluated_stays own x given (Ok d) is gives =
-        let same = accepted_without_base functions.names w x d is in
+        let same = accepted_without_base functions.names w x d (accepted_as_before false functions.names w x d is) in
         let world : d.state ≡ given.world = cc in
         (ap (acceptance_of own) same.0 ∙ gives, ap (λ (v : WorldState). v.read_base) (sym world) ∙ same.1 ∙ base)
     evaluated_stays own x given (Err number) is gives = absurd (cc)
 
     whole_stays : (text own : List ℕ) (x : Object) (given : Acceptance) (whole : Bool)
-        → ◌≡◌ {A = Result Acceptance ℕ} (if whole then acceptance_of own (accept_by false functions.names w x) else Err TEXT_LEFT_OVER) (Ok given)
-        → Stays (if whole then acceptance_of own (accept_by true functions.names w x) else Err TEXT_LEFT_OVER) given
-    whole_stays text own x given true gives = evaluated_stays own x given (accept_by false functions.names w x) refl gives
+        → ◌≡◌ {A = Result Acceptance ℕ} (if whole then acceptance_of own (accept_over false (standard_operator_of functions.names) w x) else Err TEXT_LEFT_OVER) (Ok given)
+        → Stays (if whole then acceptance_of own (accept functions.names w x) else Err TEXT_LEFT_OVER) given
+    whole_stays text own x given true gives = evaluated_stays own x given (accept_over false (standard_operator_of functions.names) w x) refl gives
     whole_stays text own x given false gives = absurd (cc)
 
     -- a form that was read is read the same, as the limit has grown

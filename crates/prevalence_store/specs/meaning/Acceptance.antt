@@ -11,7 +11,8 @@ use Rattle.lisp_reading.specs.declared.limits.Limits.{Limits}
 use Rattle.lisp_reading.specs.Setting.{Setting, setting_of}
 use Rattle.lisp_reading.specs.Reading.{Outcome as Reading, form, empty, refused, reads}
 use Rattle.lisp_operators.specs.Evaluation.{Evaluation}
-use Rattle.form_eval.specs.Acceptance.{accept_by}
+use Rattle.evaluator.specs.Operators.{OperatorTable, operator_of}
+use Rattle.form_eval.specs.Acceptance.{accept_over}
 use Rattle.session_words.specs.declared.mode.Mode.{Mode}
 use Rattle.session_words.specs.declared.mode.Mode.TheVariants.{Current, Rescue}
 use Rattle.user_macros.specs.Functions.{Functions}
@@ -26,16 +27,18 @@ pub record Acceptance : Type 0 where
   pub wrote : Bool
   pub text : List ℕ
 
--- What may differ between versions in how a form is read and evaluated.
+-- What may differ between programs, of one version or of two, in how a form is read and evaluated.
 pub record Rules : Type 0 where
   -- the most bytes of a form, or of one discarded call before it
   pub text_limit : ℕ
   -- *READ-BASE* has a value, and is a place of SETF
   pub based : Bool
+  -- which objects are operators, where these are the names of macro functions
+  pub operators : List Name → OperatorTable
 
--- the rules in force; `specs/meaning/Version1.antt` has those of version 1
+-- the rules in force; `specs/meaning/BeforeOperators.antt` and `specs/meaning/Version1.antt` have earlier ones
 abbrev pub rules_in_force : Rules
-rules_in_force = record { text_limit = form_limit; based = true }
+rules_in_force = record { text_limit = form_limit; based = true; operators = operator_of }
 
 -- the limits of a form, in bytes, characters and open calls
 abbrev pub limits_by : Rules → Limits
@@ -87,7 +90,7 @@ acceptance_of text (Err number) = Err number
 -- by what was read: a text without an object is refused, and one with more after it
 abbrev pub accepted_by : Rules → Functions → WorldState → List ℕ → Reading → Result Acceptance ℕ
 accepted_by by functions world text (form object start end next) =
-    if next == length text then acceptance_of (between start end text) (accept_by by.based functions.names world object)
+    if next == length text then acceptance_of (between start end text) (accept_over by.based (by.operators functions.names) world object)
     else Err TEXT_LEFT_OVER
 accepted_by by functions world text empty = Err END_OF_FILE
 accepted_by by functions world text (refused number at) = Err number

@@ -1,10 +1,11 @@
 -- What version 1 made of forms and files. This is the only place that has rules of version 1: forms had at most 65,536 bytes,
--- and *READ-BASE* was no value and no place, so that every world read in base 10.
+-- *READ-BASE* was no value and no place, so that every world read in base 10, and only symbols of COMMON-LISP were operators.
 use Rattle.std.specs.Prelude.{◌≡◌, ℕ, ◌≤◌, true, false, List, length, Option, None, Some, Result}
 use Rattle.std.specs.List.{AllByRecursion}
 use Rattle.disk_trait.specs.Disk.{Image}
 use Rattle.gate_log.specs.Layout.{Contents, LogRecord}
 use Rattle.gate_log.specs.Log as gated
+use Rattle.evaluator.specs.Operators.{standard_operator_of}
 use Rattle.plist_state.specs.State.{WorldState, initial}
 use Rattle.plist_state.specs.Sound.{IsSound}
 use Rattle.snapshot_text.specs.Covered.{are_covered}
@@ -14,7 +15,7 @@ use Rattle.session_words.specs.declared.mode.Mode.{Mode}
 use Rattle.prevalence_store.specs.meaning.Acceptance.{Acceptance, Rules, accepts_by, after_by}
 
 abbrev pub rules1 : Rules
-rules1 = record { text_limit = 65536; based = false }
+rules1 = record { text_limit = 65536; based = false; operators = standard_operator_of }
 
 -- what a text gave in a world
 abbrev pub accepts1 : Functions → WorldState → Mode → List ℕ → Result Acceptance ℕ
