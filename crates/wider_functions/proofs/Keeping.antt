@@ -1,9 +1,12 @@
--- What is accepted with some macro functions, and what files mean with them, is accepted and meant with more.
+-- What is accepted with some macro functions and operators, and what files mean with them, is accepted and meant with more.
+--     KnowsMore      what is asked of two programs: more_functions, more_rules and joined give it
 --     form_keeps      a form
 --     records_keep      records, one after the other
 --     files_keep      files
 --     some_keeps      files that mean the world after some of the forms that were taken
-use Rattle.std.proofs.Common.{◌≡◌, ℕ, ◌==◌, ◌||◌, Bool, true, false, List, [], ◌∷◌, length, take, Option, None, Some, Result, Ok, Err, refl, ap, ◌∙◌, inl, inr}
+--     newer      a program with more of both
+--     none_are_among, earlier_among      no functions among any; the rules before operators among those in force
+use Rattle.std.proofs.Common.{◌≡◌, ℕ, ◌==◌, ◌||◌, Bool, true, false, List, [], ◌∷◌, length, take, Option, None, Some, Result, Ok, Err, refl, ap, subst, ◌∙◌, inl, inr, arith}
 use Rattle.std.specs.Prelude.{if◌then◌else◌}
 use Rattle.std.specs.List.{list_all}
 use Rattle.std.proofs.lemmas.Bool.{or_cases, or_left, or_right}
@@ -18,66 +21,100 @@ use Rattle.user_macros.specs.Registry.{is_covered}
 use Rattle.user_macros.proofs.Covered.{weaker}
 use Rattle.plist_state.specs.State.{WorldState}
 use Rattle.plist_state.specs.Readers.{readtable_names}
-use Rattle.lisp_operators.specs.Evaluation.{Evaluation}
+use Rattle.lisp_operators.specs.Evaluation.{Done, Evaluation}
 use Rattle.lisp_reading.specs.Reading.{Outcome as Reading, form, empty, refused}
-use Rattle.form_eval.specs.Acceptance.{accept}
+use Rattle.lisp_reading.proofs.Widening.{form_widens}
+use Rattle.evaluator.proofs.Widening.{standard_among}
+use Rattle.form_eval.specs.Acceptance.{accept_over}
+use Rattle.form_eval.proofs.Accepted.{accepted_with_more}
 use Rattle.world_text.specs.Snapshot.{table_named}
 use Rattle.snapshot_text.specs.Covered.{are_covered}
 use Rattle.session_words.specs.declared.mode.Mode.{Mode}
-use Rattle.prevalence_store.specs.meaning.Acceptance.{Acceptance, acceptance_of, accepted_of, accepts, after, base_in, between, form_limits, mode_of, package_in, read_in, table_in}
-use Rattle.prevalence_store.specs.meaning.Files.{IsWorldOf, MeansWorld}
+use Rattle.prevalence_store.specs.meaning.Acceptance.{Acceptance, Rules, acceptance_of, accepted_by, accepts_by, after_by, base_in, between, form_limits, mode_of, package_in, read_by, rules_in_force, setting_by, table_in}
+use Rattle.prevalence_store.specs.meaning.BeforeOperators.{rules_before_operators}
+use Rattle.prevalence_store.specs.meaning.Files.{IsWorldBy, MeansWorldBy}
 use Rattle.prevalence_store.specs.Theorem.{MeansSome}
-use Rattle.prevalence_store.proofs.meaning.Replaying.{stepped}
-use Rattle.wider_functions.specs.Among.{AreAmong}
+use Rattle.prevalence_store.proofs.meaning.Replaying.{stepped_by}
+use Rattle.wider_functions.specs.Among.{AreAmong, AreRulesAmong}
 use Rattle.wider_functions.proofs.Reading.{reading_widens}
 use Rattle.wider_functions.proofs.Values.{accepting_widens}
 
-module _ (fewer more : Functions) (among : AreAmong fewer more) where
+-- what an object that was read gives as a transaction, by these rules and with these functions
+abbrev pub accepted_object : Rules → Functions → WorldState → Object → Evaluation Object
+accepted_object by functions w x = accept_over by.based (by.operators functions.names) w x
+
+-- What the first program reads, accepts and takes for known the second does too.
+pub record KnowsMore (was now : Rules) (fewer more : Functions) : Type 0 where
+  pub reads : (w : WorldState) (mode : Mode) (text : List ℕ) (x : Object) (start «end» next : ℕ) → read_by was fewer w mode text ≡ form x start «end» next
+      → read_by now more w mode text ≡ form x start «end» next
+  pub accepts : (w : WorldState) (x : Object) (d : Done Object) → accepted_object was fewer w x ≡ Ok d → accepted_object now more w x ≡ Ok d
+  pub covers : (w : WorldState) → are_covered fewer.names w ≡ true → are_covered more.names w ≡ true
+
+pub joined : (was between now : Rules) (few some many : Functions) → KnowsMore was between few some → KnowsMore between now some many → KnowsMore was now few many
+joined was between now few some many first second = record {
+  reads = λ w mode text x start «end» next is. second.reads w mode text x start «end» next (first.reads w mode text x start «end» next is);
+  accepts = λ w x d is. second.accepts w x d (first.accepts w x d is);
+  covers = λ w is. second.covers w (first.covers w is);
+}
+
+module _ (was now : Rules) (fewer more : Functions) (knows : KnowsMore was now fewer more) where
   -- ---- a form
 
   module _ (w : WorldState) where
-    evaluated_keeps : (own : List ℕ) (x : Object) (given : Acceptance) (was : Evaluation Object) → accept fewer.names w x ≡ was
-        → acceptance_of own was ≡ Ok given → acceptance_of own (accept more.names w x) ≡ Ok given
-    evaluated_keeps own x given (Ok d) is gives = ap (acceptance_of own) (accepting_widens fewer.names more.names among.names w x d is) ∙ gives
+    evaluated_keeps : (own : List ℕ) (x : Object) (given : Acceptance) (before : Evaluation Object) → accepted_object was fewer w x ≡ before
+        → acceptance_of own before ≡ Ok given → acceptance_of own (accepted_object now more w x) ≡ Ok given
+    evaluated_keeps own x given (Ok d) is gives = ap (acceptance_of own) (knows.accepts w x d is) ∙ gives
     evaluated_keeps own x given (Err number) is gives = absurd (cc)
 
     whole_keeps : (own : List ℕ) (x : Object) (given : Acceptance) (whole : Bool)
-        → ◌≡◌ {A = Result Acceptance ℕ} (if whole then acceptance_of own (accept fewer.names w x) else Err TEXT_LEFT_OVER) (Ok given)
-        → ◌≡◌ {A = Result Acceptance ℕ} (if whole then acceptance_of own (accept more.names w x) else Err TEXT_LEFT_OVER) (Ok given)
-    whole_keeps own x given true gives = evaluated_keeps own x given (accept fewer.names w x) refl gives
+        → ◌≡◌ {A = Result Acceptance ℕ} (if whole then acceptance_of own (accepted_object was fewer w x) else Err TEXT_LEFT_OVER) (Ok given)
+        → ◌≡◌ {A = Result Acceptance ℕ} (if whole then acceptance_of own (accepted_object now more w x) else Err TEXT_LEFT_OVER) (Ok given)
+    whole_keeps own x given true gives = evaluated_keeps own x given (accepted_object was fewer w x) refl gives
     whole_keeps own x given false gives = absurd (cc)
 
-    pub read_keeps : (mode : Mode) (text : List ℕ) (x : Object) (start «end» next : ℕ) → read_in fewer w mode text ≡ form x start «end» next
-        → read_in more w mode text ≡ form x start «end» next
-    read_keeps mode text x start «end» next is =
-        reading_widens form_limits (table_in w mode) (base_in w mode) w.packages (package_in w mode) fewer more among text x start «end» next is
-
-    by_reading : (mode : Mode) (text : List ℕ) (given : Acceptance) (was : Reading) → read_in fewer w mode text ≡ was
-        → accepted_of fewer w text was ≡ Ok given → accepts more w mode text ≡ Ok given
+    by_reading : (mode : Mode) (text : List ℕ) (given : Acceptance) (before : Reading) → read_by was fewer w mode text ≡ before
+        → accepted_by was fewer w text before ≡ Ok given → accepts_by now more w mode text ≡ Ok given
     by_reading mode text given (form x start «end» next) is gives =
-        ap (accepted_of more w text) (read_keeps mode text x start «end» next is) ∙ whole_keeps (between start «end» text) x given (next == length text) gives
+        ap (accepted_by now more w text) (knows.reads w mode text x start «end» next is)
+        ∙ whole_keeps (between start «end» text) x given (next == length text) gives
     by_reading mode text given empty is gives = absurd (cc)
     by_reading mode text given (refused number at) is gives = absurd (cc)
 
-    pub form_keeps : (mode : Mode) (text : List ℕ) (given : Acceptance) → accepts fewer w mode text ≡ Ok given → accepts more w mode text ≡ Ok given
-    form_keeps mode text given is = by_reading mode text given (read_in fewer w mode text) refl is
+    pub form_keeps : (mode : Mode) (text : List ℕ) (given : Acceptance) → accepts_by was fewer w mode text ≡ Ok given → accepts_by now more w mode text ≡ Ok given
+    form_keeps mode text given is = by_reading mode text given (read_by was fewer w mode text) refl is
 
   -- ---- records
 
-  pub records_keep : (w v : WorldState) (entries : List LogRecord) → after fewer w entries ≡ Some v → after more w entries ≡ Some v
+  pub records_keep : (w v : WorldState) (entries : List LogRecord) → after_by was fewer w entries ≡ Some v → after_by now more w entries ≡ Some v
   records_keep w v [] is = is
   records_keep w v (entry ∷ entries) is =
-      by_first (λ u made. records_keep u v entries made) (accepts fewer w (mode_of entry.kind) entry.text) refl is
+      by_first (λ u made. records_keep u v entries made) (accepts_by was fewer w (mode_of entry.kind) entry.text) refl is
     where
-      by_first : ((u : WorldState) → after fewer u entries ≡ Some v → after more u entries ≡ Some v)
-          → (given : Result Acceptance ℕ) → accepts fewer w (mode_of entry.kind) entry.text ≡ given
-          → elim given [ Ok a ↦ after fewer a.world entries | Err n ↦ None ] ≡ Some v → after more w (entry ∷ entries) ≡ Some v
+      by_first : ((u : WorldState) → after_by was fewer u entries ≡ Some v → after_by now more u entries ≡ Some v)
+          → (given : Result Acceptance ℕ) → accepts_by was fewer w (mode_of entry.kind) entry.text ≡ given
+          → elim given [ Ok a ↦ after_by was fewer a.world entries | Err n ↦ None ] ≡ Some v → after_by now more w (entry ∷ entries) ≡ Some v
       by_first later (Ok a) accepted rest =
-          ap (stepped more entries) (form_keeps w (mode_of entry.kind) entry.text a accepted) ∙ later a.world rest
+          ap (stepped_by now more entries) (form_keeps w (mode_of entry.kind) entry.text a accepted) ∙ later a.world rest
       by_first later (Err n) accepted rest = absurd (cc)
 
   -- ---- files
 
+  held_keeps : (k : Option Contents) (w : WorldState) → IsWorldBy was fewer k w → IsWorldBy now more k w
+  held_keeps None w is = is
+  held_keeps (Some k) w mean = record {
+    first = mean.first;
+    sound = mean.sound;
+    covered = knows.covers mean.first mean.covered;
+    snapshot = mean.snapshot;
+    records = records_keep mean.first w k.entries mean.records;
+  }
+
+  pub files_keep : (image : Image) (w : WorldState) → MeansWorldBy was fewer image w → MeansWorldBy now more image w
+  files_keep image w means = (means.0, means.1, held_keeps means.0 w means.2)
+
+-- ---- more functions
+
+module _ (fewer more : Functions) (among : AreAmong fewer more) where
   covered_too : (name : List ℕ) → is_covered fewer.names name ≡ true → is_covered more.names name ≡ true
   covered_too name is =
       elim (or_cases (is_standard name) (is_dispatch_name name || is_among fewer.names name) is) [
@@ -93,18 +130,12 @@ module _ (fewer more : Functions) (among : AreAmong fewer more) where
       weaker (λ n. list_all (is_covered fewer.names) (functions_of (table_named w n))) (λ n. list_all (is_covered more.names) (functions_of (table_named w n)))
       (λ n. weaker (is_covered fewer.names) (is_covered more.names) covered_too (functions_of (table_named w n))) (readtable_names w)
 
-  held_keeps : (k : Option Contents) (w : WorldState) → IsWorldOf fewer k w → IsWorldOf more k w
-  held_keeps None w is = is
-  held_keeps (Some k) w mean = record {
-    first = mean.first;
-    sound = mean.sound;
-    covered = world_covered mean.first mean.covered;
-    snapshot = mean.snapshot;
-    records = records_keep mean.first w k.entries mean.records;
+  pub more_functions : KnowsMore rules_in_force rules_in_force fewer more
+  more_functions = record {
+    reads = λ w mode. reading_widens form_limits (table_in w mode) (base_in w mode) w.packages (package_in w mode) fewer more among;
+    accepts = accepting_widens fewer.names more.names among.names;
+    covers = world_covered;
   }
-
-  pub files_keep : (image : Image) (w : WorldState) → MeansWorld fewer image w → MeansWorld more image w
-  files_keep image w means = (means.0, means.1, held_keeps means.0 w means.2)
 
   pub some_keeps : (w : WorldState) (forms : List LogRecord) (least : ℕ) (image : Image) → MeansSome fewer w forms least image → MeansSome more w forms least image
   some_keeps w forms least image some = record {
@@ -112,8 +143,8 @@ module _ (fewer more : Functions) (among : AreAmong fewer more) where
     enough = some.enough;
     among = some.among;
     left = some.left;
-    after_those = records_keep w some.left (take some.count forms) some.after_those;
-    meant = files_keep image some.left some.meant;
+    after_those = records_keep rules_in_force rules_in_force fewer more more_functions w some.left (take some.count forms) some.after_those;
+    meant = files_keep rules_in_force rules_in_force fewer more more_functions image some.left some.meant;
   }
 
 -- no function is among any functions
@@ -123,3 +154,23 @@ none_are_among more = record {
   way = λ name is. absurd (cc);
   answer = λ name call is. absurd (cc);
 }
+
+-- ---- more operators, and longer forms
+
+pub more_rules : (fewer more : Rules) → AreRulesAmong fewer more → (functions : Functions) → KnowsMore fewer more functions functions
+more_rules fewer more among functions = record {
+  reads = λ w mode text x start «end» next is. form_widens (setting_by fewer functions w mode) text more.text_limit x start «end» next among.text_limit is;
+  accepts = λ w x d is.
+      subst (λ based. accept_over based (more.operators functions.names) w x ≡ Ok d) among.based
+      (accepted_with_more fewer.based (fewer.operators functions.names) (more.operators functions.names) (among.operators functions.names) w x d is);
+  covers = λ w is. is;
+}
+
+-- the operators before PAZTURROK had any are among those of today
+pub earlier_among : AreRulesAmong rules_before_operators rules_in_force
+earlier_among = record { text_limit = omega arith; based = refl; operators = standard_among }
+
+-- both: a program that has more operators, and more functions
+module _ (by : Rules) (fewer more : Functions) (rules : AreRulesAmong by rules_in_force) (among : AreAmong fewer more) where
+  pub newer : KnowsMore by rules_in_force fewer more
+  newer = joined by rules_in_force rules_in_force fewer fewer more (more_rules by rules_in_force rules fewer) (more_functions fewer more among)

@@ -1,5 +1,8 @@
--- When a program has the macro functions of another one, and perhaps more.
-use Rattle.std.specs.Prelude.{◌≡◌, List, ℕ, IsTrue}
+-- When a program has the macro functions of another one, and perhaps more; and when it has its operators, and perhaps more.
+use Rattle.std.specs.Prelude.{◌≡◌, ◌≤◌, List, ℕ, IsTrue}
+use Rattle.evaluator.specs.Operators.{AreOperatorsAmong}
+use Rattle.package_table.specs.Table.{Name}
+use Rattle.prevalence_store.specs.meaning.Acceptance.{Rules}
 use Rattle.readtable_core.specs.Names.{is_among}
 use Rattle.user_macros.specs.Calls.{MacroCall}
 use Rattle.user_macros.specs.Functions.{Functions}
@@ -10,3 +13,9 @@ pub record AreAmong (fewer more : Functions) : Type 0 where
   pub way : (name : List ℕ) → IsTrue (is_among fewer.names name) → more.way name ≡ fewer.way name
   pub answer : (name : List ℕ) (call : MacroCall) → IsTrue (is_among fewer.names name)
       → more.answer name call ≡ fewer.answer name call
+
+-- Each operator of the first rules is the same one in the second, and a form may be as long there. Of *READ-BASE* both say the same.
+pub record AreRulesAmong (fewer more : Rules) : Type 0 where
+  pub text_limit : fewer.text_limit ≤ more.text_limit
+  pub based : fewer.based ≡ more.based
+  pub operators : (names : List Name) → AreOperatorsAmong (fewer.operators names) (more.operators names)
