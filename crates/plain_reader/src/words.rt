@@ -14,6 +14,9 @@ use lisp_reading::HeldObject;
 use package_table::Resolved;
 use std::alloc::{AllocError, Global};
 
+/// A name of at most so many bytes is made on the stack.
+const ON_STACK: usize = 16;
+
 /// Whether the first byte begins no number, and no byte is a colon.
 pub(crate) fn is_word(bytes: &[u8]) -> bool
     ensures { result ≡ is_word bytes.now }
@@ -58,6 +61,12 @@ pub(crate) fn word(
 fn upcased(alloc: Global, bytes: &[u8]) -> Result<Bytes, AllocError>
     ensures { IfOk result (λ name. name ≡ map upper_case bytes.now) }
 {
+    if bytes.len() <= ON_STACK {
+        let mut name = [0; ON_STACK];
+        name[..bytes.len()].copy_from_slice(bytes);
+        upcase(&mut name);
+        return Bytes::from_slice(alloc, &name[..bytes.len()]);
+    }
     let mut name = Vec::from_slice(alloc, bytes)?;
     upcase(name.as_mut_slice());
     Bytes::from_vec(name)
