@@ -70,6 +70,14 @@ pub(crate) fn first_stored(alloc: Global) -> Result<Stored, AllocError>
     })
 }
 
+// Whether there is a note under the newest mark.
+fn has_notes(marks: &[Vec<Note>]) -> bool {
+    match marks.last() {
+        Some(notes) => !notes.is_empty(),
+        None => false,
+    }
+}
+
 // Whether a value that was set need not be noted: the one that it overwrote is overwritten as earlier changes are undone.
 fn needs_no_note(
     rows: &BTreeMap<u32, Row>,
@@ -83,6 +91,9 @@ fn needs_no_note(
     let PropertyChange::Set { index, value } = change else {
         return false;
     };
+    if !has_notes(marks) {
+        return false;
+    }
     let length = rows::count(rows, number);
     let place = Place {
         index: *index,
