@@ -1,6 +1,6 @@
 //! Tests of the store, its log and its devices, through the public calls of the crates: what neither a run of the program nor a call by C can
 //! show. Then callers of the laws of store_laws, message_laws, feeding_laws, wider_functions and whole_export, over any disk, any macro
-//! functions and any input, and runs of them.
+//! functions and any input, and of those of crc32c, and runs of them.
 //!
 //! They are a crate of their own, at the top, so that no library is proved again for the sake of its tests, and that the store is compiled
 //! for tests once.
@@ -20,6 +20,7 @@
 //! - `migration`: a store that is opened on files of version 1
 //! - `exports`: a store that takes the export of a world; `same`: two stores with the same export
 //! - `reopened`: a store that is opened with macro functions on files of a program without any
+//! - `sums`: the sum of a text, and that of the text once it is damaged
 //! - `keepers`: a session whose recipient keeps account of it, and what follows at each moment
 //! - `again`: the store that a history goes on with after a session
 //! - `rounds`: two rounds of messages, and the position after them
@@ -76,5 +77,7 @@ mod room;
 mod rounds;
 #[cfg(test)]
 mod same;
+#[cfg(test)]
+mod sums;
 #[cfg(test)]
 mod troubled_disks;
