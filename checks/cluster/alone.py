@@ -20,6 +20,39 @@ from pazturrok import NodeStore
 with NodeStore([sys.argv[1]]) as store:
     print(*[store.do("(INCF (GET 'COUNTER 'KY))", name=f"own-{sys.argv[2]}-{number}") for number in range(int(sys.argv[3]))])
 """
+KILLS = 40
+"""How many of a node and its store are killed by `kills`."""
+
+KILLED_AT = {
+    "before a record is written": ("journal", "write_whole", "before"),
+    "before it is synced": ("journal", "sync", "before"),
+    "before the store has it": ("child", "Child.send", "before"),
+    "after the store was sent it": ("child", "Child.send", "after"),
+    "before its answer is taken": ("node", "Node._hear", "before"),
+    "before its answer is sent": ("clients", "Client.send", "before"),
+    "after its answer was sent": ("clients", "Client.send", "after"),
+}
+KILLED_NODE = """
+import importlib, os, sys
+sys.path.insert(0, sys.argv.pop(1))
+module, name, moment, count = sys.argv.pop(1), sys.argv.pop(1), sys.argv.pop(1), int(sys.argv.pop(1))
+from pazturrok_node import main
+owner, way = importlib.import_module("pazturrok_node." + module), name.split(".")
+for word in way[:-1]:
+    owner = getattr(owner, word)
+whole, come = getattr(owner, way[-1]), 0
+def call(*words):
+    global come
+    come += 1
+    if come == count and moment == "before":
+        os.kill(os.getpid(), 9)
+    told = whole(*words)
+    if come == count:
+        os.kill(os.getpid(), 9)
+    return told
+setattr(owner, way[-1], call)
+sys.exit(main.main())
+"""
 LOST, NO_MEMORY = "! 50 OLD-NUMBER", "! 90 NO-MEMORY"
 CLOSES = b"(SET-MACRO-CHARACTER #\\: :CLOSE)"
 """After this form no name with a package can be read."""
@@ -93,6 +126,60 @@ def blow(node, chance):
         one.signal(signal.SIGSTOP)
         time.sleep(chance.random())
         one.signal(signal.SIGCONT)
+
+
+def kills(folder, program):
+    """The node is killed at each place between a request and its answer, and its store at random: what clients saw is what one counter may
+    have answered."""
+    node, chance, ended, calls = begun(folder, program, options=("--snapshot-every", "200")), random.Random(2), threading.Event(), []
+    workers = [threading.Thread(target=work, args=(node, place, ended, calls)) for place in range(4)]
+    counts = dict.fromkeys(("the store at random", *KILLED_AT), 0)
+    try:
+        for worker in workers:
+            worker.start()
+        while sum(counts.values()) < KILLS:
+            place = min(KILLED_AT, key=counts.get)
+            if counts["the store at random"] < KILLS * 3 // 4:
+                counts["the store at random"] += killed_stores(node, chance, 6)
+            counts[place] += killed_node(node, place, chance.randrange(1, 40))
+        ended.set()
+        for worker in workers:
+            worker.join()
+        fault = linear.fault_of(calls, int(value(node)))
+        print(f"cluster: {len(calls):,} requests while {', '.join(f'{place} {count}' for place, count in counts.items())} were killed", flush=True)
+        return [fault] if fault else []
+    finally:
+        ended.set()
+        node.end()
+
+
+def killed_stores(node, chance, count):
+    """Kills the store of a node so often, each time at another moment after it was started."""
+    killed, deadline = 0, time.monotonic() + LONG
+    while killed < count and time.monotonic() < deadline:
+        time.sleep(chance.random() * 0.2)
+        process = node.store_process(0)
+        if process:
+            os.kill(process, signal.SIGKILL)
+            killed += 1
+    return killed
+
+
+def killed_node(node, place, count):
+    """The node is started anew, and kills itself at a place, the so many-th time that it comes there; then it is started as ever."""
+    one = node.nodes[0]
+    plain = one.words
+    one.kill()
+    one.words = [sys.executable, "-c", KILLED_NODE, os.path.dirname(NODE), *KILLED_AT[place], str(count), *plain[2:]]
+    one.start()
+    try:
+        status = one.child.wait(LONG)
+    except subprocess.TimeoutExpired:
+        status = None
+        one.kill()
+    one.words = plain
+    one.start()
+    return status == -signal.SIGKILL
 
 
 def thirty(folder, program):
@@ -268,8 +355,8 @@ def strangers(folder, program):
         node.end()
 
 
-LONG_ONES = ("alone by port",)
+LONG_ONES = ("alone by port", "alone kills")
 PARTS = {
-    "alone": blows, "alone by port": blows_by_port, "alone thirty": thirty, "alone small": small, "alone torn": torn,
+    "alone": blows, "alone kills": kills, "alone by port": blows_by_port, "alone thirty": thirty, "alone small": small, "alone torn": torn,
     "alone put back": put_back, "alone old": old, "alone words": refused_words, "alone strangers": strangers,
 }  # fmt: skip

@@ -1,27 +1,25 @@
-"""The parts of a node by themselves: frames, answers, the journal, how requests come into a log."""
+"""The parts of a node by themselves: frames, answers, how requests come into a log, the program of a store; journal_units.py has the journal."""
 import asyncio
 import errno
+import io
 import logging
 import os
-import pathlib
 import socket
 import sys
 import tempfile
-import threading
 import unittest
 from unittest import mock
 
-FULL = OSError(errno.ENOSPC, "No space left on device")
+import journal_units
 
 sys.path.insert(0, os.path.join(os.path.dirname(os.path.abspath(__file__)), "..", "..", "cluster"))
 
-from pazturrok_node import journal as journals  # noqa: E402
-from pazturrok_node.alone import AloneKeeper  # noqa: E402
+from pazturrok_node import child as childs  # noqa: E402
 from pazturrok_node.answers import Answers  # noqa: E402
 from pazturrok_node.appender import Appender  # noqa: E402
-from pazturrok_node.frames import ANSWER, LIMIT, LOST, NO_ROOM, OTHER_TEXT, REQUEST, Frames, NoFrameError, request_of  # noqa: E402
-from pazturrok_node.journal import Journal, records, written  # noqa: E402
-from pazturrok_node.log import BehindError, BusyError, FullError, Reached, Refused, RefusedStoreError  # noqa: E402
+from pazturrok_node.child import Child  # noqa: E402
+from pazturrok_node.frames import ANSWER, LIMIT, LOST, NO_ROOM, REQUEST, Frames, NoFrameError, request_of  # noqa: E402
+from pazturrok_node.log import BusyError, FullError, Refused  # noqa: E402
 from pazturrok_node.main import free_socket  # noqa: E402
 
 SENT = b"do own.name-1 5\n(A B)\nask 3\n(C)\nread 0\n\nask 17 1\nD\ndo 3\na\nb\n"
@@ -64,243 +62,21 @@ class AnswersTest(unittest.TestCase):
         self.assertEqual(taken, [b"two", b"two", LOST])
 
 
-class JournalTest(unittest.IsolatedAsyncioTestCase):
-    def setUp(self):
-        room = tempfile.TemporaryDirectory()
-        self.addCleanup(room.cleanup)
-        self.room = room.name
-
-    def begun(self, position=0, keep=600.0):
-        one = Journal(self.room, keep)
-        self.addCleanup(one.close)
-        try:
-            one.open(position)
-        except BaseException:
-            one.close()
-            raise
-        return one
-
-    def segments(self):
-        folder = os.path.join(self.room, "journal")
-        return sorted(os.path.join(folder, name) for name in os.listdir(folder) if name != "lock")
-
-    async def given(self, journal, number):
-        """The entries after a number, as far as they go now."""
-        found = []
-        async for one in journal.watch(number):
-            if isinstance(one, Reached):
-                return found
-            found += [(entry.number, entry.name, entry.text) for entry in one]
-
-    async def test_names(self):
-        one = self.begun(7)
-        self.assertEqual(await one.append([(b"a", b"1"), (b"b", b"2")], 0), [8, 9])
-        self.assertEqual(await one.append([(b"b", b"2"), (b"c", b"3"), (b"a", b"1")], 0), [9, 10, 8])
-        one.close()
-        with mock.patch.object(journals.os, "fsync", wraps=os.fsync) as synced:
-            two = self.begun(9)
-        self.assertTrue(synced.called, "what a killed node has written and not synced is not synced")
-        self.assertEqual(await two.append([(b"c", b"3")], 0), [10])
-        self.assertEqual(await self.given(two, 8), [(9, b"b", b"2"), (10, b"c", b"3")])
-
-    async def test_another_text(self):
-        """A name that is there with another text is refused, and the entry under it stays; as after the journal was read again."""
-        one, other = self.begun(), Refused(OTHER_TEXT)
-        await one.append([(b"a", b"(x)")], 0)
-        self.assertEqual(await one.append([(b"a", b"(y)"), (b"b", b"(y)")], 0), [other, 2])
-        with mock.patch.object(journals, "MOST_NAMES", 1), self.assertRaises(FullError) as raised:
-            await one.append([(b"a", b"(y)"), (b"b", b"(y)"), (b"c", b"(z)")], 0)
-        self.assertEqual(raised.exception.placed, {b"a": other, b"b": 2})
-        one.close()
-        two = self.begun()
-        self.assertEqual(await two.append([(b"a", b""), (b"b", b"(x)"), (b"c", b"(z)")], 0), [other, other, 3])
-        self.assertEqual(await two.append([(b"a", b"(x)"), (b"b", b"(y)")], 0), [1, 2])
-        self.assertEqual(await self.given(two, 0), [(1, b"a", b"(x)"), (2, b"b", b"(y)"), (3, b"c", b"(z)")])
-
-    async def test_synced_before_it_is_fed(self):
-        one, calls = self.begun(), []
-        with mock.patch.object(journals.os, "fdatasync", side_effect=lambda _: calls.append(len(one._queue))):
-            one._took = 0.0
-            await one.append([(b"a", b"1")], 0)
-            await one.append([(b"b", b"1"), (b"c", b"2")], 0)
-        self.assertEqual((calls, len(one._queue)), ([0, 1], 2))
-
-    async def test_each_cut(self):
-        """At whatever byte a crash ends the last write, what was whole before it stays."""
-        whole = written(b"do", 1, b"a", b"first\n") + written(b"skip", 1, b"-", b"! 90 NO-MEMORY")
-        last = written(b"do", 2, b"b", b"second")
-        for cut in range(len(last)):
-            data = b"pazturrok journal 1\n" + whole + last[:cut]
-            self.assertEqual([one.number for one in records(data)], [1, 1])
-            for place in range(0, len(last), 3):
-                if place < cut:
-                    spoilt = bytearray(data)
-                    spoilt[len(data) - cut + place] ^= 1
-                    self.assertEqual(len(list(records(bytes(spoilt)))), 2)
-        with open(os.path.join(self.room, "cut"), "wb"):
-            one = self.begun()
-        path = self.segments()[0]
-        one.close()
-        text = b"pazturrok journal 1\n" + whole + last
-        for cut in (*range(20), len(whole) + 20, len(whole) + 30):
-            for left in (text[:cut], text[: cut // 2] + b"\0" * (cut - cut // 2) if cut <= 20 else text[:cut]):
-                with open(path, "wb") as file:
-                    file.write(left)
-                two = self.begun()
-                number = 2 if cut > len(whole) else 1
-                self.assertEqual(await two.append([(b"c", b"3")], 0), [number])
-                two.close()
-                three = self.begun()
-                self.assertEqual((await self.given(three, 0))[-1], (number, b"c", b"3"))
-                three.close()
-
-    async def test_another_file(self):
-        """What does not begin as a journal is not cut, whatever its place."""
-        self.begun().close()
-        with open(self.segments()[-1], "wb") as file:
-            file.write(b"another file, with a text\n")
-        with self.assertRaises(RefusedStoreError):
-            self.begun()
-
-    async def test_damage(self):
-        one = self.begun()
-        await one.append([(b"a", b"1")], 0)
-        with mock.patch.object(journals, "SEGMENT", 0):
-            await one.append([(b"b", b"2")], 0)
-        one.close()
-        first, second = self.segments()
-        with open(first, "r+b") as file:
-            file.seek(25)
-            file.write(b"!")
-        with self.assertRaises(RefusedStoreError):
-            self.begun()
-        os.unlink(first)
-        with self.assertRaises(BehindError):
-            self.begun()
-        self.begun(1).close()
-        with self.assertRaises(RefusedStoreError):
-            self.begun(3)
-        os.unlink(second)
-        self.begun(3)
-
-    async def test_old(self):
-        one = self.begun(keep=0.0)
-        for number in range(4):
-            await one.append([(b"%d" % number, b"x")], 0)
-        self.assertEqual(len(self.segments()), 4)
-        await one.trim(2)
-        self.assertEqual((await one.trimmed(), one.names, len(self.segments())), (2, 2, 2))
-        self.assertEqual(await one.append([(b"0", b"again"), (b"3", b"x")], 0), [5, 4])
-        await one.trim(1000)
-        self.assertEqual(one.names, 1)
-        with self.assertRaises(BehindError):
-            one.open(1)
-
-    async def test_full(self):
-        one = self.begun()
-        with mock.patch.object(journals, "MOST_NAMES", 1):
-            await one.append([(b"a", b"1"), (b"b", b"2")], 0)
-            with self.assertRaises(FullError) as raised:
-                await one.append([(b"c", b"3"), (b"a", b"1")], 0)
-            self.assertEqual(raised.exception.placed, {b"a": 1})
-            self.assertEqual(await one.append([(b"b", b"2")], 0), [2])
-        with mock.patch.object(journals.os, "write", side_effect=FULL), self.assertRaises(FullError):
-            await one.append([(b"c", b"3")], 0)
-        one._looked = -1.0
-        with mock.patch.object(journals.os, "statvfs", return_value=mock.Mock(f_bavail=1, f_frsize=1)), self.assertRaises(FullError):
-            await one.append([(b"c", b"3")], 0)
-        one._looked = -1.0
-        self.assertEqual(await one.append([(b"c", b"3")], 0), [3])
-        self.assertEqual(await self.given(one, 0), [(1, b"a", b"1"), (2, b"b", b"2"), (3, b"c", b"3")])
-
-    async def test_no_room_for_a_segment(self):
-        """That no file can be made, or its first line not be written, is no room; the journal goes on when there is some."""
-        one = self.begun()
-        await one.append([(b"a", b"1")], 0)
-        for call in ("open", "write"):
-            with mock.patch.object(journals, "SEGMENT", 0), mock.patch.object(journals.os, call, side_effect=FULL):
-                with self.assertRaises(FullError):
-                    await one.append([(b"b", b"2")], 0)
-            self.assertEqual(len(self.segments()), 1)
-        with mock.patch.object(journals, "SEGMENT", 0):
-            self.assertEqual(await one.append([(b"b", b"2")], 0), [2])
-        self.assertEqual(len(self.segments()), 2)
-        one.close()
-        self.assertEqual(await self.given(self.begun(), 0), [(1, b"a", b"1"), (2, b"b", b"2")])
-
-    async def test_no_room_for_a_skip(self):
-        """The store ends there again, and then it is tried again."""
-        one = self.begun()
-        await one.append([(b"a", b"1")], 0)
-        keeper = AloneKeeper(one)
-        with mock.patch.object(journals.os, "write", side_effect=FULL):
-            await keeper.ended_at(1, b"! 90 NO-MEMORY")
-        self.assertEqual(await one.skipped(), {})
-        await keeper.ended_at(1, b"! 90 NO-MEMORY")
-        self.assertEqual(await one.skipped(), {1: b"! 90 NO-MEMORY"})
-
-    async def test_cancelled(self):
-        """Whoever waits for an entry may go: what is written is an entry, and no other one has its number."""
-        one, synced, goes_on = self.begun(), asyncio.Event(), threading.Event()
-        loop = asyncio.get_running_loop()
-
-        def sync(_):
-            loop.call_soon_threadsafe(synced.set)
-            goes_on.wait(10)
-
-        one._took = 1.0
-        with mock.patch.object(journals.os, "fdatasync", side_effect=sync):
-            for number, call in ((1, one.append([(b"a", b"1")], 0)), (2, one.append([(b"b", b"2")], 0)), (3, one.skip(1, b"! 90 NO-MEMORY"))):
-                task = asyncio.ensure_future(call)
-                await synced.wait()
-                task.cancel()
-                self.assertEqual(await asyncio.gather(task, return_exceptions=True), [mock.ANY], number)
-                self.assertTrue(task.cancelled())
-                synced.clear()
-                goes_on.set()
-                async with one._writing:
-                    goes_on.clear()
-        self.assertEqual((await one.skipped(), one.size), ({1: b"! 90 NO-MEMORY"}, os.path.getsize(self.segments()[0])))
-        self.assertEqual(await one.append([(b"c", b"3"), (b"a", b"1"), (b"b", b"2")], 0), [3, 1, 2])
-        one.close()
-        two = self.begun()
-        self.assertEqual(await self.given(two, 0), [(1, b"a", b"1"), (2, b"b", b"2"), (3, b"c", b"3")])
-        self.assertEqual(await two.skipped(), {1: b"! 90 NO-MEMORY"})
-
-    async def test_name_of_a_younger_entry(self):
-        """A segment that came back by a crash has a name that is another entry's since: that one keeps it."""
-        one = self.begun(keep=0.0)
-        for number in (1, 2, 3):
-            await one.append([(b"%d" % number, b"x")], 0)
-        kept = {path: pathlib.Path(path).read_bytes() for path in self.segments()}
-        calls = []
-        with mock.patch.object(journals, "sync_folder", side_effect=lambda path: calls.append((path, len(self.segments())))):
-            await one.trim(2)
-        self.assertEqual(calls, [(os.path.join(self.room, "journal"), 1)], "what was taken away is not taken away for good")
-        self.assertEqual(await one.append([(b"1", b"y"), (b"2", b"y")], 0), [4, 5])
-        one.close()
-        for path, data in kept.items():
-            pathlib.Path(path).write_bytes(data)
-        two = self.begun(5, keep=0.0)
-        self.assertEqual(await two.append([(b"4", b"x")], 0), [6])
-        await two.trim(3)
-        self.assertEqual(await two.append([(b"1", b"y"), (b"2", b"y"), (b"3", b"x")], 0), [4, 5, 7])
-        await two.trim(1000)
-        self.assertEqual(two.names, 1)
-
-    async def test_lock(self):
-        self.begun()
-        with self.assertRaises(OSError):
-            Journal(self.room, 600.0)
-
-
 class Slow:
     """A log whose transactions end when they are let."""
 
     most_entries, most_bytes, lanes = 3, 1000, 2
 
     def __init__(self):
-        self.under_way, self.entries, self.error = [], [], None
+        self.under_way, self.entries, self.error, self.is_quick, self.batches = [], [], None, False, []
+
+    def append_at_once(self, entries):
+        if self.error:
+            error, self.error = self.error, None
+            raise error
+        self.entries += entries
+        self.batches.append(len(entries))
+        return list(range(len(self.entries) - len(entries) + 1, len(self.entries) + 1))
 
     async def append(self, entries, _floor):
         if self.error:
@@ -361,6 +137,69 @@ class AppenderTest(unittest.IsolatedAsyncioTestCase):
         await self.let(0)
         self.assertEqual(self.taken["a2"], 1)
 
+    async def test_at_once(self):
+        """A log that is quick has what comes in one turn of the loop at once, and nothing before what is under way."""
+        self.log.is_quick = True
+        await self.send("a1", "a2", "b1", "b2", "c1")
+        self.assertEqual((self.log.batches, self.log.under_way), ([3, 2], []))
+        self.log.error = FullError("full", {b"b3": 7})
+        await self.send("a3", "b3")
+        self.assertEqual((self.taken["a3"], self.taken["b3"]), (Refused(NO_ROOM), 7))
+        self.log.is_quick = False
+        await self.send("a4")
+        self.log.is_quick = True
+        await self.send("b4", "a5")
+        self.assertEqual(len(self.log.entries), 5, "a form goes before one of its own client that is under way")
+        while self.log.under_way:
+            await self.let(0)
+        self.assertEqual([name for name, _ in self.log.entries[5:]], [b"a4", b"b4", b"a5"])
+
+    async def test_device(self):
+        """A device that fails ends the node."""
+        self.log.is_quick, self.log.error = True, OSError(errno.EIO, "Input/output error")
+        await self.send("a1")
+        with self.assertRaises(OSError):
+            await asyncio.wait_for(self.task, 1)
+
+
+SPEAKS = "import os, sys; os.write(1, {!r}); os.write(2, {!r}); sys.stdin.read()"
+
+
+class ChildTest(unittest.IsolatedAsyncioTestCase):
+    """Programs that stand in for that of a store."""
+
+    async def started(self, told, complained=b""):
+        return await Child.start([sys.executable, "-c", SPEAKS.format(told, complained)])
+
+    def setUp(self):
+        quiet = mock.patch.object(childs.sys, "stderr", io.StringIO())
+        quiet.start()
+        self.addCleanup(quiet.stop)
+
+    async def test_what_it_answers(self):
+        heard = []
+        one = await self.started(b"at 17\n5 1\nA\n", b"! 64 LOG-FULL\n")
+        one.hear(heard.append)
+        while b"".join(heard) != b"5 1\nA\n":
+            await asyncio.sleep(0.01)
+        self.assertEqual((one.position, one.is_over.done(), await one.end(), one.refusal), (17, False, 0, b"! 64 LOG-FULL"))
+        self.assertTrue(one.is_over.done())
+
+    async def test_what_is_no_position(self):
+        for told in (b"at x\n", b"at 017\n", b"\n", b"17\n"):
+            self.assertIsNone(await self.started(told), told)
+        self.assertIsNone(await Child.start([sys.executable, "-c", "print('at', end=' ')"]))
+        with self.assertRaises(OSError):
+            await Child.start(["/nowhere/program"])
+
+    async def test_what_is_no_answer(self):
+        """It is left, and read all the same until it ends: a program that writes much is not kept from that."""
+        frames = Frames(ANSWER)
+        one = await self.started(b"at 1\nno answer\n" + b"x" * 100_000)
+        one.hear(lambda data: list(frames.split(data)))
+        await asyncio.wait_for(one.is_over, 10)
+        self.assertEqual(await one.end(), 0)
+
 
 class SocketTest(unittest.TestCase):
     def test_free(self):
@@ -378,7 +217,8 @@ class SocketTest(unittest.TestCase):
 
 
 def units(_folder, _program):
-    tests = unittest.defaultTestLoader.loadTestsFromModule(sys.modules[__name__])
+    load = unittest.defaultTestLoader.loadTestsFromModule
+    tests = unittest.TestSuite([load(sys.modules[__name__]), load(journal_units)])
     logging.disable(logging.CRITICAL)
     try:
         with open(os.devnull, "w", encoding="ascii") as nowhere:

@@ -48,17 +48,45 @@ class Appender:
         """When it was told last that there is no room."""
         self._first = 0
         """The position of the store as it was opened, before any of them came."""
+        self._is_due = self._has_begun = False
+        self._fault: asyncio.Future[None] | None = None
 
     def append(self, sender: object, name: bytes, text: bytes, take: Callable[[Placed | None], None]) -> None:
         """Puts an entry into the log, once, however often it is tried, and after those of earlier calls of this sender."""
         self._waiting.append(Unplaced(sender, name, text, self._node.position, take))
-        self._wake()
+        if not self._is_due:
+            self._is_due = True
+            asyncio.get_running_loop().call_soon(self._put_all)
 
     async def run(self) -> None:
         """Puts them, for ever."""
         await self._node.is_admitted.wait()
         self._first = self._node.position
-        await asyncio.gather(*(self._work() for _ in range(self._log.lanes)))
+        self._fault = asyncio.get_running_loop().create_future()
+        self._has_begun = True
+        await asyncio.gather(self._fault, *(self._work() for _ in range(self._log.lanes)))
+
+    def _put_all(self) -> None:
+        """Puts what came in this turn of the loop, by one write where the log is quick, or else by a lane."""
+        self._is_due = False
+        try:
+            while self._has_begun and self._log.is_quick and not self._senders and (some := self._take()):
+                self._place_at_once(some)
+        except OSError as error:
+            # the device has failed: that ends `run`
+            if self._fault and not self._fault.done():
+                self._fault.set_exception(error)
+            return
+        if self._waiting:
+            self._wake()
+
+    def _place_at_once(self, some: Sequence[Unplaced]) -> None:
+        try:
+            numbers: Sequence[Placed] = self._log.append_at_once([(one.name, one.text) for one in some])
+        except FullError as error:
+            numbers = self._refused(some, error)
+        for one, number in zip(some, numbers):
+            one.take(number)
 
     async def _work(self) -> None:
         while True:
@@ -109,8 +137,12 @@ class Appender:
                 logger.error("%s", error)
                 await asyncio.sleep(PAUSE)
             except FullError as error:
-                self._tell_full(error)
-                return [error.placed.get(one.name, Refused(NO_ROOM)) for one in some]
+                return self._refused(some, error)
+
+    def _refused(self, some: Sequence[Unplaced], error: FullError) -> list[Placed]:
+        """What those have for whom there is no room, beside those that the log has already."""
+        self._tell_full(error)
+        return [error.placed.get(one.name, Refused(NO_ROOM)) for one in some]
 
     def _tell_full(self, error: FullError) -> None:
         now = time.monotonic()

@@ -4,6 +4,7 @@ from __future__ import annotations
 
 import asyncio
 import collections
+import itertools
 import logging
 import socket
 import uuid
@@ -38,6 +39,14 @@ class Clients:
         self._connected: collections.OrderedDict[Client, None] = collections.OrderedDict()
         """Those that are connected, by their last request."""
         self.requests: collections.Counter[str] = collections.Counter()
+        self._due: list[Client] = []
+        """Those that have answers to send."""
+        self._own, self._count = uuid.uuid4().hex, itertools.count()
+        node.have_heard = self._send_all
+
+    def new_name(self) -> bytes:
+        """A name for a form that has none: no other node has it, and no other run of this one."""
+        return b"%s-%d" % (self._own.encode("ascii"), next(self._count))
 
     @property
     def count(self) -> int:
@@ -63,6 +72,17 @@ class Clients:
 
     def forget(self, client: Client) -> None:
         self._connected.pop(client, None)
+
+    def send_soon(self, client: Client) -> None:
+        """Has the answers of a client sent once all are taken that have come."""
+        if not self._due and not self.node.is_hearing:
+            asyncio.get_running_loop().call_soon(self._send_all)
+        self._due.append(client)
+
+    def _send_all(self) -> None:
+        due, self._due = self._due, []
+        for client in due:
+            client.send()
 
     def heed(self, client: Client, kind: str) -> None:
         """A client has sent a request."""
@@ -178,7 +198,7 @@ class Client(asyncio.Protocol):
         if request.kind == "do":
             slot.is_begun = True
             self._unplaced += len(request.text)
-            name = request.name or uuid.uuid4().hex.encode("ascii")
+            name = request.name or self._clients.new_name()
             self._appender.append(self, name, request.text, lambda placed: self._take_place(slot, placed))
         else:
             self._begin_first()
@@ -231,9 +251,9 @@ class Client(asyncio.Protocol):
         slot.answer = text
         if self._slots and self._slots[0] is slot and not self._is_due:
             self._is_due = True
-            asyncio.get_running_loop().call_soon(self._send)
+            self._clients.send_soon(self)
 
-    def _send(self) -> None:
+    def send(self) -> None:
         """Sends the answers that have come, in the order of the requests."""
         self._is_due = False
         texts: list[bytes] = []

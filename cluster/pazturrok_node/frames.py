@@ -59,29 +59,30 @@ class Frames:
 
     def split(self, data: bytes) -> Iterator[tuple[re.Match[bytes], bytes]]:
         """The frames that these bytes make whole; NoFrameError after those that stand before what is none."""
-        self._pieces.append(data)
-        self._missing -= len(data)
-        if self._missing > 0:
-            return
-        data, place = b"".join(self._pieces) if len(self._pieces) > 1 else data, 0
-        self._missing = 0
-        while head := self._head.match(data, place):
-            size = int(head[self._length])
+        if self._pieces:
+            self._pieces.append(data)
+            self._missing -= len(data)
+            if self._missing > 0:
+                return
+            data = b"".join(self._pieces)
+        self._missing, place, whole = 0, 0, len(data)
+        while place < whole and (head := self._head.match(data, place)):
+            size, start = int(head[self._length]), head.end()
             if self._most is not None and size > self._most:
                 raise NoFrameError(f"a text of {size} bytes, and at most {self._most} are taken")
-            end = head.end() + size
-            if end >= len(data):
-                self._missing = end + 1 - len(data)
+            end = start + size
+            if end >= whole:
+                self._missing = end + 1 - whole
                 break
             if data[end] != 10:
                 raise NoFrameError("a text is longer than its length")
-            yield head, data[head.end() : end]
+            yield head, data[start:end]
             place = end + 1
         else:
             line = data[place : place + LONGEST_HEAD]
             if b"\n" in line or len(line) == LONGEST_HEAD:
                 raise NoFrameError(f"{line[:80]!r} is no head of a frame")
-        self._pieces = [data[place:]] if place < len(data) else []
+        self._pieces = [data[place:]] if place < whole else []
 
 
 def request_of(head: re.Match[bytes], text: bytes) -> Request:

@@ -3,7 +3,7 @@
 from __future__ import annotations
 
 import abc
-from collections.abc import AsyncIterator, Sequence
+from collections.abc import AsyncIterator, Callable, Sequence
 from typing import NamedTuple, Union
 
 MARK = (
@@ -105,10 +105,19 @@ class Log(abc.ABC):
     async def last(self) -> int:
         """The place of the last entry; 0 where there is none."""
 
+    @property
+    def is_quick(self) -> bool:
+        """Whether `append_at_once` may be called now."""
+        return False
+
+    def append_at_once(self, entries: Sequence[tuple[bytes, bytes]]) -> list[Placed]:
+        """The same as `append` in this turn of the loop."""
+        raise NotImplementedError
+
     @abc.abstractmethod
-    def watch(self, number: int) -> AsyncIterator[Found]:
+    def watch(self, number: int, take: Callable[[Sequence[Entry]], bool] | None = None) -> AsyncIterator[Found]:
         """The entries after this number, in their order, for ever, and how far they go; BehindError where they are
-        not all there."""
+        not all there. While it waits for more, a log may hand them to `take` as they come; False has them come here."""
 
     @abc.abstractmethod
     async def trimmed(self) -> int:

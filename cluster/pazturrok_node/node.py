@@ -27,9 +27,6 @@ LONGEST_PAUSE = 10.0
 SILENCE = 300.0
 """A store that says nothing for so many seconds, though it is asked, is ended. A snapshot of a large one may take a minute."""
 
-PIECE = 1 << 18
-"""At most so many bytes of answers are taken at once."""
-
 
 class Told(NamedTuple):
     """What a store answers to a question, and its position then."""
@@ -51,6 +48,9 @@ class Node:
         self._heard = time.monotonic()
         """When the store has said something last, or was asked something while it had nothing to say."""
         self.answers = Answers()
+        self.is_hearing = False
+        """Whether answers are being taken; after them comes `have_heard`."""
+        self.have_heard: Callable[[], None] = lambda: None
         self.position = 0
         """The number of the last entry that the store has answered."""
         self.lasting = 0
@@ -69,6 +69,7 @@ class Node:
         self._reached = (0, 0)
         """A place of the log up to which all entries were sent to the store, and the number of the last one."""
         self._child: Child | None = None
+        self._frames = Frames(ANSWER)
         self._skipped: dict[int, bytes] = {}
         self._last: Entry | None = None
         self._sent: collections.deque[Entry] = collections.deque()
@@ -179,13 +180,15 @@ class Node:
         self.is_admitted.set()
 
     async def _serve(self, child: Child) -> None:
-        self._child = child
-        tasks = [asyncio.ensure_future(work) for work in (self._feed(child), self._listen(child), self._watch_over(child))]
+        self._child, self._frames = child, Frames(ANSWER)
+        child.hear(self._hear)
+        tasks = [asyncio.ensure_future(work) for work in (self._feed(child), self._watch_over(child))]
         try:
-            done, _ = await asyncio.wait(tasks, return_when=asyncio.FIRST_COMPLETED)
+            done, _ = await asyncio.wait([*tasks, child.is_over], return_when=asyncio.FIRST_COMPLETED)
             for task in done:
                 task.result()
         finally:
+            child.leave()
             self._child, self._may_ask = None, False
             await end_all(tasks, 1)
 
@@ -228,21 +231,38 @@ class Node:
         self._are_answered.set()
         with contextlib.suppress(ConnectionError):
             await self._ask_alone()
-            async for found in self.log.watch(child.position):
+            async for found in self.log.watch(child.position, self._feed_at_once):
                 if isinstance(found, Reached):
-                    if last >= self._reached[1]:
-                        self._reached = (found.place, last)
-                        self._moved.look()
+                    self._reach(found.place, last)
                 elif found:
                     last = found[-1].number
                     await self._feed_all(child, found)
+
+    def _reach(self, place: int, last: int) -> None:
+        """All entries up to this place of the log were sent to the store, and the last one has this number."""
+        if last >= self._reached[1]:
+            self._reached = (place, last)
+            self._moved.look()
+
+    def _feed_at_once(self, entries: Sequence[Entry]) -> bool:
+        """Feeds entries in this turn of the loop; False, and nothing is fed, where some have to wait."""
+        child = self._child
+        if child is None or child.is_full or any(self._is_for_itself(entry) for entry in entries):
+            return False
+        self._send_entries(child, entries)
+        self._reach(self.log.place(entries[-1].number), entries[-1].number)
+        return True
+
+    def _is_for_itself(self, entry: Entry) -> bool:
+        """By this entry the store may have ended, or worlds are compared after it."""
+        return entry.number == self._suspect or entry.text == COMPARED
 
     async def _feed_all(self, child: Child, entries: Sequence[Entry]) -> None:
         """Feeds entries by one write, but for one by which the store may have ended, and for one after which worlds are compared: so a
         record of each store ends with it."""
         some: list[Entry] = []
         for entry in entries:
-            if entry.number == self._suspect or entry.text == COMPARED:
+            if self._is_for_itself(entry):
                 self._send_entries(child, some)
                 some = []
                 await self._feed_alone(child, entry)
@@ -267,25 +287,27 @@ class Node:
             return
         self._will_send()
         self._sent.extend(entries)
-        for entry in entries:
-            if entry.number in self._skipped:
+        skipped = self._skipped
+        for entry in entries if skipped else ():
+            if entry.number in skipped:
                 self._keeper.will_skip(entry.number)
-        texts = (message(entry.number, NOTHING if entry.number in self._skipped else entry.text) for entry in entries)
+        texts = [message(entry.number, NOTHING if entry.number in skipped else entry.text) for entry in entries]
         child.send(b"".join(texts))
 
     # What it answers
 
-    async def _listen(self, child: Child) -> None:
-        frames = Frames(ANSWER)
-        with contextlib.suppress(NoFrameError):
-            while piece := await child.answers.read(PIECE):
-                self._heard = time.monotonic()
-                for head, text in frames.split(piece):
-                    if head[1]:
-                        self._take_answer(int(head[1]), text)
-                    else:
-                        self._answer_question(text)
-                self._moved.look()
+    def _hear(self, data: bytes) -> None:
+        self._heard, self.is_hearing = time.monotonic(), True
+        try:
+            for head, text in self._frames.split(data):
+                if head[1]:
+                    self._take_answer(int(head[1]), text)
+                else:
+                    self._answer_question(text)
+        finally:
+            self.is_hearing = False
+            self.have_heard()
+        self._moved.look()
 
     def _take_answer(self, number: int, text: bytes) -> None:
         self._last = self._sent.popleft()
