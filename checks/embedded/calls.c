@@ -56,6 +56,29 @@ static void modes(void) {
     EXPECT(pazturrok_close(store) == 0);
 }
 
+static pazturrok_object object(const char *text) { return (pazturrok_object){text, strlen(text)}; }
+
+static void expect_calls_that_compare(pazturrok_store store) {
+    const char *answer;
+    size_t length;
+    int is_set = 1;
+    EXPECT(pazturrok_compare_and_set(store, "APPLE", "PRICE", object("7"), object("8"), &is_set) == 11 && is_set == 0);
+    EXPECT(pazturrok_take(store, "QUEUE", "JOBS", &answer, &length) == 11);
+    EXPECT(pazturrok_execute(store, PAZTURROK_RESCUE, "(MAKE-PACKAGE \"PAZTURROK\")", 26, NULL, NULL) == 0);
+    EXPECT(pazturrok_compare_and_set(store, "APPLE", "PRICE", object("7"), object("(8 \"x\")"), &is_set) == 0 && is_set == 1);
+    EXPECT(pazturrok_compare_and_set(store, "APPLE", "PRICE", object("7"), object("9"), &is_set) == 0 && is_set == 0);
+    EXPECT(pazturrok_compare_and_set(store, "APPLE", "PRICE", object("(8 \"x\")"), object("7"), &is_set) == 0 && is_set == 1);
+    EXPECT(pazturrok_compare_and_set(store, "APPLE", "PRICE", object("7"), object(")"), &is_set) != 0 && is_set == 0);
+    EXPECT(pazturrok_compare_and_set(store, "APPLE", "PRICE", object("7"), (pazturrok_object){NULL, 0}, &is_set) == PAZTURROK_MISUSE);
+    EXPECT(pazturrok_compare_and_set(store, "APPLE", "PRICE", object("7"), object("8"), NULL) == PAZTURROK_MISUSE);
+    EXPECT(pazturrok_put(store, "QUEUE", "JOBS", "(\"first\" (2))", 13) == 0);
+    EXPECT(pazturrok_take(store, "QUEUE", "JOBS", &answer, &length) == 0 && strcmp(answer, "\"first\"") == 0);
+    EXPECT(pazturrok_take(store, "QUEUE", "JOBS", &answer, &length) == 0 && strcmp(answer, "(2)") == 0 && length == 3);
+    EXPECT(pazturrok_take(store, "QUEUE", "JOBS", &answer, &length) == 0 && strcmp(answer, "NIL") == 0);
+    EXPECT(pazturrok_take(store, "APPLE", "PRICE", &answer, &length) == 33);
+    EXPECT(pazturrok_take(store, NULL, "JOBS", &answer, &length) == PAZTURROK_MISUSE);
+}
+
 static void properties(void) {
     pazturrok_store store = opened("properties");
     const char *answer;
@@ -69,6 +92,7 @@ static void properties(void) {
     EXPECT(pazturrok_put(store, "APPLE", "NAME", "COX", 3) == 0);
     EXPECT(pazturrok_plist(store, "APPLE", &answer, NULL) == 0 && strcmp(answer, "(PRICE 7 NAME COX)") == 0);
     EXPECT(pazturrok_put(store, "APPLE", "PRICE", "1 2", 3) == 32);
+    expect_calls_that_compare(store);
     EXPECT(pazturrok_put(store, "APPLE", "PRICE", "", 0) == 32);
     EXPECT(pazturrok_put(store, "APPLE", "PRICE", ")", 1) != 0);
     EXPECT(pazturrok_get(store, "M\xc3\xbcller", "PRICE", &answer, &length) == 2 && length == 0);

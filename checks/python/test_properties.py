@@ -45,6 +45,17 @@ class Calls(StoreTest):
         self.assertTrue(store.compare_and_set("APPLE", "WEIGHT", [], [1, "two"]))
         self.assertTrue(store.compare_and_set("APPLE", "WEIGHT", [1, "two"], 8))
         self.assertEqual((8, 8), (store.get("APPLE", "PRICE"), store.get("APPLE", "WEIGHT")))
+        store.put("QUEUE", "JOBS", ["first", [], Symbol("THIRD")])
+        self.assertEqual(["first", [], Symbol("THIRD")], [store.take("QUEUE", "JOBS", 0) for _ in range(3)])
+        self.assertEqual((0, []), (store.take("QUEUE", "JOBS", 0), store.take("QUEUE", "JOBS")))
+        self.assertEqual([], store.take("NONE", "JOBS"))
+        with self.assertRaises(StoreError):
+            store.take("APPLE", "PRICE")
+        town = "Z\xfcrich, \U0001f600 &#xFC; &#x41; &#x26;"
+        self.assertEqual(town, store.put("TOWN", "NAME", town))
+        self.assertEqual([town], store.put("TOWN", "NAMES", [town]))
+        self.assertEqual((town, [town]), (store.get("TOWN", "NAME"), store.get("TOWN", "NAMES")))
+        self.assertEqual((8, []), (store.get("APPLE", "PRICE"), store.get("QUEUE", "JOBS", 1)))
 
     def test_pipe(self) -> None:
         self.has_calls(self.store())

@@ -20,12 +20,53 @@ from pazturrok import (
     quote,
 )
 from pazturrok.answers import AnswerSplitter, parse_answer, refusal_of
+from pazturrok.references import with_references, without_references
 from pazturrok.texts import is_one_form
 
 
 def symbol_of(prefix: str | None, name: str) -> Any:
     symbol = Symbol(name, prefix or "COMMON-LISP-USER")
     return [] if symbol == Symbol("NIL") else symbol
+
+
+class References(unittest.TestCase):
+    WRITTEN = {
+        "Z\xfcrich": "Z&#xFC;rich",
+        "\u20ac\U0001f600\U0010ffff\x80": "&#x20AC;&#x1F600;&#x10FFFF;&#x80;",
+        "&#xFC;": "&#x26;#xFC;",
+        "&#x26;": "&#x26;#x26;",
+        "&#x26;#x26;": "&#x26;#x26;#x26;",
+    }
+    AS_THEY_ARE = (
+        *("", "&", "&#x41;", "&#x0FC;", "&#xfc;", "&#xD800;", "&#xDFFF;"),
+        *("&#x110000;", "&#xFC", "&#FC;", "&amp;", "\x7f"),
+    )
+
+    def test_texts(self) -> None:
+        for text, written in self.WRITTEN.items():
+            self.assertEqual((written, text), (with_references(text), without_references(written)))
+        for text in self.AS_THEY_ARE:
+            self.assertEqual((text, text), (with_references(text), without_references(text)))
+
+    def test_any_text_comes_back(self) -> None:
+        chance = random.Random(1)
+        bits = [*"&#x26FA;\xe9\ud7ff\ue000", *self.AS_THEY_ARE, *self.WRITTEN, *self.WRITTEN.values()]
+        for _ in range(20_000):
+            text = "".join(chance.choice(bits) for _ in range(chance.randrange(8)))
+            written = with_references(text)
+            self.assertTrue(written.isascii())
+            self.assertEqual(text, without_references(written))
+
+    def test_where(self) -> None:
+        text = "\xfc"
+        self.assertEqual('("&#xFC;" #("&#xFC;") . "&#xFC;")', printed(DottedList((text, (text,)), text)))
+        things: tuple[Any, ...] = ("\ud800", Symbol("\xfc"), Symbol("A", "\xfc"), Character("\xfc"))
+        for thing in things:
+            self.assertRaises(UnsendableError, printed, thing)
+        with self.assertRaises(UnsendableError):
+            printed("\xfc", unicode=False)
+        self.assertEqual(text, parse_answer('"&#xFC;"', symbol_of, True))
+        self.assertEqual("&#xFC;", parse_answer('"&#xFC;"', symbol_of))
 
 
 class Splitting(unittest.TestCase):
@@ -195,7 +236,7 @@ class Printing(unittest.TestCase):
         for value in (
             1.5,
             complex(1, 2),
-            "\xfc",
+            "\ud800",
             Character("\u03bb"),
             Symbol("\xfc"),
             Symbol("X", "\xfc"),

@@ -57,6 +57,12 @@ typedef struct {
     char cause[120];
 } pazturrok_fault;
 
+/* The text of one object, as (1 2). */
+typedef struct {
+    const char *text;
+    size_t length;
+} pazturrok_object;
+
 /* What became of one form of many. */
 typedef struct {
     int number;
@@ -99,6 +105,15 @@ int pazturrok_get(pazturrok_store store, const char *symbol, const char *indicat
 
 /* Sets the property of a symbol to an object, by the text of that one object, as (1 2), which is not evaluated. */
 int pazturrok_put(pazturrok_store store, const char *symbol, const char *indicator, const char *value, size_t length);
+
+/* Sets the property of a symbol to another object where it is EQUAL to `old`, of which NIL stands for none, and tells in `*is_set` whether
+   it did. The store has to have the package PAZTURROK, as `run DIR --operators` makes it: else it is 11. */
+int pazturrok_compare_and_set(pazturrok_store store, const char *symbol, const char *indicator, pazturrok_object old, pazturrok_object wanted,
+                              int *is_set);
+
+/* Takes the first item away from the list that is the property of a symbol, and gives it; NIL where the list is empty. The store has to
+   have the package PAZTURROK. */
+int pazturrok_take(pazturrok_store store, const char *symbol, const char *indicator, const char **answer, size_t *answer_length);
 
 /* The property list of a symbol: indicators and properties in turn. */
 int pazturrok_plist(pazturrok_store store, const char *symbol, const char **answer, size_t *answer_length);

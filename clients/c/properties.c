@@ -59,3 +59,28 @@ int pazturrok_plist(pazturrok_store store, const char *symbol, const char **answ
     const struct part parts[] = {PLAIN("(SYMBOL-PLIST '"), name_of(symbol), PLAIN(")")};
     return execute(store, parts, sizeof parts / sizeof *parts, answer, answer_length);
 }
+
+#define GET(symbol, indicator) PLAIN("(GET '"), name_of(symbol), PLAIN(" '"), name_of(indicator), PLAIN(")")
+
+int pazturrok_compare_and_set(pazturrok_store store, const char *symbol, const char *indicator, pazturrok_object old, pazturrok_object wanted,
+                              int *is_set) {
+    const char *answer;
+    size_t length;
+    int number;
+    if (!symbol || !indicator || !old.text || !wanted.text || !is_set) return PAZTURROK_MISUSE;
+    *is_set = 0;
+    const struct part parts[] = {PLAIN("(IF (PAZTURROK::EQUAL "), GET(symbol, indicator), PLAIN(" (QUOTE "), {old.text, old.length, 0},
+                                 PLAIN(")) (PROGN (SETF "), GET(symbol, indicator), PLAIN(" (QUOTE "), {wanted.text, wanted.length, 0},
+                                 PLAIN(")) T) NIL)")};
+    number = execute(store, parts, sizeof parts / sizeof *parts, &answer, &length);
+    if (number == 0) *is_set = length == 1;
+    return number;
+}
+
+int pazturrok_take(pazturrok_store store, const char *symbol, const char *indicator, const char **answer, size_t *answer_length) {
+    if (!symbol || !indicator) return PAZTURROK_MISUSE;
+    const struct part parts[] = {PLAIN("(IF "), GET(symbol, indicator), PLAIN(" (PAZTURROK::CAR (LIST (PAZTURROK::CAR "), GET(symbol, indicator),
+                                 PLAIN(") (SETF "), GET(symbol, indicator), PLAIN(" (PAZTURROK::CDR "), GET(symbol, indicator),
+                                 PLAIN(")))) NIL)")};
+    return execute(store, parts, sizeof parts / sizeof *parts, answer, answer_length);
+}

@@ -45,10 +45,11 @@ A newline ends it outside of lists, strings and bars; only in a refusal is there
 
 ;;; The object of a text. SYMBOL is called with the prefix, or NIL, and the name of each symbol.
 
-(defstruct (source (:constructor make-source (text symbol)) (:copier nil))
+(defstruct (source (:constructor make-source (text symbol unicode-p)) (:copier nil))
   (text "" :type simple-string)
   (place 0 :type fixnum)
-  (symbol nil :type function))
+  (symbol nil :type function)
+  (unicode-p nil))
 
 (defun peek (source)
   "The next character, or NIL at the end."
@@ -58,21 +59,25 @@ A newline ends it outside of lists, strings and bars; only in a refusal is there
 (defun wrong (source)
   (malformed (source-text source) "at place ~D" (source-place source)))
 
-(defun take (source)
+(defun take-char (source)
   (prog1 (or (peek source) (wrong source))
     (incf (source-place source))))
 
 (defun take-if (source char)
-  (when (eql (peek source) char) (take source)))
+  (when (eql (peek source) char) (take-char source)))
 
 (defun expect (source char)
   (unless (take-if source char) (wrong source)))
 
 (defun parse-delimited (source mark)
   (with-output-to-string (text)
-    (loop for char = (take source)
+    (loop for char = (take-char source)
           until (char= char mark)
-          do (write-char (if (char= char #\\) (take source) char) text))))
+          do (write-char (if (char= char #\\) (take-char source) char) text))))
+
+(defun parse-text (source)
+  (let ((text (parse-delimited source #\")))
+    (if (source-unicode-p source) (without-references text) text)))
 
 (defun take-word (source enders)
   "The characters up to one of ENDERS or the end."
@@ -112,7 +117,7 @@ A newline ends it outside of lists, strings and bars; only in a refusal is there
     (* sign (/ numerator denominator))))
 
 (defun parse-character (source)
-  (let* ((first (take source))
+  (let* ((first (take-char source))
          (word (concatenate 'string (string first) (take-word source " ()"))))
     (if (= (length word) 1)
         first
@@ -132,7 +137,7 @@ A newline ends it outside of lists, strings and bars; only in a refusal is there
         finally (return (nreverse items))))
 
 (defun parse-sharp (source depth)
-  (case (take source)
+  (case (take-char source)
     (#\\ (parse-character source))
     (#\: (make-symbol (parse-name source)))
     (#\( (coerce (parse-items source depth nil) 'simple-vector))
@@ -142,14 +147,14 @@ A newline ends it outside of lists, strings and bars; only in a refusal is there
   (when (> depth (* 2 +depth-limit+)) (wrong source))
   (let ((char (or (peek source) (wrong source))))
     (cond ((take-if source #\() (parse-items source (1+ depth) t))
-          ((take-if source #\") (parse-delimited source #\"))
+          ((take-if source #\") (parse-text source))
           ((take-if source #\#) (parse-sharp source (1+ depth)))
           ((or (char= char #\-) (char<= #\0 char #\9)) (parse-number source))
           (t (parse-symbol source)))))
 
-(defun parse-answer (text symbol)
-  "The object that TEXT is the printed text of."
-  (let ((source (make-source (coerce text 'simple-string) symbol)))
+(defun parse-answer (text symbol &optional unicode-p)
+  "The object that TEXT is the printed text of; where UNICODE-P is true the references in its texts are characters."
+  (let ((source (make-source (coerce text 'simple-string) symbol unicode-p)))
     (when (find 127 text :key #'char-code :test #'<)
       (malformed text "a character over 127"))
     (prog1 (parse-object source 0)

@@ -139,11 +139,11 @@
              (stopped (condition)
                (when (or (not (killed-p condition)) (> stops *restarts*)) (error condition))))))
 
-(defun open-feed (program folder &key (package *package*) intern options existing)
-  "Starts PROGRAM over FOLDER to feed it messages, and gives the feed when it is open. PROGRAM, PACKAGE, INTERN, OPTIONS
-and EXISTING are those of OPEN-STORE. One feed at a time may be open on a store."
+(defun open-feed (program folder &key (package *package*) intern options existing (unicode t))
+  "Starts PROGRAM over FOLDER to feed it messages, and gives the feed when it is open. PROGRAM, PACKAGE, INTERN, OPTIONS,
+EXISTING and UNICODE are those of OPEN-STORE. One feed at a time may be open on a store."
   (let* ((folder (native-word folder))
-         (naming (make-naming :package (find-package package) :interns-p intern))
+         (naming (make-naming :package (find-package package) :interns-p intern :unicode-p unicode))
          (feed (if (library-word-p program)
                    (make-embedded-feed folder (library-path program) existing naming)
                    (make-feed folder
@@ -203,7 +203,8 @@ and EXISTING are those of OPEN-STORE. One feed at a time may be open on a store.
             (make-condition 'refused :number number :name name)
             (let ((naming (feed-naming feed)))
               (parse-answer answer (lambda (prefix name)
-                                     (symbol-of (home-named prefix name naming) name naming))))))
+                                     (symbol-of (home-named prefix name naming) name naming))
+                            (naming-unicode-p naming)))))
     (malformed-answer (condition) condition)))
 
 (defun feed-text (feed form)

@@ -21,6 +21,7 @@
   "How the symbols of a store are named."
   (package *package* :type package)             ; stands for the store's COMMON-LISP-USER
   (interns-p nil)                               ; whether answers add symbols to it
+  (unicode-p t)                                 ; whether texts may have characters past ASCII
   (current "COMMON-LISP-USER" :type string)     ; the store's current package: answers are printed in it
   (bare '() :type list))                        ; the names of COMMON-LISP that it finds
 

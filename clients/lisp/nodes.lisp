@@ -158,12 +158,12 @@ so many times at most; a try that comes to no connection does not count."
 
 ;;; Opening
 
-(defun open-nodes (nodes &key (package *package*) intern (time-limit 120) (patience 10))
+(defun open-nodes (nodes &key (package *package*) intern (time-limit 120) (patience 10) (unicode t))
   "A feed whose messages go to NODES, a list of HOST:PORT or of paths of sockets. A request goes to one of them, and to
 the next one where that does not answer within PATIENCE seconds; NO-NODE is signalled where none does within TIME-LIMIT.
-PACKAGE and INTERN are those of OPEN-STORE."
+PACKAGE, INTERN and UNICODE are those of OPEN-STORE."
   (check-type nodes cons)
-  (make-node-feed nodes (make-naming :package (find-package package) :interns-p intern) time-limit patience))
+  (make-node-feed nodes (make-naming :package (find-package package) :interns-p intern :unicode-p unicode) time-limit patience))
 
 (defmacro with-nodes ((feed nodes &rest options) &body body)
   "Evaluates BODY with FEED bound to what OPEN-NODES gives, and closes it."

@@ -6,6 +6,7 @@
   :components ((:file "package")
                (:file "conditions")
                (:file "names")
+               (:file "references")
                (:file "printer")
                (:file "answers")
                (:file "texts")

@@ -84,8 +84,9 @@
   (delimited string #\" (lambda (char) (find char "\"\\"))))
 
 (defun put-string (string)
-  (check-characters string string)
-  (put (string-text string)))
+  (let ((text (if (naming-unicode-p *naming*) (with-references string) string)))
+    (check-characters text string)
+    (put (string-text text))))
 
 (defun put-list (list depth)
   (put "(")

@@ -29,6 +29,14 @@ EQUAL by its plain name, as `run DIR --operators` makes it known."
                        (progn (setf (get ',symbol ',indicator) ',new) t)
                        nil)))
 
+(defun take (store symbol indicator &optional default)
+  "Takes the first item away from the list that is the property of a symbol in STORE, and gives it; or DEFAULT, where the list is empty.
+The store has to know CAR and CDR by their plain names, as `run DIR --operators` makes them known."
+  (put-form store `(if (get ',symbol ',indicator)
+                       (car (list (car (get ',symbol ',indicator))
+                                  (setf (get ',symbol ',indicator) (cdr (get ',symbol ',indicator)))))
+                       ',default)))
+
 (defun properties (store symbol)
   "The property list of a symbol in STORE: indicators and properties in turn."
   (look-form store `(symbol-plist ',symbol)))

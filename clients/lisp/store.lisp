@@ -147,7 +147,7 @@ another way leaves it broken."
     (:broken (error 'broken))
     (:closed (error 'closed))))
 
-(defun open-store (program folder &key (package *package*) intern time-limit opening-time-limit options existing)
+(defun open-store (program folder &key (package *package*) intern time-limit opening-time-limit options existing (unicode t))
   "Starts PROGRAM over FOLDER, and gives the store when it is open. Where PROGRAM is :LIBRARY, or a list of it and the
 path of libpazturrok.so, the store is in this process, and has no time limits and no options; EXISTING refuses a
 folder that holds none.
@@ -156,9 +156,10 @@ PACKAGE stands for the store's COMMON-LISP-USER: symbols without a prefix are th
 an answer that the image has no symbol for becomes a symbol of a package of the client's own, as
 PAZTURROK/COMMON-LISP-USER; with INTERN true it becomes one of PACKAGE, as READ would make it.
 TIME-LIMIT is how many seconds an answer may take, OPENING-TIME-LIMIT how many the opening, NIL for any time.
-OPTIONS are further words of the command line, as (\"--snapshot-every\" \"1000\")."
+OPTIONS are further words of the command line, as (\"--snapshot-every\" \"1000\").
+Without UNICODE texts are ASCII alone."
   (let* ((folder (native-word folder))
-         (naming (make-naming :package (find-package package) :interns-p intern))
+         (naming (make-naming :package (find-package package) :interns-p intern :unicode-p unicode))
          (own '("--rescue" "--group"))
          (further (remove-if (lambda (option) (member option own :test #'equal)) options))
          (store (if (library-word-p program)
@@ -251,7 +252,8 @@ BODY was read, if the options have none."
             (make-condition 'refused :number number :name name :place place)
             (let ((naming (store-naming store)))
               (parse-answer answer (lambda (prefix name)
-                                     (symbol-of (home-named prefix name naming) name naming))))))
+                                     (symbol-of (home-named prefix name naming) name naming))
+                            (naming-unicode-p naming)))))
     (malformed-answer (condition) condition)))
 
 (defun outcomes (store texts answers seconds)

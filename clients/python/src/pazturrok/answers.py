@@ -9,6 +9,7 @@ from typing import Optional
 
 from .errors import MalformedAnswerError
 from .printer import CHARACTER_NAMES, DEPTH_LIMIT
+from .references import without_references
 from .values import KEYWORD, Character, DottedList, Symbol, Value
 
 IN_A_LIST = re.compile(rb'[()"|\\\n]')
@@ -139,9 +140,10 @@ def name_of(text: str) -> str:
 class _Parser:
     """Reads the object of a text. `symbol_of` gives that of a symbol, for its prefix, if any, and name."""
 
-    def __init__(self, text: str, symbol_of: SymbolOf) -> None:
+    def __init__(self, text: str, symbol_of: SymbolOf, unicode: bool) -> None:
         self.text = text
         self.symbol_of = symbol_of
+        self.unicode = unicode
         self.place = 0
 
     def wrong(self) -> MalformedAnswerError:
@@ -164,7 +166,8 @@ class _Parser:
         if kind == "opens":
             return self.items(depth + 1, found[0] == "#(")
         if kind == "text":
-            return plain(found["text"])
+            text = plain(found["text"])
+            return without_references(text) if self.unicode else text
         if kind == "number":
             return self.number(found["number"])
         if kind == "character":
@@ -202,11 +205,11 @@ class _Parser:
         return tuple(items) if is_vector else items
 
 
-def parse_answer(text: str, symbol_of: SymbolOf) -> Value:
-    """The object that this is the printed text of."""
+def parse_answer(text: str, symbol_of: SymbolOf, unicode: bool = False) -> Value:
+    """The object that this is the printed text of. With `unicode` references in texts are characters."""
     if not text.isascii():
         raise MalformedAnswerError(text, "a character is over 127")
-    parser = _Parser(text, symbol_of)
+    parser = _Parser(text, symbol_of, unicode)
     value = parser.object()
     if parser.place != len(text):
         raise parser.wrong()

@@ -44,12 +44,13 @@ class EmbeddedStore(Store):
         library: str | os.PathLike[str] | None = None,
         *,
         existing: bool = False,
+        unicode: bool = True,
     ) -> None:
         self._words = []
         self._folder = os.fspath(folder)
         self._flags = EXISTING if existing else 0
         self._calls = calls_of(find_library(library))
-        self._begin(None, None)
+        self._begin(None, None, unicode)
 
     def _start(self) -> Link:
         return Library(self._folder, self._calls, self._flags)
@@ -117,12 +118,13 @@ class EmbeddedMessageStore(MessageStore):
         library: str | os.PathLike[str] | None = None,
         *,
         existing: bool = False,
+        unicode: bool = True,
     ) -> None:
         self._folder = os.fspath(folder)
         self._flags = EXISTING if existing else 0
         self._calls = calls_of(find_library(library))
         self._library: Library | None = None
-        self._begin()
+        self._begin(unicode)
 
     @alone
     def snapshot(self) -> None:

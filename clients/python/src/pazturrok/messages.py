@@ -92,6 +92,7 @@ class MessageStore(Shared, Properties):
 
     One MessageStore at a time may feed a store. `time_limit` is how many seconds the answers of what is sent
     at once may take; `options` are further words of the command line, as ("--snapshot-every", "1000").
+    Without `unicode` texts are ASCII alone.
     """
 
     def __init__(
@@ -101,18 +102,20 @@ class MessageStore(Shared, Properties):
         *,
         time_limit: float | None = None,
         options: Sequence[str] = (),
+        unicode: bool = True,
     ) -> None:
         self._words = [os.fspath(program), "run", os.fspath(folder), "--messages", *options]
         self._time_limit = time_limit
-        self._begin()
+        self._begin(unicode)
 
-    def _begin(self) -> None:
+    def _begin(self, unicode: bool) -> None:
         """Opens the store for the first time."""
+        self._unicode = unicode
         Shared.__init__(self)
         self._program: Program | None = None
         self._is_closed = False
         self._last = 0
-        self._naming = Naming()
+        self._naming = Naming(unicode)
         self._open()
 
     @property
@@ -149,12 +152,12 @@ class MessageStore(Shared, Properties):
 
     def do_all(self, forms: Iterable[Form]) -> list[Outcome]:
         """Has many forms carried out, all sent at once, and gives the value of each, or its exception."""
-        return self._do_texts([text_of(form) for form in forms])
+        return self._do_texts([text_of(form, self._unicode) for form in forms])
 
     @alone
     def ask(self, form: Form) -> Value:
         """Asks for the value of a form, which may change nothing."""
-        return self._naming.value(self._ask(text_of(form)))
+        return self._naming.value(self._ask(text_of(form, self._unicode)))
 
     def _put_form(self, form: list[Value]) -> Value:
         return self.do(form)
@@ -264,9 +267,9 @@ class MessageStore(Shared, Properties):
         self._naming.take(answers[0])
 
 
-def text_of(form: Form) -> str:
+def text_of(form: Form, unicode: bool) -> str:
     """The text of a form, which a store can read as far as its characters and its length go."""
-    text = form if isinstance(form, str) else printed(form)
+    text = form if isinstance(form, str) else printed(form, unicode=unicode)
     check_characters(text, form)
     if len(text) > FORM_LIMIT:
         raise UnsendableError(form, f"it is longer than {FORM_LIMIT} characters")

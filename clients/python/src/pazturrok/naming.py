@@ -18,7 +18,8 @@ NAMING_QUESTION = (
 class Naming:
     """Values by what a store answered last of its names."""
 
-    def __init__(self) -> None:
+    def __init__(self, unicode: bool) -> None:
+        self._unicode = unicode
         self._current = ""
         self._bare: frozenset[str] = frozenset()
 
@@ -41,7 +42,7 @@ class Naming:
         refusal = refusal_of(answer)
         if refusal:
             raise RefusedError(*refusal)
-        return parse_answer(answer, self.symbol)
+        return parse_answer(answer, self.symbol, self._unicode)
 
     def outcome(self, answer: str) -> Outcome:
         """The same, and an exception in place of a value."""

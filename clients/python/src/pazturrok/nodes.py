@@ -105,7 +105,8 @@ class NodeStore(Shared, Properties):
     node, as far as it has come; `read` does so after all that was answered before, by any node, to anybody.
 
     `nodes` are HOST:PORT, or `unix:` and the path of a socket; `context` is for TLS. A call raises NoNodeError where no node
-    answers within `time_limit` seconds; `patience` is how many seconds one of them may say nothing.
+    answers within `time_limit` seconds; `patience` is how many seconds one of them may say nothing. Without
+    `unicode` texts are ASCII alone.
     """
 
     def __init__(
@@ -115,13 +116,14 @@ class NodeStore(Shared, Properties):
         time_limit: float = 120.0,
         patience: float = 10.0,
         context: ssl.SSLContext | None = None,
+        unicode: bool = True,
     ) -> None:
         if not nodes:
             raise ValueError("no nodes")
         super().__init__()
         self._nodes, self._context = list(nodes), context
         self._time_limit, self._patience = time_limit, patience
-        self._naming = Naming()
+        self._naming, self._unicode = Naming(unicode), unicode
         self._connection: Connection | None = None
         self._is_closed = False
         self._at = self._count = 0
@@ -151,14 +153,14 @@ class NodeStore(Shared, Properties):
         A name of one's own makes it one with what another call, or another process, sends under it: 1 to 100
         letters, digits, dots, hyphens and underscores.
         """
-        value = self._do_texts([text_of(form)], name)[0]
+        value = self._do_texts([text_of(form, self._unicode)], name)[0]
         if isinstance(value, StoreError):
             raise value
         return value
 
     def do_all(self, forms: Iterable[Form]) -> list[Outcome]:
         """Has many forms carried out, in their order, and gives the value of each, or its exception."""
-        return self._do_texts([text_of(form) for form in forms], None)
+        return self._do_texts([text_of(form, self._unicode) for form in forms], None)
 
     def ask(self, form: Form) -> Value:
         """Asks the store of one node, as far as it has come; the form may change nothing."""
@@ -197,7 +199,7 @@ class NodeStore(Shared, Properties):
 
     @alone
     def _question(self, kind: str, form: Form) -> Value:
-        text = text_of(form)
+        text = text_of(form, self._unicode)
         return self._naming.value(self._send([f"{kind} {len(text)}\n{text}"], MOST_TRIES)[0][1])
 
     def _send(self, frames: Sequence[str], tries: float = math.inf) -> list[tuple[str, str]]:

@@ -7,6 +7,7 @@ from collections.abc import Iterator
 from fractions import Fraction
 
 from .errors import UnsendableError
+from .references import with_references
 from .values import KEYWORD, LISP, OPERATORS, USER, Character, DottedList, Symbol, Value
 
 FORM_LIMIT = 1 << 20
@@ -40,7 +41,9 @@ def name_text(name: str) -> str:
     return "|" + ESCAPED_IN_BARS.sub(r"\\\g<0>", name) + "|"
 
 
-def string_text(text: str) -> str:
+def string_text(text: str, unicode: bool = False) -> str:
+    if unicode:
+        text = with_references(text)
     check_characters(text, text)
     return '"' + text.replace("\\", "\\\\").replace('"', '\\"') + '"'
 
@@ -74,15 +77,15 @@ def character_text(character: Character) -> str:
     return "#\\" + CHARACTER_NAMES.get(character.text, character.text)
 
 
-def items_pieces(items: list[Value] | tuple[Value, ...], depth: int) -> Iterator[str]:
+def items_pieces(items: list[Value] | tuple[Value, ...], depth: int, unicode: bool) -> Iterator[str]:
     separator = ""
     for item in items:
         yield separator
-        yield from pieces(item, depth)
+        yield from pieces(item, depth, unicode)
         separator = " "
 
 
-def pieces(value: Value | bool | None, depth: int = 0) -> Iterator[str]:
+def pieces(value: Value | bool | None, depth: int, unicode: bool) -> Iterator[str]:
     """The text of an object, piece by piece. True is T; False and None are NIL."""
     if isinstance(value, (list, tuple, DottedList)) and value != []:
         depth += 1
@@ -95,30 +98,33 @@ def pieces(value: Value | bool | None, depth: int = 0) -> Iterator[str]:
     elif isinstance(value, (int, Fraction)):
         yield rational_text(value)
     elif isinstance(value, str):
-        yield string_text(value)
+        yield string_text(value, unicode)
     elif isinstance(value, Character):
         yield character_text(value)
     elif isinstance(value, Symbol):
         yield symbol_text(value)
     elif isinstance(value, (list, tuple)):
         yield "#(" if isinstance(value, tuple) else "("
-        yield from items_pieces(value, depth)
+        yield from items_pieces(value, depth, unicode)
         yield ")"
     elif isinstance(value, DottedList):
         yield "("
-        yield from items_pieces(value.items, depth)
+        yield from items_pieces(value.items, depth, unicode)
         yield " . "
-        yield from pieces(value.tail, depth)
+        yield from pieces(value.tail, depth, unicode)
         yield ")"
     else:
         raise UnsendableError(value, f"a store has no objects of type {type(value).__name__}")
 
 
-def printed(value: Value | bool | None) -> str:
-    """The text of an object, as a form has it."""
+def printed(value: Value | bool | None, *, unicode: bool = True) -> str:
+    """The text of an object, as a form has it.
+
+    Characters past ASCII in texts are references; without `unicode` they are refused.
+    """
     parts = []
     room = FORM_LIMIT
-    for piece in pieces(value):
+    for piece in pieces(value, 0, unicode):
         parts.append(piece)
         room -= len(piece)
         if room < 0:

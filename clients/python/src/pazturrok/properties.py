@@ -12,7 +12,8 @@ Name = Union[Symbol, str]
 """A symbol, or the name of one in COMMON-LISP-USER, as it is printed."""
 
 GET, SETF, SYMBOL_PLIST = Symbol("GET"), Symbol("SETF"), Symbol("SYMBOL-PLIST")
-IF, PROGN, T, EQUAL = Symbol("IF"), Symbol("PROGN"), Symbol("T"), Symbol("EQUAL", "PAZTURROK")
+IF, LIST, PROGN, T = Symbol("IF"), Symbol("LIST"), Symbol("PROGN"), Symbol("T")
+CAR, CDR, EQUAL = Symbol("CAR", "PAZTURROK"), Symbol("CDR", "PAZTURROK"), Symbol("EQUAL", "PAZTURROK")
 
 
 class Properties:
@@ -40,6 +41,16 @@ class Properties:
         place: list[Value] = [GET, *both(name, indicator)]
         form: list[Value] = [IF, [EQUAL, place, quote(old)], [PROGN, [SETF, place, quote(new)], T], NIL]
         return self._put_form(form) not in (NIL, [])
+
+    def take(self, name: Name, indicator: Name, default: Value | None = None) -> Value:
+        """Takes the first item away from the list that is the property of a symbol, and gives it.
+
+        Where the list is empty it gives the default, or NIL. The store has to have the package PAZTURROK, as
+        `run DIR --operators` makes it.
+        """
+        place: list[Value] = [GET, *both(name, indicator)]
+        taken: list[Value] = [CAR, [LIST, [CAR, place], [SETF, place, [CDR, place]]]]
+        return self._put_form([IF, place, taken, quote(NIL if default is None else default)])
 
     def plist(self, name: Name) -> list[tuple[Value, Value]]:
         """The indicators of a symbol, each with its property."""

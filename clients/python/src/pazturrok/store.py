@@ -62,7 +62,8 @@ class Store(Shared, Properties):
     """A program over a folder. Threads may share it: each waits until the one before it has its answers.
 
     `time_limit` is how many seconds an answer may take, `opening_time_limit` how many the opening, None for
-    any time. `options` are further words of the command line, as ("--snapshot-every", "1000").
+    any time. `options` are further words of the command line, as ("--snapshot-every", "1000"). Without
+    `unicode` texts are ASCII alone.
     """
 
     def __init__(
@@ -73,13 +74,15 @@ class Store(Shared, Properties):
         time_limit: float | None = None,
         opening_time_limit: float | None = None,
         options: Sequence[str] = (),
+        unicode: bool = True,
     ) -> None:
         own = ["--rescue", "--group"]
         further = [word for word in options if word not in own]
         self._words = [os.fspath(program), "run", os.fspath(folder), *own, *further]
-        self._begin(time_limit, opening_time_limit)
+        self._begin(time_limit, opening_time_limit, unicode)
 
-    def _begin(self, time_limit: float | None, opening_time_limit: float | None) -> None:
+    def _begin(self, time_limit: float | None, opening_time_limit: float | None, unicode: bool) -> None:
+        self._unicode = unicode
         self._time_limit = time_limit
         self._opening_time_limit = opening_time_limit
         Shared.__init__(self)
@@ -206,7 +209,7 @@ class Store(Shared, Properties):
     def _text(self, form: Form, seconds: float | None) -> str:
         """The text of a form, which some session can read."""
         if not isinstance(form, str):
-            text = printed(form)
+            text = printed(form, unicode=self._unicode)
             self._check_packages(form, seconds)
             return text
         check_characters(form, form)
@@ -301,7 +304,9 @@ class Store(Shared, Properties):
         """The value that an answer tells; or that the form was refused, or answered with nonsense."""
         try:
             refusal = refusal_of(answer)
-            return RefusedError(*refusal, place) if refusal else parse_answer(answer, self._symbol)
+            if refusal:
+                return RefusedError(*refusal, place)
+            return parse_answer(answer, self._symbol, self._unicode)
         except MalformedAnswerError as error:
             return error
 
