@@ -1,4 +1,5 @@
 """A node without etcd: many clients of a store of one machine. Each part gives what is wrong."""
+import contextlib
 import os
 import random
 import signal
@@ -116,9 +117,7 @@ def work(node, place, ended, calls):
 def blow(node, chance):
     kind, one = chance.random(), node.nodes[0]
     if kind < 0.4:
-        process = node.store_process(0)
-        if process:
-            os.kill(process, signal.SIGKILL)
+        killed_stores(node, chance, 1)
     elif kind < 0.7:
         one.kill()
         one.start()
@@ -159,9 +158,10 @@ def killed_stores(node, chance, count):
     while killed < count and time.monotonic() < deadline:
         time.sleep(chance.random() * 0.2)
         process = node.store_process(0)
-        if process:
-            os.kill(process, signal.SIGKILL)
-            killed += 1
+        with contextlib.suppress(ProcessLookupError):
+            if process:
+                os.kill(process, signal.SIGKILL)
+                killed += 1
     return killed
 
 

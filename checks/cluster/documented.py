@@ -1,11 +1,15 @@
 """The commands of cluster/README.md, on three places with the addresses that stand there; and members that stop. Each part gives what is
 wrong."""
+import concurrent.futures
+import contextlib
+import json
 import os
 import re
 import shutil
 import signal
 import subprocess
 import time
+import urllib.request
 
 import apart
 from cluster import HERE, LONG, Client
@@ -166,5 +170,51 @@ def own_member(folder, program):
         cluster.end()
 
 
-LONG_ONES = ("own member", "documented with certificates")
-PARTS = {"documented": documented, "documented with certificates": secured_too, "own member": own_member}
+MOST_SILENT = 3.0
+"""Seconds without an answer, after the leader of etcd has stopped, in one case and the other; of several stops most have to be shorter."""
+
+
+def stopped_leader(folder, program):
+    """The leader of etcd is stopped: each node answers forms again after three seconds, also the one whose own member it is."""
+    cluster, silent = begun(folder, program, members=3, nodes=3), {"its own member": [], "another member": []}
+    try:
+        for _ in range(5):
+            leader = leader_of(cluster)
+            clients = [Client([place], patience=LONG) for place in cluster.places]
+            for client in clients:
+                client.request(b"do", ADD)
+            cluster.members[leader].signal(signal.SIGSTOP)
+            began = time.monotonic()
+            with concurrent.futures.ThreadPoolExecutor() as pool:
+                ends = list(pool.map(lambda client: (client.request(b"do", ADD), time.monotonic())[1], clients))
+            for place, end in enumerate(ends):
+                silent["its own member" if place == leader else "another member"].append(end - began)
+            cluster.members[leader].signal(signal.SIGCONT)
+            time.sleep(3)
+        told = {case: sorted(times) for case, times in silent.items()}
+        for case, times in told.items():
+            print(f"cluster: the leader of etcd, {case} of a node, is stopped: no answer for {' '.join(f'{one:.1f}' for one in times)} s, "
+                  f"load {os.getloadavg()[0]:.0f}", flush=True)
+        return [f"{case} stops: no answer for {times[len(times) // 2]:.1f} s" for case, times in told.items() if times[len(times) // 2] > MOST_SILENT]
+    finally:
+        cluster.end()
+
+
+def leader_of(cluster):
+    """The place of the member that leads."""
+    deadline = time.monotonic() + LONG
+    while time.monotonic() < deadline:
+        for place, url in enumerate(cluster.urls):
+            with contextlib.suppress(OSError), urllib.request.urlopen(url + "/v3/maintenance/status", b"{}", 5) as answer:
+                told = json.load(answer)
+                if told.get("leader") == told["header"]["member_id"]:
+                    return place
+        time.sleep(0.2)
+    raise TimeoutError("no member leads")
+
+
+LONG_ONES = ("own member", "stopped leader", "documented with certificates")
+PARTS = {
+    "documented": documented, "documented with certificates": secured_too, "own member": own_member,
+    "stopped leader": stopped_leader,
+}  # fmt: skip

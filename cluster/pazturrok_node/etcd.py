@@ -20,7 +20,13 @@ TIMEOUT = 5.0
 """Seconds that a call may take, before another member is asked."""
 
 QUICK = 1.5
-"""And so many where it is a short one, for which clients wait."""
+"""And at most so many where it is a short one, for which clients wait."""
+
+QUICKEST = 0.5
+"""And at least so many of these."""
+
+TYPICAL = 10.0
+"""Between them a short call may take so many times as long as those before it took."""
 
 PAUSE = 0.1
 """Seconds after a call that no member answered."""
@@ -96,9 +102,13 @@ class Connection:
         await self._reader.readline()
 
     def close(self) -> None:
+        self.cut()
+        self._reader = self._writer = None
+
+    def cut(self) -> None:
+        """Who waits for something from it has its end."""
         if self._writer is not None:
             self._writer.close()
-        self._reader = self._writer = None
 
 
 class Etcd:
@@ -112,17 +122,23 @@ class Etcd:
         self._free: list[tuple[int, Connection]] = []
         self._revision = 0
         """The greatest that was told. It never falls."""
+        self._took = QUICK / TYPICAL
+        """How many seconds calls take, the last ones above all."""
+        self._silent: set[int] = set()
+        """The members that did not answer the last call to them."""
+        self._watch: Connection | None = None
 
     async def call(self, path: str, body: dict[str, Any], patience: float = TIMEOUT) -> dict[str, Any]:
         """The answer of a call, which is made until a member answers it. So it has to be one that may be made twice."""
         while True:
             at, connection = self._take()
-            before = self._revision
+            before, began = self._revision, time.monotonic()
             try:
                 found = await asyncio.wait_for(self._ask(connection, path, body), patience)
             except (OSError, asyncio.TimeoutError, asyncio.IncompleteReadError, ValueError) as error:
                 connection.close()
                 self._tell_silence(at, error)
+                self._silent.add(at)
                 self._leave(at)
                 await asyncio.sleep(PAUSE)
                 continue
@@ -131,6 +147,8 @@ class Etcd:
                 raise
             self._silent_since, self._told = None, SILENCE
             self._free.append((at, connection))
+            self._took += (time.monotonic() - began - self._took) / TYPICAL
+            self._heed_answer(at)
             if "error" not in found:
                 self._look_back(path, found, before)
                 return found
@@ -140,6 +158,19 @@ class Etcd:
                 raise EtcdError(found["error"])
             self._leave(at)
             await asyncio.sleep(PAUSE)
+
+    @property
+    def quick(self) -> float:
+        """How many seconds a short call may take."""
+        return min(max(TYPICAL * self._took, QUICKEST), QUICK)
+
+    def _heed_answer(self, at: int) -> None:
+        """A member has answered. Where the one that is watched did not, this one is watched from now on."""
+        self._silent.discard(at)
+        if self._watched in self._silent:
+            self._watched = at
+            if self._watch:
+                self._watch.cut()
 
     def _leave(self, at: int) -> None:
         """The next member is asked, unless another call has seen to that."""
@@ -210,7 +241,8 @@ class Etcd:
 
     async def watch(self, ranged: dict[str, Any], revision: int, pause: float) -> AsyncIterator[dict[str, Any]]:
         """The results of a watch from a revision on, one after the other, until its member is silent for so long."""
-        connection = Connection(self._urls[self._watched], self._context)
+        at = self._watched
+        self._watch = connection = Connection(self._urls[at], self._context)
         try:
             # results are cut to the size of a request: a member does not make one of all that a node has missed
             request = {**ranged, "start_revision": str(revision), "fragment": True}
@@ -224,7 +256,8 @@ class Etcd:
             pass
         finally:
             connection.close()
-        self._watched = (self._watched + 1) % len(self._urls)
+        if self._watched == at:
+            self._watched = (at + 1) % len(self._urls)
         await asyncio.sleep(PAUSE)
 
 
