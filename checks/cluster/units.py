@@ -1,9 +1,11 @@
 """The parts of a node by themselves: frames, answers, how requests come into a log, the program of a store; journal_units.py has the journal."""
 import asyncio
+import contextlib
 import errno
 import io
 import logging
 import os
+import re
 import socket
 import sys
 import tempfile
@@ -15,9 +17,11 @@ import journal_units
 sys.path.insert(0, os.path.join(os.path.dirname(os.path.abspath(__file__)), "..", "..", "cluster"))
 
 from pazturrok_node import child as childs  # noqa: E402
+from pazturrok_node import etcd as etcds  # noqa: E402
 from pazturrok_node.answers import Answers  # noqa: E402
 from pazturrok_node.appender import Appender  # noqa: E402
 from pazturrok_node.child import Child  # noqa: E402
+from pazturrok_node.etcd import Etcd  # noqa: E402
 from pazturrok_node.frames import ANSWER, LIMIT, LOST, NO_ROOM, REQUEST, Frames, NoFrameError, request_of  # noqa: E402
 from pazturrok_node.log import BusyError, FullError, Refused  # noqa: E402
 from pazturrok_node.main import free_socket  # noqa: E402
@@ -199,6 +203,47 @@ class ChildTest(unittest.IsolatedAsyncioTestCase):
         one.hear(lambda data: list(frames.split(data)))
         await asyncio.wait_for(one.is_over, 10)
         self.assertEqual(await one.end(), 0)
+
+
+class EtcdTest(unittest.IsolatedAsyncioTestCase):
+    """Members that stand in for those of etcd: one that hangs, and one that answers, and tells a watch one thing."""
+
+    async def member(self, answers):
+        async def serve(reader, writer):
+            with contextlib.suppress(asyncio.IncompleteReadError, ConnectionError):
+                while head := await reader.readuntil(b"\r\n\r\n"):
+                    await reader.readexactly(int(re.search(rb"Content-Length: ([0-9]+)", head)[1]))
+                    if answers:
+                        text = b'{"result": {"header": {"revision": "7"}}}\n' if b"/watch" in head else b'{"header": {"revision": "7"}}'
+                        writer.write(b"HTTP/1.1 200 OK\r\nContent-Length: %d\r\n\r\n%s" % (len(text), text) if b"/watch" not in head else
+                                     b"HTTP/1.1 200 OK\r\nTransfer-Encoding: chunked\r\n\r\n%x\r\n%s\r\n" % (len(text), text))
+
+        server = await asyncio.start_server(serve, "127.0.0.1", 0)
+        self.addAsyncCleanup(server.wait_closed)
+        self.addCleanup(server.close)
+        return f"http://127.0.0.1:{server.sockets[0].getsockname()[1]}"
+
+    async def test_member_that_hangs(self):
+        """It is left, and where it was watched the watch goes to the one that answers, before it was silent for as long as a watch may be."""
+        one = Etcd([await self.member(False), await self.member(True)])
+        told = asyncio.ensure_future(one.watch({}, 1, 60.0).__anext__())
+        with mock.patch.object(etcds, "QUICK", 0.2), mock.patch.object(etcds, "TIMEOUT", 60.0):
+            found = await asyncio.wait_for(one.call("/v3/kv/range", {}, one.quick), 10)
+        self.assertEqual(found, {"header": {"revision": "7"}})
+        with self.assertRaises(StopAsyncIteration):
+            await asyncio.wait_for(told, 10)
+        self.assertEqual(await asyncio.wait_for(one.watch({}, 1, 60.0).__anext__(), 10), {"header": {"revision": "7"}})
+
+    async def test_quick(self):
+        """Where calls are answered soon, a member is left soon; and never sooner than in half a second."""
+        one = Etcd([await self.member(True)])
+        self.assertEqual(one.quick, 1.5)
+        for _ in range(100):
+            await one.call("/v3/kv/range", {})
+        self.assertLess(one.quick, 1.5)
+        self.assertGreaterEqual(one.quick, 0.5)
+        one._took = 100.0
+        self.assertEqual(one.quick, 1.5)
 
 
 class SocketTest(unittest.TestCase):
