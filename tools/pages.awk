@@ -16,7 +16,7 @@ BEGIN {
     kinds["No.|Name|When|Place that is told"] = "refusal"
     kinds["No.|Name|When"] = "refusal"
     kinds["Number|What happened|What to do"] = "fault"
-    FUNCTIONS = "A function of the package PAZTURROK: run DIR --operators makes the plain names known to a store."
+    FUNCTIONS = "An operator of the package PAZTURROK: run DIR --operators makes the plain names known to a store."
 }
 
 # A cell without the marks of a page.

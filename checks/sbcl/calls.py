@@ -12,14 +12,15 @@ CHARACTERS = ["#\\a", "#\\b", "#\\A", "#\\Space", "#\\1"]
 SYMBOLS = ["'A", "'B", "'|ab|", ":K", "NIL", "T", "'#:U", "'ABC"]
 
 # Each operator with what it takes: I an integer or ratio, L a list, P a list of pairs, S a sequence, V a vector, D what
-# stands for a text, O any object, N an index; a star after a mark for any number more of them.
+# stands for a text, O any object, N an index, C a clause of COND; a star after a mark for any number more of them.
 TAKES = {
     "EQL": "OO", "EQUAL": "OO", "NOT": "O", "CONSP": "O", "SYMBOLP": "O", "STRINGP": "O", "INTEGERP": "O",
     "CHARACTERP": "O", "VECTORP": "O", "=": "II*", "/=": "II", "<": "II*", "<=": "II*", ">": "II*", ">=": "II*",
     "MIN": "II*", "MAX": "II*", "+": "I*", "-": "II*", "*": "I*", "FLOOR": "II", "MOD": "II", "STRING=": "DD",
     "STRING<": "DD", "SYMBOL-NAME": "D", "CONS": "OO", "CAR": "L", "CDR": "L", "NTH": "NL", "MEMBER": "OL",
     "ASSOC": "OP", "ADJOIN": "OL", "LENGTH": "S", "REVERSE": "S", "REMOVE": "OS", "SVREF": "VN", "APPEND": "L*",
-    "VECTOR": "O*", "IF": "OOO", "LIST": "O*",
+    "VECTOR": "O*", "IF": "OOO", "LIST": "O*", "AND": "O*", "OR": "O*", "COND": "C*", "WHEN": "OO*", "UNLESS": "OO*",
+    "PROG1": "OO*", "ASSERT": "O",
 }
 # What gives an argument of a kind, often enough for calls within calls to meet.
 GIVES = {
@@ -78,6 +79,8 @@ def argument(random: Random, mark: str, depth: int) -> str:
     """An argument of a kind; now and then of another one."""
     if random.random() < 0.06:
         mark = random.choice("ILSDON")
+    if mark == "C":
+        return f"({' '.join(argument(random, 'O', depth) for _ in range(random.randint(1, 3)))})"
     if depth and random.random() < 0.35:
         return call(random, random.choice(GIVES[mark]), depth - 1)
     if mark in "IN":

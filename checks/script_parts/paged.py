@@ -43,8 +43,8 @@ def function_told(script: str, function: str, rows: List[str]) -> None:
 
 def check_functions(script: str) -> None:
     """The help of each function: those of the page are those that lisp/operators.lisp makes known."""
-    table = page("operators.md").split("\n| Form | Value | Refusals |\n")[1].split("\n\n")[0]
-    rows = [row for row in table.splitlines() if row.startswith("| `")]
+    tables = page("operators.md").split("\n| Form | Value | Refusals |\n")[1:]
+    rows = [row for table in tables for row in table.split("\n\n")[0].splitlines() if row.startswith("| `")]
     of_page = {name for row in rows for name in re.findall(r"`\(([^ )]+)[^`]*`", row.split("|")[1])}
     with open(os.path.join(TOP, "lisp", "operators.lisp"), encoding="ascii") as file:
         made_known = set(re.findall(r"PAZTURROK::([^ )\n]+)", file.read()))

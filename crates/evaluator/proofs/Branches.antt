@@ -1,4 +1,5 @@
 -- IF, by what its first argument gives.
+--     other_one      the value of a form
 --     choice_refused, choice_true, choice_none, choice_other      it is refused, true, or NIL with and without a third argument
 use Rattle.std.proofs.Common.{◌≡◌, ◌≤◌, Bool, true, false, cond, List, [], ◌∷◌, Result, Ok, Err, map, length, drop, get_or, refl, sym, ap, subst, ◌∙◌, arith}
 use Rattle.lisp_object.specs.declared.datum.Datum.{Datum}
@@ -69,7 +70,7 @@ other_none : (names : List Name) (s : WorldState) → other_value names s nil �
 unfolding value_over
 other_none names s = refl
 
-other_one : (names : List Name) (s : WorldState) (x rest : Object) → other_value names s (pair x rest) ≡ value names s x
+pub other_one : (names : List Name) (s : WorldState) (x rest : Object) → other_value names s (pair x rest) ≡ value names s x
 unfolding value_over
 other_one names s x rest = refl
 

@@ -21,7 +21,7 @@ use Rattle.lisp_operators.specs.declared.error.EvaluationError.TheVariants.{Refu
 use Rattle.lisp_operators.specs.declared.evaluated.Evaluated.{Evaluated}
 use Rattle.evaluator.specs.declared.values.Values.{Values}
 use Rattle.evaluator.specs.declared.operation.Operation.{Operation}
-use Rattle.evaluator.specs.declared.operation.Operation.TheVariants.{Quote, Progn, If, MakeList, Get, Setf, Remprop, SymbolPlist, Incf, Push, MakePackage, InPackage, Export, Import, UsePackage, Intern, CopyReadtable, InReadtable, SetSyntaxFromChar, SetMacroCharacter, GetMacroCharacter, MakeDispatchMacroCharacter, SetDispatchMacroCharacter, GetDispatchMacroCharacter, ReadtableCase, Computes}
+use Rattle.evaluator.specs.declared.operation.Operation.TheVariants.{Quote, Progn, If, MakeList, Get, Setf, Remprop, SymbolPlist, Incf, Push, MakePackage, InPackage, Export, Import, UsePackage, Intern, CopyReadtable, InReadtable, SetSyntaxFromChar, SetMacroCharacter, GetMacroCharacter, MakeDispatchMacroCharacter, SetDispatchMacroCharacter, GetDispatchMacroCharacter, ReadtableCase, Computes, Decides}
 use Rattle.lisp_operators.specs.Kinds.{a_symbol, is_pair}
 use Rattle.lisp_operators.specs.Properties.{set}
 use Rattle.lisp_operators.specs.Readtables.{set_case}
@@ -130,6 +130,7 @@ ordinary_is names MakeDispatchMacroCharacter s arguments e = refl
 ordinary_is names SetDispatchMacroCharacter s arguments e = refl
 ordinary_is names GetDispatchMacroCharacter s arguments e = refl
 ordinary_is names ReadtableCase s arguments e = refl
+ordinary_is names (Decides decision) s arguments e = absurd (false≢true e)
 ordinary_is names (Computes function) s arguments e = ap (λ f. and_then (values names s arguments) f) (bounded function (most_arguments function) e)
 
 pub performed : (wanted : Wanted) (names : List Name) (operation : Operation) (place : Place) (s t u : WorldState) (arguments : Object) (v : Values) (r : Result Evaluated EvaluationError) → is_ordinary operation ≡ true

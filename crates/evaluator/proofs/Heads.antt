@@ -1,6 +1,7 @@
 -- What is at the head of a form.
 --     operator_named_among      the operators by their names
 --     of_lisp, of_own, of_none      the operator of a symbol
+--     function_found, function_missing, decision_found, decision_missing      those of PAZTURROK by their names
 --     head_value      a form by its operator
 use Rattle.std.proofs.Common.{◌≡◌, ℕ, Bool, true, false, cond, not, List, [], ◌∷◌, ◌++◌, Option, Some, None, Err, option_map, bytes_eq, codes, refl, sym, ap, subst, ◌∙◌}
 use Rattle.std.specs.Option.{option_or}
@@ -8,14 +9,15 @@ use Rattle.package_table.specs.Table.{Name, common_lisp}
 use Rattle.lisp_object.specs.Object.{Object, integer, rational, character, text, symbol, uninterned, pair, vector, is_proper_list}
 use Rattle.plist_state.specs.State.{WorldState}
 use Rattle.evaluator.specs.declared.operation.Operation.{Operation}
-use Rattle.evaluator.specs.declared.operation.Operation.TheVariants.{Quote, Progn, If, MakeList, Get, Setf, Remprop, SymbolPlist, Incf, Push, MakePackage, InPackage, Export, Import, UsePackage, Intern, CopyReadtable, InReadtable, SetSyntaxFromChar, SetMacroCharacter, GetMacroCharacter, MakeDispatchMacroCharacter, SetDispatchMacroCharacter, GetDispatchMacroCharacter, ReadtableCase, Computes}
+use Rattle.evaluator.specs.declared.operation.Operation.TheVariants.{Quote, Progn, If, MakeList, Get, Setf, Remprop, SymbolPlist, Incf, Push, MakePackage, InPackage, Export, Import, UsePackage, Intern, CopyReadtable, InReadtable, SetSyntaxFromChar, SetMacroCharacter, GetMacroCharacter, MakeDispatchMacroCharacter, SetDispatchMacroCharacter, GetDispatchMacroCharacter, ReadtableCase, Computes, Decides}
+use Rattle.evaluator.specs.declared.decision.Decision.TheVariants.{And, Or, Cond, When, Unless, Prog1, Assert}
 use Rattle.lisp_object.specs.declared.refusal.TheConstants.{NOT_A_FORM, UNKNOWN_OPERATOR, ARGUMENT_COUNT}
 use Rattle.package_table.proofs.Names.{same_some, none_some}
 use Rattle.lisp_operators.specs.Kinds.{a_symbol}
 use Rattle.value_functions.specs.declared.functions.ValueFunction.{ValueFunction}
 use Rattle.value_functions.specs.Functions.{function_named}
 use Rattle.evaluator.specs.Operators.{Operator, operator_named, operator_of, function_operator, pazturrok, pazturrok_operator, is_interned, count, counts}
-use Rattle.evaluator.specs.Operations.{operator, action_of, among, operators_on_data, operators_on_packages, operators_on_readtables}
+use Rattle.evaluator.specs.Operations.{operator, action_of, among, operators_on_data, operators_on_packages, operators_on_readtables, operators_that_decide}
 use Rattle.evaluator.specs.Value.{value, form_value_by, action_value, value_over}
 use Rattle.evaluator.specs.Gathered.{parts}
 
@@ -77,11 +79,44 @@ of_none names h n lisp own is other at neither =
     ap (λ b. cond b (pazturrok_operator n) None) (sym neither ∙ at)
     ∙ ap (λ b. cond b (operator_named names n) (cond (bytes_eq h pazturrok) (pazturrok_operator n) None)) (sym other ∙ is)
 
-pub function_found : (names : List Name) (n : Name) (function : ValueFunction) → Some function ≡ function_named n → option_map (operator names) (Some (Computes function)) ≡ pazturrok_operator n
+-- those of PAZTURROK: functions of values, and those that decide
+pub function_found : (names : List Name) (n : Name) (function : ValueFunction) → Some function ≡ function_named n
+    → option_map (operator names) (Some (Computes function)) ≡ option_map function_operator (function_named n)
 function_found names n function is = ap (option_map function_operator) is
 
-pub function_missing : (names : List Name) (n : Name) → None ≡ function_named n → option_map (operator names) None ≡ pazturrok_operator n
+pub function_missing : (names : List Name) (n : Name) → None ≡ function_named n → option_map (operator names) None ≡ option_map function_operator (function_named n)
 function_missing names n is = ap (option_map function_operator) is
+
+module _ (names : List Name) (name : Name) where
+  -- this operator, or another one
+  abbrev operator_or : Option Operator → Option Operation → Option Operator
+  operator_or other (Some operation) = Some (operator names operation)
+  operator_or other None = other
+
+  pick_or : (b : Bool) (x : Operation) (other : Option Operator) (r : Option Operation) (q : Option Operator) → operator_or other r ≡ q
+      → operator_or other (cond b (Some x) r) ≡ cond b (Some (operator names x)) q
+  pick_or true x other r q e = refl
+  pick_or false x other r q e = e
+
+  abbrev functions_named : Option Operator
+  functions_named = option_map function_operator (function_named name)
+
+  all_deciding : operator_or functions_named (among operators_that_decide name) ≡ pazturrok_operator name
+  all_deciding =
+      pick_or (bytes_eq name (codes "AND")) (Decides And) functions_named _ _
+      (pick_or (bytes_eq name (codes "OR")) (Decides Or) functions_named _ _
+      (pick_or (bytes_eq name (codes "COND")) (Decides Cond) functions_named _ _
+      (pick_or (bytes_eq name (codes "WHEN")) (Decides When) functions_named _ _
+      (pick_or (bytes_eq name (codes "UNLESS")) (Decides Unless) functions_named _ _
+      (pick_or (bytes_eq name (codes "PROG1")) (Decides Prog1) functions_named _ _
+      (pick_or (bytes_eq name (codes "ASSERT")) (Decides Assert) functions_named _ _ refl))))))
+
+  pub decision_found : (operation : Operation) → Some operation ≡ among operators_that_decide name → option_map (operator names) (Some operation) ≡ pazturrok_operator name
+  decision_found operation is = ap (operator_or functions_named) is ∙ all_deciding
+
+  pub decision_missing : (r : Option Operation) → None ≡ among operators_that_decide name → option_map (operator names) r ≡ option_map function_operator (function_named name)
+      → option_map (operator names) r ≡ pazturrok_operator name
+  decision_missing r none same = same ∙ ap (operator_or functions_named) none ∙ all_deciding
 
 -- an interned symbol at the head
 pub symbol_of_some : (x : Object) (p : Name × Name) → a_symbol x ≡ Some p → x ≡ symbol p.0 p.1

@@ -5,20 +5,20 @@
 use Rattle.std.proofs.Common.{◌≡◌, pos, refl, Bool, true, false, not, ◌&&◌, ◌||◌, ◌==◌, cond, List, [], ◌∷◌, ◌++◌, Option, Some, None, option_map, Err, codes, bytes_eq, arith}
 use Rattle.std.specs.Prelude.{ℕ}
 use Rattle.std.proofs.lemmas.Bool.{and_parts}
-use Rattle.lisp_object.specs.Object.{Object, integer, rational, character, text, symbol, uninterned, pair, vector, nil, is_proper_list}
+use Rattle.lisp_object.specs.Object.{Object, integer, rational, character, text, symbol, uninterned, pair, vector, nil, list_of, is_proper_list}
 use Rattle.package_table.specs.Table.{Name, common_lisp, keyword}
 use Rattle.plist_state.specs.State.{WorldState}
-use Rattle.lisp_operators.specs.Kinds.{is_true}
+use Rattle.lisp_operators.specs.Kinds.{is_true, is_pair}
 use Rattle.lisp_operators.specs.Evaluation.{Evaluation, gives, and_then}
-use Rattle.lisp_operators.specs.Properties.{list, get, set, remove, symbol_plist, increment, push}
+use Rattle.lisp_operators.specs.Properties.{t, list, get, set, remove, symbol_plist, increment, push}
 use Rattle.lisp_operators.specs.Packages.{make, enter, intern, export, import, use_package}
 use Rattle.lisp_operators.specs.ReadBase.{set_base}
 use Rattle.lisp_operators.specs.Readtables.{a_keyword_of, readtable_case, set_case, copy_readtable, enter_readtable, set_syntax, set_macro, get_macro, make_dispatch, set_dispatch, get_dispatch}
 use Rattle.lisp_operators.proofs.Numbered.{IsNumber}
 use Rattle.value_functions.specs.declared.functions.ValueFunction.{ValueFunction as OfValues}
 use Rattle.value_functions.specs.Functions.{function_named}
-use Rattle.evaluator.specs.Operators.{Operator, Action, quotes, sequence, chooses, assigns, increments, pushes, enters_package, calls, computed, function_operator, operator_named, pazturrok, pazturrok_operator, operator_of, is_standard, is_interned, count, counts, first}
-use Rattle.evaluator.specs.Value.{value_by, values_by, choice_by, other_value_by, values_at_place_by, values_before_place_by, symbol_value_by, Parts, action_value_by, form_value_by, unless, last, is_base_by, is_case_place, place_refusal_by, case_place_refusal, get_place_refusal, set_place_by, rest, value_over}
+use Rattle.evaluator.specs.Operators.{Operator, Action, quotes, sequence, chooses, assigns, increments, pushes, enters_package, calls, seeks, selects, guards, keeps_first, asserts, computed, function_operator, operator_named, pazturrok, pazturrok_operator, operator_of, is_standard, is_interned, count, counts, first}
+use Rattle.evaluator.specs.Value.{value_by, values_by, choice_by, other_value_by, values_at_place_by, values_before_place_by, sought_by, selected_by, guarded_by, symbol_value_by, Parts, action_value_by, form_value_by, unless, last, has_truth, are_clauses, is_base_by, is_case_place, place_refusal_by, case_place_refusal, get_place_refusal, set_place_by, rest, value_over}
 
 -- ---- why an object is no place
 abbrev IsNumbered : Option ℕ → Type 0
@@ -80,11 +80,13 @@ module _ (based : Bool) (names : List Name) (Asks : WorldState → Object → Ty
   pub record Steps : Type 0 where
     pub operators : Operators
     pub last_one : Function (λ xs later. gives (last xs) later)
+    pub first_one : Function (λ xs later. gives (first (list_of xs)) later)
     pub in_package : (s : WorldState) (x asked : Object) → Asks s asked → One s (enter x s)
     pub refused : (s : WorldState) (code : ℕ) → IsNumber code → One s (Err code)
     pub all_refused : (s : WorldState) (code : ℕ) → IsNumber code → All s (Err code)
     pub itself : (s : WorldState) (x : Object) → Asks s x → One s (gives x s)
     pub nothing : (s : WorldState) (asked : Object) → Asks s asked → One s (gives nil s)
+    pub truth : (s : WorldState) (asked : Object) → Asks s asked → One s (gives t s)
     pub current_package : (s : WorldState) (asked : Object) → Asks s asked → One s (gives (text s.current_package) s)
     pub current_readtable : (s : WorldState) (asked : Object) → Asks s asked → One s (gives (a_keyword_of s.current_readtable) s)
     pub read_base : (s : WorldState) (asked : Object) → Asks s asked → One s (gives (integer (pos s.read_base)) s)
@@ -95,8 +97,8 @@ module _ (based : Bool) (names : List Name) (Asks : WorldState → Object → Ty
         → All s (and_then o (λ y later. and_then (others later) (λ ys end'. gives (y ∷ ys) end')))
     pub more : (s : WorldState) (o : Evaluation (List Object)) (others : WorldState → Evaluation (List Object)) → All s o → ((t : WorldState) → Later s t → All t (others t))
         → All s (and_then o (λ xs later. and_then (others later) (λ ys end'. gives (xs ++ ys) end')))
-    -- a value, and then the one that it chooses
-    pub then_one : (s : WorldState) (o : Evaluation Object) (next : Object → WorldState → Evaluation Object) → One s o → ((y : Object) (t : WorldState) → Later s t → One t (next y t)) → One s (and_then o next)
+    -- a value, and then the one that it chooses, which may be itself
+    pub then_one : (s : WorldState) (o : Evaluation Object) (next : Object → WorldState → Evaluation Object) → One s o → ((y : Object) (t : WorldState) → Later s t → One t (gives y t) → One t (next y t)) → One s (and_then o next)
     -- a function of values
     pub of_values : (s : WorldState) (o : Evaluation (List Object)) (function : List Object → WorldState → Evaluation Object) → All s o → Function function → One s (and_then o function)
 
@@ -146,10 +148,20 @@ module _ (based : Bool) (names : List Name) (Asks : WorldState → Object → Ty
     of_function (Some function) = steps.operators.computes function
     of_function None = tt
 
+    of_pazturrok : (name : Name) → OperatorHolds (pazturrok_operator name)
+    of_pazturrok name =
+        either (bytes_eq name (codes "AND")) _ _ tt
+        (either (bytes_eq name (codes "OR")) _ _ tt
+        (either (bytes_eq name (codes "COND")) _ _ tt
+        (either (bytes_eq name (codes "WHEN")) _ _ tt
+        (either (bytes_eq name (codes "UNLESS")) _ _ tt
+        (either (bytes_eq name (codes "PROG1")) _ _ tt
+        (either (bytes_eq name (codes "ASSERT")) _ _ tt (of_function (function_named name))))))))
+
     of_head : (head : Object) → OperatorHolds (operator_of names head)
     of_head (symbol home name) =
         either (bytes_eq home common_lisp) (operator_named names name) _ (of_name name)
-        (either (bytes_eq home pazturrok) (pazturrok_operator name) None (of_function (function_named name)) tt)
+        (either (bytes_eq home pazturrok) (pazturrok_operator name) None (of_pazturrok name) tt)
     of_head (integer n) = tt
     of_head (rational n d) = tt
     of_head (character c) = tt
@@ -164,10 +176,19 @@ module _ (based : Bool) (names : List Name) (Asks : WorldState → Object → Ty
       chosen : One s parts.chosen
       at_place : All s parts.at_place
       before_place : All s parts.before_place
+      first_one : One s parts.first_one
+      sought : (truth : Bool) → One s (parts.sought truth)
+      selected : One s parts.selected
+      guarded : (truth : Bool) → One s (parts.guarded truth)
 
     if_one : (s : WorldState) (b : Bool) (x y : Evaluation Object) → One s x → One s y → One s (cond b x y)
     if_one s true x y first second = first
     if_one s false x y first second = second
+
+    -- AND and OR of no form
+    none_sought : (truth : Bool) (s : WorldState) (asked : Object) → Asks s asked → One s (gives (cond truth nil t) s)
+    none_sought true s asked asks = steps.nothing s asked asks
+    none_sought false s asked asks = steps.truth s asked asks
 
     unless_one : (s : WorldState) (o : Option ℕ) (on : Evaluation Object) → IsNumbered o → One s on → One s (unless o on)
     unless_one s (Some code) on number is = steps.refused s code number
@@ -202,6 +223,13 @@ module _ (based : Bool) (names : List Name) (Asks : WorldState → Object → Ty
         unless_one s (get_place_refusal (first (rest arguments))) _ (get_place_numbered (first (rest arguments))) (steps.of_values s parts.before_place push all.before_place steps.operators.pushes)
     of_action s enters_package arguments parts asks holds all = steps.in_package s (first arguments) arguments asks
     of_action s (calls function) arguments parts asks holds all = steps.of_values s parts.in_order function all.in_order holds
+    of_action s (seeks truth) arguments parts asks holds all = all.sought truth
+    of_action s selects arguments parts asks holds all =
+        if_one s (are_clauses arguments) _ _ all.selected (steps.refused s _ (omega arith, omega arith))
+    of_action s (guards truth) arguments parts asks holds all = all.guarded truth
+    of_action s keeps_first arguments parts asks holds all = steps.of_values s parts.in_order (λ xs later. gives (first (list_of xs)) later) all.in_order steps.first_one
+    of_action s asserts arguments parts asks holds all =
+        steps.then_one s parts.first_one _ all.first_one (λ y t still _. if_one t (is_true y) _ _ (steps.nothing t arguments (still arguments asks)) (steps.refused t _ (omega arith, omega arith)))
 
     of_form : (s : WorldState) (operator : Option Operator) (arguments : Object) (parts : Parts) → Asks s arguments → OperatorHolds operator → PartsHold s parts → One s (form_value_by based s operator arguments parts)
     of_form s None arguments parts asks holds all = steps.refused s _ (omega arith, omega arith)
@@ -228,6 +256,10 @@ module _ (based : Bool) (names : List Name) (Asks : WorldState → Object → Ty
             chosen = of_choice s arguments given;
             at_place = at_place s arguments given;
             before_place = before_place s arguments given;
+            first_one = of_other s arguments given;
+            sought = λ truth. of_sought truth s arguments given;
+            selected = of_clauses s arguments given;
+            guarded = λ truth. of_guarded truth s arguments given;
           }))
       every_value s (symbol home name) asks = of_symbol s home name asks
       every_value s (uninterned name) asks = steps.refused s _ (omega arith, omega arith)
@@ -254,7 +286,7 @@ module _ (based : Bool) (names : List Name) (Asks : WorldState → Object → Ty
           let both = steps.parts s test (pair then' others) asks in
           let branches = steps.parts s then' others both.1 in
           steps.then_one s (value_by based names s test) _ (every_value s test both.0)
-          (λ x t still. if_one t (is_true x) (value_by based names t then') (other_value_by based names t others) (every_value t then' (still then' branches.0)) (of_other t others (still others branches.1)))
+          (λ x t still _. if_one t (is_true x) (value_by based names t then') (other_value_by based names t others) (every_value t then' (still then' branches.0)) (of_other t others (still others branches.1)))
       of_choice s _ asks = steps.refused s _ (omega arith, omega arith)
 
       of_other : (s : WorldState) (x : Object) → Asks s x → One s (other_value_by based names s x)
@@ -266,6 +298,45 @@ module _ (based : Bool) (names : List Name) (Asks : WorldState → Object → Ty
       of_other s (character c) asks = steps.nothing s (character c) asks
       of_other s (text characters) asks = steps.nothing s (text characters) asks
       of_other s (vector xs) asks = steps.nothing s (vector xs) asks
+
+      of_sought : (truth : Bool) (s : WorldState) (x : Object) → Asks s x → One s (sought_by based names truth s x)
+      of_sought truth s (pair x xs) asks =
+          let both = steps.parts s x xs asks in
+          steps.then_one s (value_by based names s x) _ (every_value s x both.0)
+          (λ y t still itself. if_one t (has_truth truth y) _ _ itself (if_one t (is_pair xs) _ _ (of_sought truth t xs (still xs both.1)) itself))
+      of_sought truth s (symbol home name) asks = none_sought truth s (symbol home name) asks
+      of_sought truth s (uninterned name) asks = none_sought truth s (uninterned name) asks
+      of_sought truth s (integer n) asks = none_sought truth s (integer n) asks
+      of_sought truth s (rational n d) asks = none_sought truth s (rational n d) asks
+      of_sought truth s (character c) asks = none_sought truth s (character c) asks
+      of_sought truth s (text characters) asks = none_sought truth s (text characters) asks
+      of_sought truth s (vector xs) asks = none_sought truth s (vector xs) asks
+
+      of_clauses : (s : WorldState) (x : Object) → Asks s x → One s (selected_by based names s x)
+      of_clauses s (pair (pair test forms) others) asks =
+          let both = steps.parts s (pair test forms) others asks in
+          let clause = steps.parts s test forms both.0 in
+          steps.then_one s (value_by based names s test) _ (every_value s test clause.0)
+          (λ y t still itself. if_one t (is_true y) _ _
+          (if_one t (is_pair forms) _ _ (steps.of_values t (values_by based names t forms) (λ xs later. gives (last xs) later) (all_values t forms (still forms clause.1)) steps.last_one) itself)
+          (of_clauses t others (still others both.1)))
+      of_clauses s (pair _ others) asks = steps.refused s _ (omega arith, omega arith)
+      of_clauses s (symbol home name) asks = steps.nothing s (symbol home name) asks
+      of_clauses s (uninterned name) asks = steps.nothing s (uninterned name) asks
+      of_clauses s (integer n) asks = steps.nothing s (integer n) asks
+      of_clauses s (rational n d) asks = steps.nothing s (rational n d) asks
+      of_clauses s (character c) asks = steps.nothing s (character c) asks
+      of_clauses s (text characters) asks = steps.nothing s (text characters) asks
+      of_clauses s (vector xs) asks = steps.nothing s (vector xs) asks
+
+      of_guarded : (truth : Bool) (s : WorldState) (x : Object) → Asks s x → One s (guarded_by based names truth s x)
+      of_guarded truth s (pair test forms) asks =
+          let both = steps.parts s test forms asks in
+          steps.then_one s (value_by based names s test) _ (every_value s test both.0)
+          (λ y t still _. if_one t (has_truth truth y) _ _
+          (steps.of_values t (values_by based names t forms) (λ xs later. gives (last xs) later) (all_values t forms (still forms both.1)) steps.last_one)
+          (steps.nothing t forms (still forms both.1)))
+      of_guarded truth s _ asks = steps.refused s _ (omega arith, omega arith)
 
       at_place : (s : WorldState) (x : Object) → Asks s x → All s (values_at_place_by based names s x)
       at_place s (pair (pair head subforms) forms) asks =

@@ -57,11 +57,13 @@ module _ (based : Bool) (names : List Name) (Kept : WorldState → WorldState �
   steps = record {
     operators = operators;
     last_one = λ xs later. record { kept = changes.none later };
+    first_one = λ xs later. record { kept = changes.none later };
     in_package = λ s x asked _. enter_keeps names Kept changes x s;
     refused = λ s code _. record { kept = tt };
     all_refused = λ s code _. record { kept = tt };
     itself = λ s x _. record { kept = changes.none s };
     nothing = λ s asked _. record { kept = changes.none s };
+    truth = λ s asked _. record { kept = changes.none s };
     current_package = λ s asked _. record { kept = changes.none s };
     current_readtable = λ s asked _. record { kept = changes.none s };
     read_base = λ s asked _. record { kept = changes.none s };
@@ -69,7 +71,7 @@ module _ (based : Bool) (names : List Name) (Kept : WorldState → WorldState �
     parts = λ s a b _. (tt, tt);
     one_more = λ s o others is each. keeps_then Kept changes.both s o _ is (λ y t. keeps_then Kept changes.both t (others t) _ (each t (λ _ _. tt)) (λ ys end'. record { kept = changes.none end' }));
     more = λ s o others is each. keeps_then Kept changes.both s o _ is (λ xs t. keeps_then Kept changes.both t (others t) _ (each t (λ _ _. tt)) (λ ys end'. record { kept = changes.none end' }));
-    then_one = λ s o next is each. keeps_then Kept changes.both s o next is (λ y t. each y t (λ _ _. tt));
+    then_one = λ s o next is each. keeps_then Kept changes.both s o next is (λ y t. each y t (λ _ _. tt) (record { kept = changes.none t }));
     of_values = λ s o function is keeps. keeps_then Kept changes.both s o function is keeps;
   }
 

@@ -5,6 +5,8 @@ pub mod Forms
 pub mod Seen
 pub mod Branches
 pub mod Sequences
+pub mod ClauseShapes
+pub mod Deciding
 pub mod ListItems
 pub mod Lists
 pub mod QuotedKeys

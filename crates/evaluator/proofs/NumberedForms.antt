@@ -50,11 +50,13 @@ module _ (names : List Name) where
   steps = record {
     operators = operators;
     last_one = λ xs later. record { number = tt };
+    first_one = λ xs later. record { number = tt };
     in_package = λ s x asked _. enter_numbered x s;
     refused = λ s code is. record { number = is };
     all_refused = λ s code is. record { number = is };
     itself = λ s x _. record { number = tt };
     nothing = λ s asked _. record { number = tt };
+    truth = λ s asked _. record { number = tt };
     current_package = λ s asked _. record { number = tt };
     current_readtable = λ s asked _. record { number = tt };
     read_base = λ s asked _. record { number = tt };
@@ -62,7 +64,7 @@ module _ (names : List Name) where
     parts = λ s a b _. (tt, tt);
     one_more = λ s o others is each. numbered_then o _ is (λ y t. numbered_then (others t) _ (each t (λ _ _. tt)) (λ ys end'. record { number = tt }));
     more = λ s o others is each. numbered_then o _ is (λ xs t. numbered_then (others t) _ (each t (λ _ _. tt)) (λ ys end'. record { number = tt }));
-    then_one = λ s o next is each. numbered_then o next is (λ y t. each y t (λ _ _. tt));
+    then_one = λ s o next is each. numbered_then o next is (λ y t. each y t (λ _ _. tt) (record { number = tt }));
     of_values = λ s o function is numbered. numbered_then o function is numbered;
   }
 

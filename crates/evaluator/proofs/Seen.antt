@@ -62,7 +62,7 @@ stand_in_value Depth u x is = elim (nat_lt 99 (object_depth x)) as (λ b. IsValu
 stand_in_value Nothing u x is = base_value u 1 (omega arith)
 
 -- ---- what the calls of operators tell
-false_nil : (x : Object) → is_true x ≡ false → x ≡ nil
+pub false_nil : (x : Object) → is_true x ≡ false → x ≡ nil
 false_nil (symbol h n) is = nil_symbol h n (elim (is_nil h n) as (λ b. cond b false true ≡ false → b ≡ true) [ true ↦ λ _. refl | false ↦ λ e. absurd (false≢true (sym e)) ] is)
 false_nil (integer n) is = absurd (false≢true (sym is))
 false_nil (rational n d) is = absurd (false≢true (sym is))

@@ -59,7 +59,7 @@ step_of names s t x g rest y v is =
     ∙ also_last v (and_then (values names t (pair g rest)) (λ ys end'. gives (y ∷ ys) end'))
     ∙ ap (also v) (two_forms names t y g rest)
 
-any_default : (xs : List Datum) (i : ℕ) (d : Datum) → get_or xs i d ≡ get_or xs i (get_or xs i d)
+pub any_default : (xs : List Datum) (i : ℕ) (d : Datum) → get_or xs i d ≡ get_or xs i (get_or xs i d)
 any_default [] i d = refl
 any_default (x ∷ xs) zero d = refl
 any_default (x ∷ xs) (suc i) d = any_default xs i d

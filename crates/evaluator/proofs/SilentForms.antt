@@ -46,11 +46,13 @@ module _ (names : List Name) where
   steps = record {
     operators = operators;
     last_one = λ xs later. record { same = λ _. refl };
+    first_one = λ xs later. record { same = λ _. refl };
     in_package = λ s x asked _. enter_silent x s;
     refused = λ s code _. record { same = tt };
     all_refused = λ s code _. record { same = tt };
     itself = λ s x _. record { same = λ _. refl };
     nothing = λ s asked _. record { same = λ _. refl };
+    truth = λ s asked _. record { same = λ _. refl };
     current_package = λ s asked _. record { same = λ _. refl };
     current_readtable = λ s asked _. record { same = λ _. refl };
     read_base = λ s asked _. record { same = λ _. refl };
@@ -58,7 +60,7 @@ module _ (names : List Name) where
     parts = λ s a b _. (tt, tt);
     one_more = λ s o others is each. keeps_then s o _ is (λ y t. keeps_then t (others t) _ (each t (λ _ _. tt)) (λ ys end'. record { same = λ _. refl }));
     more = λ s o others is each. keeps_then s o _ is (λ xs t. keeps_then t (others t) _ (each t (λ _ _. tt)) (λ ys end'. record { same = λ _. refl }));
-    then_one = λ s o next is each. keeps_then s o next is (λ y t. each y t (λ _ _. tt));
+    then_one = λ s o next is each. keeps_then s o next is (λ y t. each y t (λ _ _. tt) (record { same = λ _. refl }));
     of_values = λ s o function is silent. keeps_then s o function is silent;
   }
 

@@ -2,7 +2,7 @@
 --     value_safe      the value of a form
 use Rattle.std.proofs.Common.{pos, true, false, List, [], ◌∷◌, ◌++◌}
 use Rattle.std.proofs.lemmas.List.Elements.{All-append, All-cons, All-nil, All-head, All-tail}
-use Rattle.lisp_object.specs.Object.{Object, integer, text, nil}
+use Rattle.lisp_object.specs.Object.{Object, integer, text, nil, list_of}
 use Rattle.package_table.specs.Table as packages
 use Rattle.package_table.specs.Table.{Name, Table, keyword}
 use Rattle.package_table.specs.Growth.{Grows}
@@ -11,11 +11,13 @@ use Rattle.plist_state.specs.Sound.{IsValue, IsSound}
 use Rattle.lisp_operators.specs.Evaluation.{Evaluation, gives, and_then}
 use Rattle.lisp_operators.specs.Readtables.{AreFunctionNames, a_keyword_of}
 use Rattle.lisp_operators.proofs.Good.{Goods, goods_here, goods_then}
-use Rattle.lisp_operators.proofs.Storable.{AreValues, symbol_is_value, nil_value, text_value, value_grown, values_grown, value_parts}
+use Rattle.lisp_operators.proofs.Storable.{AreValues, symbol_is_value, nil_value, t_value, text_value, value_grown, values_grown, value_parts}
 use Rattle.lisp_operators.proofs.SoundProperties.{IsSafe, list_safe, get_safe, set_safe, remove_safe, symbol_plist_safe, increment_safe, push_safe}
 use Rattle.lisp_operators.proofs.SoundPackages.{make_safe, enter_safe, intern_safe, export_safe, import_safe, use_safe}
 use Rattle.lisp_operators.proofs.SoundReadtables.{case_safe, set_case_safe, copy_safe, enter_readtable_safe, set_syntax_safe, set_macro_safe, get_macro_safe, make_dispatch_safe, set_dispatch_safe, get_dispatch_safe}
 use Rattle.lisp_operators.proofs.SoundBase.{set_base_safe, base_value}
+use Rattle.lisp_operators.specs.Properties.{t}
+use Rattle.evaluator.specs.Operators.{first}
 use Rattle.evaluator.specs.Value.{value, last}
 use Rattle.evaluator.proofs.FunctionLaws.{computed_safe}
 use Rattle.evaluator.proofs.Induction.{Operators, Steps, every_value}
@@ -31,6 +33,10 @@ last_value : (u : Table) → packages.IsSound u → (xs : List Object) → AreVa
 last_value u sound [] are = nil_value u sound
 last_value u sound (x ∷ []) are = All-head (IsValue u) x [] are
 last_value u sound (x ∷ y ∷ ys) are = last_value u sound (y ∷ ys) (All-tail (IsValue u) x (y ∷ ys) are)
+
+first_value : (u : Table) → packages.IsSound u → (xs : List Object) → AreValues u xs → IsValue u (first (list_of xs))
+first_value u sound [] are = nil_value u sound
+first_value u sound (x ∷ xs) are = All-head (IsValue u) x xs are
 
 -- one value, and then more
 cons_safe : (s : WorldState) (y : Object) (o : Evaluation (List Object)) → IsValue s.packages y → Goods AreValues s o → Goods AreValues s (and_then o (λ ys end'. gives (y ∷ ys) end'))
@@ -74,11 +80,13 @@ module _ (names : List Name) (all : AreFunctionNames names) where
   steps = record {
     operators = operators;
     last_one = λ xs later still are. goods_here IsValue later (last xs) false still (last_value later.packages still.packages xs are);
+    first_one = λ xs later still are. goods_here IsValue later (first (list_of xs)) false still (first_value later.packages still.packages xs are);
     in_package = λ s x asked asks. enter_safe x s asks.0;
     refused = λ s code _. record { good = tt };
     all_refused = λ s code _. record { good = tt };
     itself = λ s x asks. goods_here IsValue s x false asks.0 asks.1;
     nothing = λ s asked asks. goods_here IsValue s nil false asks.0 (nil_value s.packages asks.0.packages);
+    truth = λ s asked asks. goods_here IsValue s t false asks.0 (t_value s.packages asks.0.packages);
     current_package = λ s asked asks. goods_here IsValue s (text s.current_package) false asks.0 (text_value s.packages s.current_package (asks.0.packages.within.package_names s.current_package asks.0.current_package).ascii);
     current_readtable = λ s asked asks. goods_here IsValue s (a_keyword_of s.current_readtable) false asks.0 (symbol_is_value s.packages keyword s.current_readtable asks.0.packages (asks.0.readtables.names s.current_readtable asks.0.current_readtable));
     read_base = λ s asked asks. goods_here IsValue s (integer (pos s.read_base)) false asks.0 (base_value s.packages s.read_base asks.0.highest_base);
@@ -86,7 +94,7 @@ module _ (names : List Name) (all : AreFunctionNames names) where
     parts = λ s a b asks. let both = value_parts s.packages a b asks.1 in ((asks.0, both.0), (asks.0, both.1));
     one_more = λ s o others is each. goods_then IsValue AreValues s o _ is (λ y t sound grows fits. cons_safe t y (others t) fits (each t (stays s t sound grows)));
     more = λ s o others is each. goods_then AreValues AreValues s o _ is (λ xs t sound grows are. append_safe t xs (others t) are (each t (stays s t sound grows)));
-    then_one = λ s o next is each. goods_then IsValue IsValue s o next is (λ y t sound grows fits. each y t (stays s t sound grows));
+    then_one = λ s o next is each. goods_then IsValue IsValue s o next is (λ y later sound grows fits. each y later (stays s later sound grows) (goods_here IsValue later y false sound fits));
     of_values = λ s o function is safe. goods_then AreValues IsValue s o function is (λ xs t sound grows are. safe xs t sound are);
   }
 

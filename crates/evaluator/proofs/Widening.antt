@@ -5,16 +5,17 @@
 --     widens_value      the value of a form
 --     wider_operators      where more operators are known
 use Rattle.std.proofs.Common.{◌≡◌, ℕ, Bool, true, false, not, ◌&&◌, cond, List, ◌∷◌, ◌++◌, Option, Some, None, Ok, Err, bytes_eq, refl, sym, ap, subst}
-use Rattle.lisp_object.specs.Object.{Object, integer, rational, character, text, symbol, uninterned, pair, vector, is_proper_list}
+use Rattle.lisp_object.specs.Object.{Object, integer, rational, character, text, symbol, uninterned, pair, vector, nil, list_of, is_proper_list}
+use Rattle.lisp_object.specs.declared.refusal.TheConstants.{ASSERTION_FAILED}
 use Rattle.package_table.specs.Table.{Name, common_lisp}
 use Rattle.package_table.proofs.Names.{none_some}
 use Rattle.plist_state.specs.State.{WorldState}
-use Rattle.lisp_operators.specs.Kinds.{is_true}
+use Rattle.lisp_operators.specs.Kinds.{is_true, is_pair}
 use Rattle.lisp_operators.specs.Evaluation.{Done, Evaluation, gives, also, and_then}
 use Rattle.lisp_operators.specs.Properties.{increment, push}
 use Rattle.lisp_operators.specs.Packages.{enter}
-use Rattle.evaluator.specs.Operators.{Operator, OperatorTable, AreOperatorsAmong, operator_named, operator_of, pazturrok, pazturrok_operator, standard_operator_of, Action, quotes, sequence, chooses, assigns, increments, pushes, enters_package, calls, is_interned, count, counts, first}
-use Rattle.evaluator.specs.Value.{value_over, values_over, choice_over, other_value_over, values_at_place_over, values_before_place_over, symbol_value_by, Parts, action_value_by, form_value_by, unless, last, place_refusal_by, set_place_by, get_place_refusal, rest}
+use Rattle.evaluator.specs.Operators.{Operator, OperatorTable, AreOperatorsAmong, operator_named, operator_of, pazturrok, pazturrok_operator, standard_operator_of, Action, quotes, sequence, chooses, assigns, increments, pushes, enters_package, calls, seeks, selects, guards, keeps_first, asserts, is_interned, count, counts, first}
+use Rattle.evaluator.specs.Value.{value_over, values_over, choice_over, other_value_over, values_at_place_over, values_before_place_over, sought_over, selected_over, guarded_over, symbol_value_by, Parts, action_value_by, form_value_by, unless, last, has_truth, are_clauses, place_refusal_by, set_place_by, get_place_refusal, rest}
 
 abbrev pub GivesToo : {A : Type 0} → Evaluation A → Evaluation A → Type 0
 GivesToo (Ok d) p = p ≡ Ok d
@@ -53,6 +54,10 @@ pub record PartsWiden (o p : Parts) : Type 0 where
   pub chosen : Widens o.chosen p.chosen
   pub at_place : Widens o.at_place p.at_place
   pub before_place : Widens o.before_place p.before_place
+  pub first_one : Widens o.first_one p.first_one
+  pub sought : (truth : Bool) → Widens (o.sought truth) (p.sought truth)
+  pub selected : Widens o.selected p.selected
+  pub guarded : (truth : Bool) → Widens (o.guarded truth) (p.guarded truth)
 
 module _ (based : Bool) where
   widens_action : (s : WorldState) (action : Action) (arguments : Object) (o p : Parts) → PartsWiden o p → Widens (action_value_by based s action arguments o) (action_value_by based s action arguments p)
@@ -67,6 +72,11 @@ module _ (based : Bool) where
       widens_unless (get_place_refusal (first (rest arguments))) _ _ (widens_then o.before_place p.before_place push push all.before_place (λ xs t. widens_same (push xs t)))
   widens_action s enters_package arguments o p all = widens_same (enter (first arguments) s)
   widens_action s (calls function) arguments o p all = widens_then o.in_order p.in_order function function all.in_order (λ xs t. widens_same (function xs t))
+  widens_action s (seeks truth) arguments o p all = all.sought truth
+  widens_action s selects arguments o p all = widens_if (are_clauses arguments) _ _ _ _ all.selected (record { same = tt })
+  widens_action s (guards truth) arguments o p all = all.guarded truth
+  widens_action s keeps_first arguments o p all = widens_then o.in_order p.in_order _ _ all.in_order (λ xs t. widens_same (gives (first (list_of xs)) t))
+  widens_action s asserts arguments o p all = widens_then o.first_one p.first_one _ _ all.first_one (λ y t. widens_same (cond (is_true y) (gives nil t) (Err ASSERTION_FAILED)))
 
 -- where it is known whether *READ-BASE* is a variable, in the first evaluation and in the second
 module _ (based also_based : Bool) where
@@ -87,6 +97,10 @@ module _ (based also_based : Bool) where
             chosen = widens_choice s arguments;
             at_place = widens_at_place s arguments;
             before_place = widens_before_place s arguments;
+            first_one = widens_other s arguments;
+            sought = λ truth. widens_sought truth s arguments;
+            selected = widens_selected s arguments;
+            guarded = λ truth. widens_guarded truth s arguments;
           }))
       widens_value s (symbol home name) = symbols home name s
       widens_value s (uninterned name) = record { same = tt }
@@ -123,6 +137,43 @@ module _ (based also_based : Bool) where
       widens_other s (character c) = record { same = refl }
       widens_other s (text characters) = record { same = refl }
       widens_other s (vector xs) = record { same = refl }
+
+      widens_sought : (truth : Bool) (s : WorldState) (x : Object) → Widens (sought_over based fewer truth s x) (sought_over also_based more truth s x)
+      widens_sought truth s (pair x xs) =
+          widens_then (value_over based fewer s x) (value_over also_based more s x) _ _ (widens_value s x) (λ y t.
+          widens_if (has_truth truth y) _ _ _ _ (widens_same (gives y t)) (widens_if (is_pair xs) _ _ _ _ (widens_sought truth t xs) (widens_same (gives y t))))
+      widens_sought truth s (symbol home name) = record { same = refl }
+      widens_sought truth s (uninterned name) = record { same = refl }
+      widens_sought truth s (integer n) = record { same = refl }
+      widens_sought truth s (rational n d) = record { same = refl }
+      widens_sought truth s (character c) = record { same = refl }
+      widens_sought truth s (text characters) = record { same = refl }
+      widens_sought truth s (vector xs) = record { same = refl }
+
+      widens_selected : (s : WorldState) (x : Object) → Widens (selected_over based fewer s x) (selected_over also_based more s x)
+      widens_selected s (pair (pair test forms) others) =
+          widens_then (value_over based fewer s test) (value_over also_based more s test) _ _ (widens_value s test) (λ y t.
+          widens_if (is_true y) _ _ _ _
+          (widens_if (is_pair forms) _ _ _ _
+          (widens_then (values_over based fewer t forms) (values_over also_based more t forms) _ _ (widens_values t forms) (λ xs u. widens_same (gives (last xs) u)))
+          (widens_same (gives y t)))
+          (widens_selected t others))
+      widens_selected s (pair _ others) = record { same = tt }
+      widens_selected s (symbol home name) = record { same = refl }
+      widens_selected s (uninterned name) = record { same = refl }
+      widens_selected s (integer n) = record { same = refl }
+      widens_selected s (rational n d) = record { same = refl }
+      widens_selected s (character c) = record { same = refl }
+      widens_selected s (text characters) = record { same = refl }
+      widens_selected s (vector xs) = record { same = refl }
+
+      widens_guarded : (truth : Bool) (s : WorldState) (x : Object) → Widens (guarded_over based fewer truth s x) (guarded_over also_based more truth s x)
+      widens_guarded truth s (pair test forms) =
+          widens_then (value_over based fewer s test) (value_over also_based more s test) _ _ (widens_value s test) (λ y t.
+          widens_if (has_truth truth y) _ _ _ _
+          (widens_then (values_over based fewer t forms) (values_over also_based more t forms) _ _ (widens_values t forms) (λ xs u. widens_same (gives (last xs) u)))
+          (widens_same (gives nil t)))
+      widens_guarded truth s _ = record { same = tt }
 
       widens_at_place : (s : WorldState) (x : Object) → Widens (values_at_place_over based fewer s x) (values_at_place_over also_based more s x)
       widens_at_place s (pair (pair head subforms) forms) =

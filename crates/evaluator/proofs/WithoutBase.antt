@@ -1,11 +1,12 @@
 -- What a form gives where *READ-BASE* is no variable, it gives where it is one, and the base stays as it was.
 --     value_without_base      the value of a form
-use Rattle.std.proofs.Common.{◌≡◌, ℕ, Bool, true, false, not, ◌||◌, cond, List, Option, Some, None, Ok, codes, bytes_eq, refl, sym, subst}
+use Rattle.std.proofs.Common.{◌≡◌, ℕ, Bool, true, false, not, ◌||◌, cond, List, Option, Some, None, Ok, Err, codes, bytes_eq, refl, sym, subst}
 use Rattle.std.proofs.lemmas.Bool.{false≢true}
-use Rattle.lisp_object.specs.Object.{Object, integer, rational, character, text, symbol, uninterned, pair, vector}
-use Rattle.lisp_object.specs.declared.refusal.TheConstants.{ARGUMENT_KIND}
+use Rattle.lisp_object.specs.Object.{Object, integer, rational, character, text, symbol, uninterned, pair, vector, nil, list_of}
+use Rattle.lisp_object.specs.declared.refusal.TheConstants.{ARGUMENT_KIND, ASSERTION_FAILED}
 use Rattle.package_table.specs.Table.{Name, keyword}
 use Rattle.plist_state.specs.State.{WorldState}
+use Rattle.lisp_operators.specs.Kinds.{is_true}
 use Rattle.lisp_operators.specs.Evaluation.{Done, Evaluation, gives, and_then}
 use Rattle.lisp_operators.specs.Properties.{set, increment, push}
 use Rattle.lisp_operators.specs.Packages.{enter}
@@ -13,8 +14,8 @@ use Rattle.lisp_operators.specs.Readtables.{set_case}
 use Rattle.lisp_operators.specs.ReadBase.{set_base}
 use Rattle.lisp_operators.proofs.Keeping.{Keeps}
 use Rattle.lisp_operators.proofs.SameBase.{SameBase, same_base}
-use Rattle.evaluator.specs.Operators.{Operator, Action, quotes, sequence, chooses, assigns, increments, pushes, enters_package, calls, operator_of, is_standard, count, counts, first}
-use Rattle.evaluator.specs.Value.{value_by, symbol_value_by, Parts, action_value_by, form_value_by, unless, last, is_base_by, is_case_place, list_place_refusal, get_place_refusal, rest}
+use Rattle.evaluator.specs.Operators.{Operator, Action, quotes, sequence, chooses, assigns, increments, pushes, enters_package, calls, seeks, selects, guards, keeps_first, asserts, operator_of, is_standard, count, counts, first}
+use Rattle.evaluator.specs.Value.{value_by, symbol_value_by, Parts, action_value_by, form_value_by, unless, last, are_clauses, is_base_by, is_case_place, list_place_refusal, get_place_refusal, rest}
 use Rattle.evaluator.proofs.KeepingForms.{value_keeps}
 use Rattle.evaluator.proofs.Widening.{Widens, PartsWiden, OperatorWidens, widens_same, widens_if, widens_then, widens_unless, widens_value}
 
@@ -48,6 +49,11 @@ widens_action s increments arguments o p all =
 widens_action s pushes arguments o p all =
     widens_unless (get_place_refusal (first (rest arguments))) _ _ (widens_then o.before_place p.before_place push push all.before_place (λ xs t. widens_same (push xs t)))
 widens_action s enters_package arguments o p all = widens_same (enter (first arguments) s)
+widens_action s (seeks truth) arguments o p all = all.sought truth
+widens_action s selects arguments o p all = widens_if (are_clauses arguments) _ _ _ _ all.selected (record { same = tt })
+widens_action s (guards truth) arguments o p all = all.guarded truth
+widens_action s keeps_first arguments o p all = widens_then o.in_order p.in_order _ _ all.in_order (λ xs t. widens_same (gives (first (list_of xs)) t))
+widens_action s asserts arguments o p all = widens_then o.first_one p.first_one _ _ all.first_one (λ y t. widens_same (cond (is_true y) (gives nil t) (Err ASSERTION_FAILED)))
 widens_action s (calls function) arguments o p all = widens_then o.in_order p.in_order function function all.in_order (λ xs t. widens_same (function xs t))
 
 widens_form : (s : WorldState) (operator : Option Operator) (arguments : Object) (o p : Parts) → PartsWiden o p → Widens (form_value_by false s operator arguments o) (form_value_by true s operator arguments p)

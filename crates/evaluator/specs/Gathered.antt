@@ -1,12 +1,14 @@
 -- Forms that are evaluated one after the other, and what an operator makes of their values.
-use Rattle.std.specs.Prelude.{◌≡◌, ℕ, Bool, true, if◌then◌else◌, List, [], ◌∷◌, ◌++◌, map, Option, Some, None, Result, Ok, Err}
+use Rattle.std.specs.Borrow.{Bor}
+use Rattle.std.specs.Prelude.{◌≡◌, ◌≤◌, ℕ, Bool, true, false, if◌then◌else◌, List, [], ◌∷◌, ◌++◌, length, map, Option, Some, None, Result, Ok, Err}
 use Rattle.lisp_object.specs.Object.{Object, nil, list_of, is_proper_list, symbol, pair}
 use Rattle.package_table.specs.Table.{Name}
 use Rattle.plist_state.specs.State.{WorldState}
 use Rattle.lisp_operators.specs.declared.error.EvaluationError.{EvaluationError}
 use Rattle.lisp_operators.specs.declared.error.EvaluationError.TheVariants.{Refused, OutOfMemory}
-use Rattle.lisp_object.specs.declared.refusal.TheConstants.{ARGUMENT_KIND}
+use Rattle.lisp_object.specs.declared.refusal.TheConstants.{ARGUMENT_KIND, ASSERTION_FAILED}
 use Rattle.lisp_object.specs.Datum.{object_of}
+use Rattle.lisp_object.specs.declared.datum.Datum
 use Rattle.lisp_object.specs.declared.datum.Datum.{Datum}
 use Rattle.lisp_operators.specs.declared.evaluated.Evaluated.{Evaluated}
 use Rattle.lisp_operators.specs.Evaluated.{Answers, done, objects}
@@ -17,13 +19,14 @@ use Rattle.evaluator.specs.declared.operation.Operation.TheVariants.{Setf, Incf,
 use Rattle.evaluator.specs.declared.place.Place.{Place}
 use Rattle.evaluator.specs.declared.place.Place.TheVariants.{Property, Case, ReadBase}
 use Rattle.lisp_operators.specs.Evaluation.{Evaluation, gives, also, and_then}
+use Rattle.lisp_operators.specs.Kinds.{is_true}
 use Rattle.lisp_operators.specs.Properties.{list}
 use Rattle.evaluator.specs.declared.wanted.Wanted.{Wanted}
 use Rattle.evaluator.specs.declared.wanted.Task.{Task}
 use Rattle.evaluator.specs.Wanted.{seen}
 use Rattle.evaluator.specs.Operators.{count, first}
 use Rattle.evaluator.specs.Operations.{action_of}
-use Rattle.evaluator.specs.Value.{Parts, last, value, values, choice, values_at_place, values_before_place, action_value, place_refusal, get_place_refusal, is_base_place, is_case_place, rest}
+use Rattle.evaluator.specs.Value.{Parts, is_clause, last, value, values, choice, other_value, sought, selected, guarded, values_at_place, values_before_place, action_value, place_refusal, get_place_refusal, is_base_place, is_case_place, rest}
 
 -- values that leave this state
 abbrev pub all_done : Values → WorldState → Done (List Object)
@@ -45,6 +48,10 @@ parts names s arguments = record {
   chosen = choice names s arguments;
   at_place = values_at_place names s arguments;
   before_place = values_before_place names s arguments;
+  first_one = other_value names s arguments;
+  sought = λ truth. sought names truth s arguments;
+  selected = selected names s arguments;
+  guarded = λ truth. guarded names truth s arguments;
 }
 
 -- what a form with this operator gives
@@ -83,6 +90,14 @@ abbrev pub subforms : List Name → List Object → Bool → WorldState → Obje
 subforms names xs wrote s (pair operator forms) = followed names xs wrote s forms
 subforms names xs wrote s (symbol home name) = Ok (record { value = xs; state = s; wrote = wrote })
 subforms names xs wrote s _ = Err ARGUMENT_KIND
+
+-- PROG1: the first value of these forms
+abbrev pub first_value : List Name → WorldState → Object → Evaluation Object
+first_value names s forms = and_then (values names s forms) (λ xs later. gives (first (list_of xs)) later)
+
+-- ASSERT, where this is what the test gives
+abbrev pub asserted : Evaluation Object → Evaluation Object
+asserted test = and_then test (λ x later. if is_true x then gives nil later else Err ASSERTION_FAILED)
 
 -- what an operator takes of these
 abbrev pub gathered : List Name → WorldState → Operation → Object → Evaluation (List Object)
@@ -124,3 +139,8 @@ IsHead names head n (Ok operation) = (s : WorldState) (arguments : Object) → i
 IsHead names head n (Err (Refused code)) = (s : WorldState) (arguments : Object) → is_proper_list arguments ≡ true → count arguments ≡ n
     → value names s (pair head arguments) ≡ Err code
 IsHead names head n (Err OutOfMemory) = ⊥
+
+-- what is in a datum that is a clause of COND, where it is one
+abbrev pub IsClause : Datum → Option (Bor (List Datum)) → Type 0
+IsClause form (Some items) = (form ≡ Datum.List items.now None) × (1 ≤ length items.now)
+IsClause form None = is_clause (object_of form) ≡ false

@@ -5,7 +5,8 @@ use Rattle.lisp_object.specs.declared.refusal.TheConstants.{ARGUMENT_KIND}
 use Rattle.plist_state.specs.State.{WorldState}
 use Rattle.package_table.specs.Table.{Name}
 use Rattle.evaluator.specs.declared.operation.Operation.{Operation}
-use Rattle.evaluator.specs.declared.operation.Operation.TheVariants.{Quote, Progn, If, MakeList, Get, Setf, Remprop, SymbolPlist, Incf, Push, MakePackage, InPackage, Export, Import, UsePackage, Intern, CopyReadtable, InReadtable, SetSyntaxFromChar, SetMacroCharacter, GetMacroCharacter, MakeDispatchMacroCharacter, SetDispatchMacroCharacter, GetDispatchMacroCharacter, ReadtableCase, Computes}
+use Rattle.evaluator.specs.declared.operation.Operation.TheVariants.{Quote, Progn, If, MakeList, Get, Setf, Remprop, SymbolPlist, Incf, Push, MakePackage, InPackage, Export, Import, UsePackage, Intern, CopyReadtable, InReadtable, SetSyntaxFromChar, SetMacroCharacter, GetMacroCharacter, MakeDispatchMacroCharacter, SetDispatchMacroCharacter, GetDispatchMacroCharacter, ReadtableCase, Computes, Decides}
+use Rattle.evaluator.specs.declared.decision.Decision.TheVariants.{And, Or, Cond, When, Unless, Prog1, Assert}
 use Rattle.evaluator.specs.declared.place.Place.{Place}
 use Rattle.evaluator.specs.declared.place.Place.TheVariants.{Property, Case, ReadBase}
 use Rattle.lisp_operators.specs.Evaluation.{Evaluation}
@@ -13,7 +14,7 @@ use Rattle.lisp_operators.specs.Properties.{list, get, set, remove, symbol_plist
 use Rattle.lisp_operators.specs.Packages.{make, intern, export, import, use_package}
 use Rattle.lisp_operators.specs.Readtables.{readtable_case, set_case, copy_readtable, enter_readtable, set_syntax, set_macro, get_macro, make_dispatch, set_dispatch, get_dispatch}
 use Rattle.lisp_operators.specs.ReadBase.{set_base}
-use Rattle.evaluator.specs.Operators.{Operator, Action, quotes, sequence, chooses, assigns, increments, pushes, enters_package, calls, computed, computed_value}
+use Rattle.evaluator.specs.Operators.{Operator, Action, quotes, sequence, chooses, assigns, increments, pushes, enters_package, calls, seeks, selects, guards, keeps_first, asserts, computed, computed_value}
 use Rattle.value_functions.specs.Functions as functions
 
 abbrev pub least : Operation → ℕ
@@ -43,6 +44,13 @@ least SetDispatchMacroCharacter = 3
 least GetDispatchMacroCharacter = 2
 least ReadtableCase = 1
 least (Computes function) = functions.fewest_arguments function
+least (Decides And) = 0
+least (Decides Or) = 0
+least (Decides Cond) = 0
+least (Decides When) = 1
+least (Decides Unless) = 1
+least (Decides Prog1) = 1
+least (Decides Assert) = 1
 
 abbrev pub most : Operation → Option ℕ
 most Quote = Some 1
@@ -71,6 +79,8 @@ most SetDispatchMacroCharacter = Some 4
 most GetDispatchMacroCharacter = Some 3
 most ReadtableCase = Some 1
 most (Computes function) = functions.most_arguments function
+most (Decides Assert) = Some 2
+most (Decides _) = None
 
 -- what it does, where these are the names of macro functions
 abbrev pub action_of : List Name → Operation → Action
@@ -100,6 +110,13 @@ action_of names SetDispatchMacroCharacter = calls (set_dispatch names)
 action_of names GetDispatchMacroCharacter = calls get_dispatch
 action_of names ReadtableCase = calls readtable_case
 action_of names (Computes function) = calls (computed function)
+action_of names (Decides And) = seeks false
+action_of names (Decides Or) = seeks true
+action_of names (Decides Cond) = selects
+action_of names (Decides When) = guards true
+action_of names (Decides Unless) = guards false
+action_of names (Decides Prog1) = keeps_first
+action_of names (Decides Assert) = asserts
 
 abbrev pub operator : List Name → Operation → Operator
 operator names operation = record { least = least operation; most = most operation; action = action_of names operation }
@@ -116,6 +133,7 @@ is_ordinary If = false
 is_ordinary MakeList = false
 is_ordinary InPackage = false
 is_ordinary (Computes function) = is_some (functions.most_arguments function)
+is_ordinary (Decides decision) = false
 is_ordinary _ = true
 
 -- that function; SETF has three, as its place is the read base, a readtable's case or a property
@@ -134,6 +152,7 @@ function_of names Incf place xs s = increment xs s
 function_of names Push place xs s = push xs s
 function_of names MakeList place xs s = Err ARGUMENT_KIND
 function_of names (Computes function) place xs s = computed_value function xs s
+function_of names (Decides decision) place xs s = Err ARGUMENT_KIND
 function_of names operation place xs s = of_values (action_of names operation) xs s
 
 -- the operators of control and on data, by their names
@@ -172,6 +191,17 @@ operators_on_readtables =
     (codes "SET-DISPATCH-MACRO-CHARACTER", SetDispatchMacroCharacter) ∷
     (codes "GET-DISPATCH-MACRO-CHARACTER", GetDispatchMacroCharacter) ∷
     (codes "READTABLE-CASE", ReadtableCase) ∷ []
+
+-- the operators that decide, by their names
+abbrev pub operators_that_decide : List (Name × Operation)
+operators_that_decide =
+    (codes "AND", Decides And) ∷
+    (codes "OR", Decides Or) ∷
+    (codes "COND", Decides Cond) ∷
+    (codes "WHEN", Decides When) ∷
+    (codes "UNLESS", Decides Unless) ∷
+    (codes "PROG1", Decides Prog1) ∷
+    (codes "ASSERT", Decides Assert) ∷ []
 
 -- the one beside this name
 abbrev pub among : List (Name × Operation) → Name → Option Operation

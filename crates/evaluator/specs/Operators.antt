@@ -24,6 +24,13 @@ pub data Action : Type 0 where
   pushes : Action
   enters_package : Action
   calls : (List Object → WorldState → Evaluation Object) → Action
+  -- the first value whose truth is this; the first clause whose test is true; the forms after a test whose truth is this
+  seeks : Bool → Action
+  selects : Action
+  guards : Bool → Action
+  -- the first value of all; nothing, where the first form is true
+  keeps_first : Action
+  asserts : Action
 
 pub record Operator : Type 0 where
   -- how many arguments at least, and how many at most
@@ -36,6 +43,9 @@ takes least most action = Some (record { least = least; most = Some most; action
 
 abbrev pub takes_any : Action → Option Operator
 takes_any action = Some (record { least = 0; most = None; action = action })
+
+abbrev pub takes_one_or_more : Action → Option Operator
+takes_one_or_more action = Some (record { least = 1; most = None; action = action })
 
 -- the operator of this name, where these are the names of macro functions
 abbrev pub operator_named : List Name → Name → Option Operator
@@ -96,7 +106,15 @@ function_operator function = record { least = functions.fewest_arguments functio
 
 -- the operator of PAZTURROK of this name
 abbrev pub pazturrok_operator : Name → Option Operator
-pazturrok_operator name = option_map function_operator (function_named name)
+pazturrok_operator name =
+    if bytes_eq name (codes "AND") then takes_any (seeks false)
+    else (if bytes_eq name (codes "OR") then takes_any (seeks true)
+    else (if bytes_eq name (codes "COND") then takes_any selects
+    else (if bytes_eq name (codes "WHEN") then takes_one_or_more (guards true)
+    else (if bytes_eq name (codes "UNLESS") then takes_one_or_more (guards false)
+    else (if bytes_eq name (codes "PROG1") then takes_one_or_more keeps_first
+    else (if bytes_eq name (codes "ASSERT") then takes 1 2 asserts
+    else option_map function_operator (function_named name)))))))
 
 -- the operator of a symbol
 abbrev pub operator_of : List Name → OperatorTable

@@ -4,17 +4,17 @@
 -- one test in front, whether the variable is known (`value_by`); `value` and the names after it are those in which it is.
 use Rattle.std.specs.Prelude.{ℕ, Bool, true, ◌&&◌, ◌||◌, ◌==◌, not, if◌then◌else◌, List, [], ◌∷◌, ◌++◌, pos, Option, Some, None, Err, codes}
 use Rattle.std.specs.Str.{bytes_eq}
-use Rattle.lisp_object.specs.Object.{Object, integer, text, symbol, uninterned, pair, nil, is_proper_list}
-use Rattle.lisp_object.specs.declared.refusal.TheConstants.{NOT_A_FORM, UNKNOWN_OPERATOR, ARGUMENT_COUNT, ARGUMENT_KIND}
+use Rattle.lisp_object.specs.Object.{Object, integer, text, symbol, uninterned, pair, nil, list_of, is_proper_list}
+use Rattle.lisp_object.specs.declared.refusal.TheConstants.{NOT_A_FORM, UNKNOWN_OPERATOR, ARGUMENT_COUNT, ARGUMENT_KIND, ASSERTION_FAILED}
 use Rattle.package_table.specs.Table.{Name, keyword}
 use Rattle.plist_state.specs.State.{WorldState}
 use Rattle.lisp_operators.specs.Evaluation.{Evaluation, gives, and_then}
-use Rattle.lisp_operators.specs.Kinds.{is_true}
-use Rattle.lisp_operators.specs.Properties.{set, increment, push}
+use Rattle.lisp_operators.specs.Kinds.{is_true, is_pair}
+use Rattle.lisp_operators.specs.Properties.{t, set, increment, push}
 use Rattle.lisp_operators.specs.Packages.{enter}
 use Rattle.lisp_operators.specs.Readtables.{a_keyword_of, set_case}
 use Rattle.lisp_operators.specs.ReadBase.{set_base}
-use Rattle.evaluator.specs.Operators.{Operator, Action, quotes, sequence, chooses, assigns, increments, pushes, enters_package, calls, OperatorTable, operator_of, is_standard, is_interned, count, counts, first}
+use Rattle.evaluator.specs.Operators.{Operator, Action, quotes, sequence, chooses, assigns, increments, pushes, enters_package, calls, seeks, selects, guards, keeps_first, asserts, OperatorTable, operator_of, is_standard, is_interned, count, counts, first}
 
 -- the values of a sequence are those of its last form (standard 5.3, progn); NIL where there is none
 abbrev pub last : List Object → Object
@@ -49,6 +49,18 @@ is_case_place place = is_standard (codes "READTABLE-CASE") (first place)
 abbrev pub list_place_refusal : Object → Option ℕ
 list_place_refusal place = if is_case_place place then case_place_refusal place else get_place_refusal place
 
+-- whether it is true, or whether it is not, as it is asked
+abbrev pub has_truth : Bool → Object → Bool
+has_truth truth x = if truth then is_true x else not (is_true x)
+
+-- whether it is a clause of COND: a list with a test, and then forms (standard 5.3); whether each is one
+abbrev pub is_clause : Object → Bool
+is_clause x = is_pair x && is_proper_list x
+
+abbrev pub are_clauses : Object → Bool
+are_clauses (pair clause others) = is_clause clause && are_clauses others
+are_clauses _ = true
+
 abbrev pub unless : Option ℕ → Evaluation Object → Evaluation Object
 unless (Some code) on = Err code
 unless None on = on
@@ -63,6 +75,14 @@ pub record Parts : Type 0 where
   pub at_place : Evaluation (List Object)
   -- a form, and then the subforms of a place
   pub before_place : Evaluation (List Object)
+  -- the first of them alone
+  pub first_one : Evaluation Object
+  -- one after the other, up to the first whose truth is this
+  pub sought : Bool → Evaluation Object
+  -- as clauses: the tests up to the first that is true, and the forms of its clause
+  pub selected : Evaluation Object
+  -- the first, and the others where its truth is this
+  pub guarded : Bool → Evaluation Object
 
 -- where it is known whether *READ-BASE* is a variable
 module _ (based : Bool) where
@@ -100,6 +120,12 @@ module _ (based : Bool) where
       unless (get_place_refusal (first (rest arguments))) (and_then parts.before_place push)
   action_value_by s enters_package arguments parts = enter (first arguments) s
   action_value_by s (calls function) arguments parts = and_then parts.in_order function
+  action_value_by s (seeks truth) arguments parts = parts.sought truth
+  action_value_by s selects arguments parts = if are_clauses arguments then parts.selected else Err ARGUMENT_KIND
+  action_value_by s (guards truth) arguments parts = parts.guarded truth
+  action_value_by s keeps_first arguments parts = and_then parts.in_order (λ xs later. gives (first (list_of xs)) later)
+  action_value_by s asserts arguments parts =
+      and_then parts.first_one (λ x later. if is_true x then gives nil later else Err ASSERTION_FAILED)
 
   -- of an operator and its arguments: the operator is looked at first, then their number
   abbrev pub form_value_by : WorldState → Option Operator → Object → Parts → Evaluation Object
@@ -120,6 +146,10 @@ unfoldable mutual
         chosen = choice_over based table s arguments;
         at_place = values_at_place_over based table s arguments;
         before_place = values_before_place_over based table s arguments;
+        first_one = other_value_over based table s arguments;
+        sought = λ truth. sought_over based table truth s arguments;
+        selected = selected_over based table s arguments;
+        guarded = λ truth. guarded_over based table truth s arguments;
       })
   value_over based table s (symbol home name) = symbol_value_by based home name s
   value_over based table s (uninterned name) = Err NOT_A_FORM
@@ -140,6 +170,32 @@ unfoldable mutual
   pub other_value_over : Bool → OperatorTable → WorldState → Object → Evaluation Object
   other_value_over based table s (pair x xs) = value_over based table s x
   other_value_over based table s _ = gives nil s
+
+  -- AND and OR (standard 5.3): the first value whose truth is this, else that of the last form. AND seeks one that is false, and is
+  -- T where there is no form; OR seeks one that is true.
+  pub sought_over : Bool → OperatorTable → Bool → WorldState → Object → Evaluation Object
+  sought_over based table truth s (pair x xs) =
+      and_then (value_over based table s x) (λ y later.
+      if has_truth truth y then gives y later
+      else (if is_pair xs then sought_over based table truth later xs else gives y later))
+  sought_over based table truth s _ = gives (if truth then nil else t) s
+
+  -- COND (standard 5.3): of the first clause whose test is true the value of the last form, or of the test where it has no form
+  pub selected_over : Bool → OperatorTable → WorldState → Object → Evaluation Object
+  selected_over based table s (pair (pair test forms) others) =
+      and_then (value_over based table s test) (λ y later.
+      if is_true y
+      then (if is_pair forms then and_then (values_over based table later forms) (λ xs end'. gives (last xs) end') else gives y later)
+      else selected_over based table later others)
+  selected_over based table s (pair _ others) = Err ARGUMENT_KIND
+  selected_over based table s _ = gives nil s
+
+  -- WHEN and UNLESS (standard 5.3): the forms after the first, where its truth is this, else NIL
+  pub guarded_over : Bool → OperatorTable → Bool → WorldState → Object → Evaluation Object
+  guarded_over based table truth s (pair test forms) =
+      and_then (value_over based table s test) (λ y later.
+      if has_truth truth y then and_then (values_over based table later forms) (λ xs end'. gives (last xs) end') else gives nil later)
+  guarded_over based table truth s _ = Err ARGUMENT_COUNT
 
   -- the values of a place's subforms, and of the forms after it (standard 5.1.1.1); a symbol has no subforms
   pub values_at_place_over : Bool → OperatorTable → WorldState → Object → Evaluation (List Object)
@@ -166,6 +222,15 @@ choice_by based names = choice_over based (operator_of names)
 
 abbrev pub other_value_by : Bool → List Name → WorldState → Object → Evaluation Object
 other_value_by based names = other_value_over based (operator_of names)
+
+abbrev pub sought_by : Bool → List Name → Bool → WorldState → Object → Evaluation Object
+sought_by based names = sought_over based (operator_of names)
+
+abbrev pub selected_by : Bool → List Name → WorldState → Object → Evaluation Object
+selected_by based names = selected_over based (operator_of names)
+
+abbrev pub guarded_by : Bool → List Name → Bool → WorldState → Object → Evaluation Object
+guarded_by based names = guarded_over based (operator_of names)
 
 abbrev pub values_at_place_by : Bool → List Name → WorldState → Object → Evaluation (List Object)
 values_at_place_by based names = values_at_place_over based (operator_of names)
@@ -197,6 +262,15 @@ choice = choice_by true
 
 abbrev pub other_value : List Name → WorldState → Object → Evaluation Object
 other_value = other_value_by true
+
+abbrev pub sought : List Name → Bool → WorldState → Object → Evaluation Object
+sought = sought_by true
+
+abbrev pub selected : List Name → WorldState → Object → Evaluation Object
+selected = selected_by true
+
+abbrev pub guarded : List Name → Bool → WorldState → Object → Evaluation Object
+guarded = guarded_by true
 
 abbrev pub values_at_place : List Name → WorldState → Object → Evaluation (List Object)
 values_at_place = values_at_place_by true

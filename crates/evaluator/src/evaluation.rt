@@ -2,12 +2,14 @@
 ghost use Rattle.std.specs.Prelude.{◌≡◌, ◌<◌, ◌≤◌, true, length, drop, IfOk};
 ghost use Rattle.lisp_object.specs.Object.{list_of};
 ghost use Rattle.lisp_object.specs.Datum.{object_of};
-ghost use Rattle.evaluator.specs.Value.{values_at_place, values_before_place, choice};
+ghost use Rattle.evaluator.specs.Value.{values_at_place, values_before_place};
 ghost use Rattle.lisp_operators.specs.Readtables.{AreFunctionNames};
 ghost use Rattle.lisp_operators.specs.Evaluated.{IsArgument, KeepsArguments, Answers, done, IsProperValue, AreArgumentsOf, objects};
 ghost use Rattle.evaluator.specs.Gathered.{all_done, arguments_in, EvaluatesFor, Operates, followed, subforms, gathered, sequence_value, list_value};
 ghost use Rattle.evaluator.specs.Operations.{IsCounted, is_ordinary};
 ghost use Rattle.evaluator.specs.Wanted.{seen};
+
+mod deciding;
 
 use crate::computed::computed_of_list;
 use crate::control::{after, atom, nothing, quoted};
@@ -15,6 +17,7 @@ use crate::direct::{get_directly, literal_assignment, quoted_property, set_direc
 use crate::operation::{Operation, operation_of};
 use crate::values::Values;
 use crate::wanted::{Task, Wanted, seen, wanted_for};
+use deciding::{chosen, decided};
 use lisp_object::refusal::{ARGUMENT_KIND, NOT_A_FORM};
 use lisp_object::{Datum, Items};
 use lisp_operators::EvaluationError::Refused;
@@ -133,6 +136,7 @@ fn act(
                 task.wanted,
             ),
         },
+        Operation::Decides(decision) => decided(alloc, world, names, decision, items, task.wanted),
         _ => ordinary(alloc, world, names, task, items),
     }
 }
@@ -331,7 +335,7 @@ fn listed(
 
 // PROGN: the last of the values of these forms (standard 5.3, `progn`). The values before it are not made.
 #[cycle(evaluation)]
-fn sequence(
+pub(crate) fn sequence(
     alloc: Global,
     world: &mut World,
     names: &[FnName],
@@ -360,41 +364,5 @@ fn sequence(
     after(
         wrote,
         evaluate_for(alloc, world, names, &items[last], wanted),
-    )
-}
-
-// IF: the second or the third, as the first is true or false (standard 5.3, `if`).
-#[cycle(evaluation)]
-fn chosen(
-    alloc: Global,
-    world: &mut World,
-    names: &[FnName],
-    items: &[Datum],
-    wanted: Wanted,
-) -> Result<Evaluated, EvaluationError>
-    requires counted { 3 ≤ length items.now }
-    requires names { AreFunctionNames names.now }
-    requires items { AreArgumentsOf world.old items.now }
-    ensures gives { Answers done result world.new.0
-        (seen wanted (choice names.now world.old.0 (arguments_in items.now))) }
-    ensures proper { IfOk result IsProperValue }
-    ensures marked { world.new.1 ≡ world.old.1 }
-{
-    let test = match evaluate_for(alloc, world, names, &items[1], Wanted::Truth) {
-        Ok(test) => test,
-        Err(error) => return Err(error),
-    };
-    if kinds::is_true(&test.value) {
-        return after(
-            test.wrote,
-            evaluate_for(alloc, world, names, &items[2], wanted),
-        );
-    }
-    if items.len() == 3 {
-        return after(test.wrote, seen(nothing(alloc), wanted));
-    }
-    after(
-        test.wrote,
-        evaluate_for(alloc, world, names, &items[3], wanted),
     )
 }

@@ -9,6 +9,8 @@
 //! - `evaluation`: the value of a form, by recursion on it; `wanted`: what is asked of a value, and what stands for it. Of PROGN
 //!   all values but the last are not made. Of IF's test it is only asked whether it is true, and of a value behind those that are
 //!   too large for a LIST whether it is too deep
+//! - `evaluation::deciding`: the operators that decide which of their forms are evaluated; `decision`: which these are; `clauses`:
+//!   those of COND
 //! - `direct`: GET of two quoted symbols, and SETF of such a property to a literal, from the form as it stands; `apply` moves the
 //!   literal. `trimmed`: a datum that is to be kept
 //! - `operation`: what is at its head; `place`: the places of SETF, INCF and PUSH; `control`: the operators of control, and
@@ -28,8 +30,10 @@
 #![tactic(auto)]
 
 mod calls;
+mod clauses;
 mod computed;
 mod control;
+mod decision;
 mod direct;
 mod effects;
 mod evaluation;

@@ -3,11 +3,13 @@ ghost use Rattle.std.specs.Prelude.{◌≡◌, ◌+◌, true, bytes_eq, List, op
 ghost use Rattle.lisp_object.specs.Datum.{object_of};
 ghost use Rattle.lisp_object.specs.Object.{symbol};
 ghost use Rattle.package_table.specs.Table.{Name};
-ghost use Rattle.evaluator.specs.Operators.{operator_named, operator_of, pazturrok_operator, counts};
-ghost use Rattle.evaluator.specs.Operations.{least, most, operator, IsCounted, among, operators_on_data, operators_on_packages, operators_on_readtables};
+ghost use Rattle.evaluator.specs.Operators.{operator_named, operator_of, function_operator, pazturrok_operator, counts};
+ghost use Rattle.evaluator.specs.Operations.{least, most, operator, IsCounted, among, operators_on_data, operators_on_packages, operators_on_readtables, operators_that_decide};
 ghost use Rattle.evaluator.specs.Gathered.{IsHead};
+ghost use Rattle.value_functions.specs.Functions.{function_named};
 ghost use Rattle.lisp_operators.specs.Evaluated.{IsProper};
 
+use crate::decision::Decision;
 use lisp_object::Datum;
 use lisp_object::refusal::{ARGUMENT_COUNT, NOT_A_FORM, UNKNOWN_OPERATOR};
 use lisp_operators::EvaluationError::Refused;
@@ -19,7 +21,8 @@ use value_functions::ValueFunction;
 const PAZTURROK: &[u8] = b"PAZTURROK";
 
 /// An operator: a symbol that may be at the head of a form (standard 3.1.2.1.2). `Computes` are those of PAZTURROK that are a
-/// function of the values of their arguments alone, all others are at home in COMMON-LISP.
+/// function of the values of their arguments alone, `Decides` those that decide which of their forms are evaluated. All others
+/// are at home in COMMON-LISP.
 #[derive(Clone, Copy, Debug, PartialEq, Eq)]
 pub(crate) enum Operation {
     Quote,
@@ -48,6 +51,7 @@ pub(crate) enum Operation {
     GetDispatchMacroCharacter,
     ReadtableCase,
     Computes(ValueFunction),
+    Decides(Decision),
 }
 
 impl Operation {
@@ -66,15 +70,27 @@ impl Operation {
         }
     }
 
-    /// The operator of PAZTURROK of this name.
+    /// The function of values of this name.
     #[tactic(auto, using(crate::proofs::Heads::function_found, crate::proofs::Heads::function_missing))]
-    fn of_pazturrok(name: &[u8]) -> Option<Operation>
+    fn of_values(name: &[u8]) -> Option<Operation>
         ensures { (names : List Name)
-            → option_map (operator names) result ≡ pazturrok_operator name.now }
+            → option_map (operator names) result ≡ option_map function_operator (function_named name.now) }
     {
         match ValueFunction::named(name) {
             Some(function) => Some(Operation::Computes(function)),
             None => None,
+        }
+    }
+
+    /// The operator of PAZTURROK of this name.
+    #[tactic(auto, using(crate::proofs::Heads::decision_found, crate::proofs::Heads::decision_missing))]
+    fn of_pazturrok(name: &[u8]) -> Option<Operation>
+        ensures { (names : List Name)
+            → option_map (operator names) result ≡ pazturrok_operator name.now }
+    {
+        match that_decides(name) {
+            Some(operation) => Some(operation),
+            None => Operation::of_values(name),
         }
     }
 
@@ -123,6 +139,7 @@ impl Operation {
             | Operation::GetDispatchMacroCharacter => 2,
             Operation::SetDispatchMacroCharacter => 3,
             Operation::Computes(function) => function.least(),
+            Operation::Decides(decision) => decision.least(),
         }
     }
 
@@ -156,6 +173,7 @@ impl Operation {
             | Operation::SetMacroCharacter
             | Operation::SetDispatchMacroCharacter => Some(4),
             Operation::Computes(function) => function.most(),
+            Operation::Decides(decision) => decision.most(),
         }
     }
 
@@ -270,6 +288,29 @@ fn on_readtables(name: &[u8]) -> Option<Operation>
         Some(Operation::GetDispatchMacroCharacter)
     } else if is_name(name, b"READTABLE-CASE") {
         Some(Operation::ReadtableCase)
+    } else {
+        None
+    }
+}
+
+// The operators of PAZTURROK that decide which of their forms are evaluated.
+fn that_decides(name: &[u8]) -> Option<Operation>
+    ensures { result ≡ among operators_that_decide name.now }
+{
+    if is_name(name, b"AND") {
+        Some(Operation::Decides(Decision::And))
+    } else if is_name(name, b"OR") {
+        Some(Operation::Decides(Decision::Or))
+    } else if is_name(name, b"COND") {
+        Some(Operation::Decides(Decision::Cond))
+    } else if is_name(name, b"WHEN") {
+        Some(Operation::Decides(Decision::When))
+    } else if is_name(name, b"UNLESS") {
+        Some(Operation::Decides(Decision::Unless))
+    } else if is_name(name, b"PROG1") {
+        Some(Operation::Decides(Decision::Prog1))
+    } else if is_name(name, b"ASSERT") {
+        Some(Operation::Decides(Decision::Assert))
     } else {
         None
     }

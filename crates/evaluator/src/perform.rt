@@ -103,6 +103,7 @@ pub(crate) fn carry_out(
         Operation::If => Err(Refused(ARGUMENT_KIND)),
         Operation::MakeList => Err(Refused(ARGUMENT_KIND)),
         Operation::InPackage => Err(Refused(ARGUMENT_KIND)),
+        Operation::Decides(_) => Err(Refused(ARGUMENT_KIND)),
     }
 }
 

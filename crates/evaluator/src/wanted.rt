@@ -1,10 +1,12 @@
 //! What is asked of the value of a form, and what stands for a value of which less is asked.
-ghost use Rattle.std.specs.Prelude.{◌≡◌, IfOk};
+ghost use Rattle.std.specs.Prelude.{◌≡◌, true, IfOk};
 ghost use Rattle.lisp_object.specs.Object.{Object};
 ghost use Rattle.plist_state.specs.State.{WorldState};
 ghost use Rattle.lisp_operators.specs.Evaluation.{Evaluation};
 ghost use Rattle.lisp_object.specs.Datum.{object_of};
 ghost use Rattle.lisp_operators.specs.Evaluated.{Answers, done, IsProper, IsProperValue};
+ghost use Rattle.lisp_operators.specs.Kinds.{is_true};
+ghost use Rattle.evaluator.specs.Value.{has_truth};
 ghost use Rattle.evaluator.specs.Wanted.{stand_in, seen, wanted_for};
 
 use crate::operation::Operation;
@@ -41,6 +43,17 @@ pub(crate) fn wanted_for(values: &ListBuilder) -> Wanted
         ListBuilder::TooLarge => Wanted::Depth,
         ListBuilder::TooDeep => Wanted::Nothing,
     }
+}
+
+/// What is asked of a test whose value may be that of its form where it is true, or else where it is false.
+pub(crate) fn wanted_of_test(where_true: bool) -> Wanted
+    ensures truth { (x : Object) → is_true (stand_in result x) ≡ is_true x }
+    ensures kept { (x : Object) → has_truth where_true x ≡ true → stand_in result x ≡ x }
+{
+    if where_true {
+        return Wanted::Value;
+    }
+    Wanted::Truth
 }
 
 /// The value, or what stands for it.

@@ -60,11 +60,13 @@ module _ (names : List Name) where
   steps = record {
     operators = operators;
     last_one = λ xs later. record { kept = λ tidy. tidy };
+    first_one = λ xs later. record { kept = λ tidy. tidy };
     in_package = λ s x asked _. enter_keeps x s;
     refused = λ s code _. record { kept = tt };
     all_refused = λ s code _. record { kept = tt };
     itself = λ s x _. record { kept = λ tidy. tidy };
     nothing = λ s asked _. record { kept = λ tidy. tidy };
+    truth = λ s asked _. record { kept = λ tidy. tidy };
     current_package = λ s asked _. record { kept = λ tidy. tidy };
     current_readtable = λ s asked _. record { kept = λ tidy. tidy };
     read_base = λ s asked _. record { kept = λ tidy. tidy };
@@ -72,7 +74,7 @@ module _ (names : List Name) where
     parts = λ s a b _. (tt, tt);
     one_more = λ s o others is each. keeps_then Kept both s o _ is (λ y t. keeps_then Kept both t (others t) _ (each t (λ _ _. tt)) (λ ys end'. record { kept = λ tidy. tidy }));
     more = λ s o others is each. keeps_then Kept both s o _ is (λ xs t. keeps_then Kept both t (others t) _ (each t (λ _ _. tt)) (λ ys end'. record { kept = λ tidy. tidy }));
-    then_one = λ s o next is each. keeps_then Kept both s o next is (λ y t. each y t (λ _ _. tt));
+    then_one = λ s o next is each. keeps_then Kept both s o next is (λ y t. each y t (λ _ _. tt) (record { kept = λ tidy. tidy }));
     of_values = λ s o function is keeps. keeps_then Kept both s o function is keeps;
   }
 

@@ -1,30 +1,36 @@
 -- What each call answers.
-use Rattle.std.proofs.Common.{◌≡◌, ◌+◌, ◌-◌, [], ◌∷◌, ◌++◌, ◌||◌, true, false, All, drop, map, length, refl, sym, ap, subst, ◌∙◌, arith}
+use Rattle.std.proofs.Common.{◌≡◌, ◌+◌, ◌-◌, [], ◌∷◌, ◌++◌, ◌||◌, true, false, cond, Err, None, All, drop, map, length, refl, sym, ap, subst, ◌∙◌, arith}
 use Rattle.lisp_object.specs.Object.{Object, nil, list_of}
 use Rattle.plist_state.specs.Sound.{IsValue}
 use Rattle.lisp_operators.specs.Evaluation.{Done, gives, also}
 use Rattle.lisp_object.specs.Datum.{object_of}
-use Rattle.lisp_object.proofs.Objects.{object_of-Symbol}
+use Rattle.lisp_object.proofs.Objects.{object_of-Symbol, object_of-List}
 use Rattle.std.proofs.lemmas.List.{map-append}
 use Rattle.lisp_object.specs.declared.datum.Datum.TheViews.{sized-List, the_lemmas}
 use Rattle.lisp_object.proofs.datum.Datum.TheLaws.{the_size}
 use Rattle.lisp_operators.specs.Kinds.{is_pair}
-use Rattle.evaluator.specs.Gathered.{all_done, arguments_of, operation_value, followed, subforms, sequence_value}
+use Rattle.evaluator.specs.Gathered.{all_done, arguments_of, operation_value, followed, subforms, sequence_value, asserted}
 use Rattle.evaluator.specs.declared.wanted.Wanted.TheVariants.{Value, Nothing}
 use Rattle.evaluator.specs.Wanted.{stand_in, seen}
 use Rattle.evaluator.proofs.ListItems.{held_so}
 use Rattle.evaluator.proofs.Seen.{seen_value, seen_also, refused_seen, refused_so, evaluated_so, stand_in_value}
 use Rattle.evaluator.proofs.Sequences.{sequence_step, sequence_stops, sequence_last, no_forms, also_refused, also_also}
-use Rattle.evaluator.specs.Value.{value, values}
+use Rattle.evaluator.specs.Value.{value, values, sought, selected, has_truth}
 use Rattle.lisp_operators.specs.Properties.{list}
 use Rattle.plist_state.specs.Shown.{symbol_named}
-use Rattle.evaluator.specs.declared.operation.Operation.TheVariants.{Get}
+use Rattle.std.specs.Prelude.{◌≤◌, ◌==◌}
+use Rattle.std.proofs.lemmas.Bool.{and_parts}
+use Rattle.lisp_object.specs.declared.refusal.TheConstants.{ARGUMENT_KIND}
+use Rattle.evaluator.specs.Operations.{IsCounted}
+use Rattle.evaluator.specs.declared.operation.Operation.TheVariants.{Get, Decides}
 use Rattle.evaluator.proofs.QuotedKeys.{get_of_key}
 use Rattle.evaluator.proofs.Lists.{list_stops, list_given}
 use Rattle.lisp_operators.specs.Evaluated.{IsArgument, Answers, done}
 use Rattle.evaluator.proofs.Steps.{followed_start, value_dotted, items_arguments, good_value, followed_step, followed_stops, followed_at_end, argument_grown, all_more}
 use Rattle.evaluator.proofs.Places.{some_items}
 use Rattle.evaluator.proofs.Forms.{arguments_from, gathered_in_order, head_form, head_refused, place_first, place_given, push_no_place, push_refused, push_given, same_item, subforms_given, performed}
+use Rattle.evaluator.proofs.ClauseShapes.{clause_at}
+use Rattle.evaluator.proofs.Deciding.{assert_form, later_items, proper_test, none_sought, sought_stops, sought_here, sought_next, sought_last, each_clause, selected_stops, selected_test, selected_forms, selected_next, none_selected, guarded_stops, guarded_passes, guarded_forms, first_stops, first_kept, first_others_stop}
 use Rattle.evaluator.proofs.Branches.{choice_refused, choice_true, choice_none, choice_other}
 use Rattle.evaluator.proofs.evaluation.+evaluation.Goals as goal
 
@@ -114,25 +120,25 @@ before_place-returns-clause-gives t c =
     push_given c.args.names.now c.args.world.now.0 c.evaluate_for.new.world.0 c.subforms.new.world.0 c.args.items.now c.index-items-1.result c.index-items-2-2.result c.in-Ok.evaluated c.in_ok-first-in-Ok.first.values.items c.in_ok-first-in-Ok.first.wrote c.subforms.result
     c.requires.counted c.index-items-1.is c.index-items-2-2.is (subst (λ d. is_pair (object_of d) ≡ true) same (sym c.is_pair.ensures ∙ c.if-not-is_pair.false)) (sym (seen_value (value c.args.names.now c.args.world.now.0 (object_of c.index-items-1.result))) ∙ c.in-Ok.ensures.gives) c.in_ok-first-in-Ok.ensures.0 c.in_ok-first-in-Ok.ensures.1 c.subforms.ensures.gives
 
-pub chosen-returns-in-Err-clause-gives : goal.chosen-returns-in-Err-clause-gives
-chosen-returns-in-Err-clause-gives t c =
+pub deciding::chosen-returns-in-Err-clause-gives : goal.deciding::chosen-returns-in-Err-clause-gives
+deciding::chosen-returns-in-Err-clause-gives t c =
     choice_refused c.args.wanted c.args.names.now c.args.world.now.0 c.evaluate_for.new.world.0 c.evaluate_for.new.world.0 c.args.items.now c.index-items-1.result c.in-Err.error c.requires.counted c.index-items-1.is c.in-Err.ensures.gives
 
-pub chosen-returns-then-is_true-clause-gives : goal.chosen-returns-then-is_true-clause-gives
-chosen-returns-then-is_true-clause-gives t c =
+pub deciding::chosen-returns-then-is_true-clause-gives : goal.deciding::chosen-returns-then-is_true-clause-gives
+deciding::chosen-returns-then-is_true-clause-gives t c =
     choice_true c.args.wanted c.args.names.now c.args.world.now.0 c.evaluate_for.new.world.0 c.evaluate_for-then-is_true.new.world.0 c.args.items.now c.index-items-1.result c.index-items-2.result c.in-Ok.test c.after.result
     c.requires.counted c.index-items-1.is c.index-items-2.is c.in-Ok.ensures.gives (sym c.is_true.ensures ∙ c.if-is_true.true)
     (c.after.ensures.gives c.evaluate_for-then-is_true.new.world.0 (seen c.args.wanted (value c.args.names.now c.evaluate_for.new.world.0 (object_of c.index-items-2.result))) c.evaluate_for-then-is_true.ensures.gives)
 
-pub chosen-returns-then-items-eq3-clause-gives : goal.chosen-returns-then-items-eq3-clause-gives
-chosen-returns-then-items-eq3-clause-gives t c =
+pub deciding::chosen-returns-then-items-eq3-clause-gives : goal.deciding::chosen-returns-then-items-eq3-clause-gives
+deciding::chosen-returns-then-items-eq3-clause-gives t c =
     let s = c.evaluate_for.new.world.0 in
     choice_none c.args.wanted c.args.names.now c.args.world.now.0 s s c.args.items.now c.index-items-1.result c.in-Ok.test c.after-then-items-eq3.result
     c.requires.counted c.if-items-eq3.true c.index-items-1.is c.in-Ok.ensures.gives (sym c.is_true.ensures ∙ c.if-is_true.false)
     (c.after-then-items-eq3.ensures.gives s (seen c.args.wanted (gives nil s)) (c.seen.ensures.gives s (gives nil s) (c.nothing.ensures.gives s)))
 
-pub chosen-returns-clause-gives : goal.chosen-returns-clause-gives
-chosen-returns-clause-gives t c =
+pub deciding::chosen-returns-clause-gives : goal.deciding::chosen-returns-clause-gives
+deciding::chosen-returns-clause-gives t c =
     choice_other c.args.wanted c.args.names.now c.args.world.now.0 c.evaluate_for.new.world.0 c.evaluate_for-2.new.world.0 c.args.items.now c.index-items-1.result c.index-items-3.result c.in-Ok.test c.after-2.result
     c.requires.counted c.if-items-eq3.false c.index-items-1.is c.index-items-3.is c.in-Ok.ensures.gives (sym c.is_true.ensures ∙ c.if-is_true.false)
     (c.after-2.ensures.gives c.evaluate_for-2.new.world.0 (seen c.args.wanted (value c.args.names.now c.evaluate_for.new.world.0 (object_of c.index-items-3.result))) c.evaluate_for-2.ensures.gives)
@@ -294,3 +300,202 @@ pub listed-returns-clause-proper : goal.listed-returns-clause-proper
 listed-returns-clause-proper t c =
     let so = c.loop-i.invariant.listed in
     c.after.ensures.proper (c.list.ensures so.0 so.1).1
+
+pub deciding::sought-returns-then-last-eq0-clause-gives : goal.deciding::sought-returns-then-last-eq0-clause-gives
+deciding::sought-returns-then-last-eq0-clause-gives t c =
+    let s = c.args.world.now.0 in
+    let o = sought c.args.names.now c.args.truth s (arguments_of (map object_of c.args.items.now)) in
+    c.seen.ensures.gives s o
+    (subst (Answers done c.none_sought.result s) (sym (none_sought c.args.names.now c.args.truth s c.args.items.now (omega (arith, c.if-last-eq0.true)))) (c.none_sought.ensures.gives s))
+
+pub deciding::sought-returns-in-Err-clause-gives : goal.deciding::sought-returns-in-Err-clause-gives
+deciding::sought-returns-in-Err-clause-gives t c =
+    let s = c.loop-i.world.0 in
+    let u = c.evaluate_for.new.world.0 in
+    let o = sought c.args.names.now c.args.truth c.args.world.now.0 (arguments_of (map object_of c.args.items.now)) in
+    refused_seen c.args.wanted c.in-Err.error u o
+    (also_refused c.in-Err.error u c.loop-i.wrote o (sought c.args.names.now c.args.truth s (list_of (map object_of (drop c.loop-i.i c.args.items.now)))) c.loop-i.invariant.same
+    (sought_stops c.args.names.now c.args.truth s u c.args.items.now c.loop-i.i c.index-items-i.result (omega (arith, c.loop-i-test.true)) c.index-items-i.is c.wanted_of_test-asked.result c.in-Err.error u c.in-Err.ensures.gives))
+
+pub deciding::sought-returns-then-has_truth-clause-gives : goal.deciding::sought-returns-then-has_truth-clause-gives
+deciding::sought-returns-then-has_truth-clause-gives t c =
+    let s = c.loop-i.world.0 in
+    let u = c.evaluate_for.new.world.0 in
+    let o = sought c.args.names.now c.args.truth s (list_of (map object_of (drop c.loop-i.i c.args.items.now))) in
+    let here = sought_here c.args.names.now c.args.truth s u c.args.items.now c.loop-i.i c.index-items-i.result (omega (arith, c.loop-i-test.true)) c.index-items-i.is
+    c.wanted_of_test-asked.result c.in-Ok.test c.wanted_of_test-asked.ensures.truth c.wanted_of_test-asked.ensures.kept c.in-Ok.ensures.gives (sym c.has_truth.ensures ∙ c.if-has_truth.true) in
+    subst (Answers done c.after.result u)
+    (sym (ap (seen c.args.wanted) c.loop-i.invariant.same ∙ seen_also c.args.wanted c.loop-i.wrote o))
+    (c.after.ensures.gives u (seen c.args.wanted o) (c.seen-then-has_truth.ensures.gives u o here))
+
+pub deciding::sought-loop-i-preserved : goal.deciding::sought-loop-i-preserved
+deciding::sought-loop-i-preserved t c =
+    let next = sought c.args.names.now c.args.truth c.evaluate_for.new.world.0 (list_of (map object_of (drop (c.loop-i.i + 1) c.args.items.now))) in
+    record {
+      same = c.loop-i.invariant.same
+          ∙ ap (also c.loop-i.wrote) (sought_next c.args.names.now c.args.truth c.loop-i.world.0 c.evaluate_for.new.world.0 c.args.items.now c.loop-i.i c.index-items-i.result (omega (arith, c.loop-i-test.true)) c.index-items-i.is
+          c.wanted_of_test-asked.result c.in-Ok.test c.wanted_of_test-asked.ensures.truth (omega (arith, c.loop-i-test.true)) c.in-Ok.ensures.gives (sym c.has_truth.ensures ∙ c.if-has_truth.false))
+          ∙ also_also c.loop-i.wrote c.in-Ok.test.wrote next
+          ∙ ap (λ w. also w next) (sym c.either-wrote.ensures);
+      forms = λ k d h. c.in-Ok.ensures.kept _ (c.loop-i.invariant.forms k d h);
+      marked = c.in-Ok.ensures.marked ∙ c.loop-i.invariant.marked;
+    }
+
+pub deciding::sought-returns-clause-gives : goal.deciding::sought-returns-clause-gives
+deciding::sought-returns-clause-gives t c =
+    let names = c.args.names.now in
+    let s = c.loop-i.world.0 in
+    let items = c.args.items.now in
+    let last = value names s (object_of c.index-items-last.result) in
+    let end : c.loop-i.i ≡ length items - 1 = omega arith in
+    subst (Answers done c.after-2.result c.evaluate_for-2.new.world.0)
+    (sym (ap (seen c.args.wanted) (c.loop-i.invariant.same
+    ∙ ap (λ n. also c.loop-i.wrote (sought names c.args.truth s (list_of (map object_of (drop n items))))) end
+    ∙ ap (also c.loop-i.wrote) (sought_last names c.args.truth s s items (length items - 1) c.index-items-last.result (omega (arith, c.requires.counted)) c.index-items-last.is (omega (arith, c.requires.counted))))
+    ∙ seen_also c.args.wanted c.loop-i.wrote last))
+    (c.after-2.ensures.gives c.evaluate_for-2.new.world.0 (seen c.args.wanted last) c.evaluate_for-2.ensures.gives)
+
+pub deciding::selected-returns-then-not-are_clauses-clause-gives : goal.deciding::selected-returns-then-not-are_clauses-clause-gives
+deciding::selected-returns-then-not-are_clauses-clause-gives t c =
+    let args = arguments_of (map object_of c.args.items.now) in
+    ap (λ b. seen c.args.wanted (cond b (selected c.args.names.now c.args.world.now.0 args) (Err ARGUMENT_KIND))) (sym c.are_clauses.ensures ∙ c.if-not-are_clauses.true)
+
+pub deciding::selected-returns-in-Err-clause-gives : goal.deciding::selected-returns-in-Err-clause-gives
+deciding::selected-returns-in-Err-clause-gives t c =
+    let names = c.args.names.now in
+    let items = c.args.items.now in
+    let s = c.loop-i.world.0 in
+    let u = c.evaluate_for.new.world.0 in
+    let args = arguments_of (map object_of items) in
+    let o = selected names c.args.world.now.0 args in
+    let stops = also_refused c.in-Err.error u c.loop-i.wrote o (selected names s (list_of (map object_of (drop c.loop-i.i items)))) c.loop-i.invariant.same
+    (selected_stops names s u items c.in-Some.clause.now c.loop-i.i c.index-items-i.result c.index-clause-0.result (omega (arith, c.loop-i-test.true)) c.index-items-i.is (ap object_of c.in-Some.ensures.0 ∙ object_of-List c.in-Some.clause.now) c.in-Some.ensures.1 c.index-clause-0.is
+    c.wanted_of_test-asked.result c.in-Err.error u c.in-Err.ensures.gives) in
+    subst (λ b. Answers done (Err c.in-Err.error) u (seen c.args.wanted (cond b o (Err ARGUMENT_KIND)))) (sym (sym c.are_clauses.ensures ∙ c.if-not-are_clauses.false))
+    (refused_seen c.args.wanted c.in-Err.error u o stops)
+
+pub deciding::selected-returns-then-clause-eq1-clause-gives : goal.deciding::selected-returns-then-clause-eq1-clause-gives
+deciding::selected-returns-then-clause-eq1-clause-gives t c =
+    let names = c.args.names.now in
+    let items = c.args.items.now in
+    let s = c.loop-i.world.0 in
+    let u = c.evaluate_for.new.world.0 in
+    let args = arguments_of (map object_of items) in
+    let o = selected names s (list_of (map object_of (drop c.loop-i.i items))) in
+    let here = selected_test names s u items c.in-Some.clause.now c.loop-i.i c.index-items-i.result c.index-clause-0.result (omega (arith, c.loop-i-test.true)) c.index-items-i.is (ap object_of c.in-Some.ensures.0 ∙ object_of-List c.in-Some.clause.now) c.in-Some.ensures.1 c.index-clause-0.is
+    c.wanted_of_test-asked.result c.in-Ok.test c.wanted_of_test-asked.ensures.truth (λ z h. c.wanted_of_test-asked.ensures.kept z (subst (λ n. has_truth (n == 1) z ≡ true) (sym c.if-clause-eq1.true) h)) c.if-clause-eq1.true c.in-Ok.ensures.gives (sym c.is_true.ensures ∙ c.if-is_true.true) in
+    subst (Answers done c.after.result u)
+    (sym (ap (λ b. seen c.args.wanted (cond b (selected names c.args.world.now.0 args) (Err ARGUMENT_KIND))) (sym c.are_clauses.ensures ∙ c.if-not-are_clauses.false)
+    ∙ ap (seen c.args.wanted) c.loop-i.invariant.same ∙ seen_also c.args.wanted c.loop-i.wrote o))
+    (c.after.ensures.gives u (seen c.args.wanted o) (c.seen.ensures.gives u o here))
+
+pub deciding::selected-returns-then-is_true-clause-gives : goal.deciding::selected-returns-then-is_true-clause-gives
+deciding::selected-returns-then-is_true-clause-gives t c =
+    let names = c.args.names.now in
+    let items = c.args.items.now in
+    let s = c.loop-i.world.0 in
+    let u = c.evaluate_for.new.world.0 in
+    let args = arguments_of (map object_of items) in
+    let forms = sequence_value names u (arguments_of (map object_of c.in-Some.clause.now)) in
+    let here = selected_forms names s u items c.in-Some.clause.now c.loop-i.i c.index-items-i.result c.index-clause-0.result (omega (arith, c.loop-i-test.true)) c.index-items-i.is (ap object_of c.in-Some.ensures.0 ∙ object_of-List c.in-Some.clause.now) c.in-Some.ensures.1 c.index-clause-0.is
+    c.wanted_of_test-asked.result c.in-Ok.test c.wanted_of_test-asked.ensures.truth (let some = c.in-Some.ensures.1 in let more = c.if-clause-eq1.false in omega arith) c.in-Ok.ensures.gives (sym c.is_true.ensures ∙ c.if-is_true.true) in
+    subst (Answers done c.after-then-is_true.result c.sequence.new.world.0)
+    (sym (ap (λ b. seen c.args.wanted (cond b (selected names c.args.world.now.0 args) (Err ARGUMENT_KIND))) (sym c.are_clauses.ensures ∙ c.if-not-are_clauses.false)
+    ∙ ap (seen c.args.wanted) (c.loop-i.invariant.same ∙ ap (also c.loop-i.wrote) here ∙ also_also c.loop-i.wrote c.in-Ok.test.wrote forms ∙ ap (λ w. also w forms) (sym c.either-wrote.ensures))
+    ∙ seen_also c.args.wanted c.either-wrote.result forms))
+    (c.after-then-is_true.ensures.gives c.sequence.new.world.0 (seen c.args.wanted forms) c.sequence.ensures.gives)
+
+pub deciding::selected-loop-i-preserved : goal.deciding::selected-loop-i-preserved
+deciding::selected-loop-i-preserved t c =
+    let names = c.args.names.now in
+    let items = c.args.items.now in
+    let s = c.loop-i.world.0 in
+    let u = c.evaluate_for.new.world.0 in
+    let next = selected names u (list_of (map object_of (drop (c.loop-i.i + 1) items))) in
+    record {
+      same = c.loop-i.invariant.same
+          ∙ ap (also c.loop-i.wrote) (selected_next names s u items c.in-Some.clause.now c.loop-i.i c.index-items-i.result c.index-clause-0.result (omega (arith, c.loop-i-test.true)) c.index-items-i.is (ap object_of c.in-Some.ensures.0 ∙ object_of-List c.in-Some.clause.now) c.in-Some.ensures.1 c.index-clause-0.is
+          c.wanted_of_test-asked.result c.in-Ok.test c.wanted_of_test-asked.ensures.truth c.in-Ok.ensures.gives (sym c.is_true.ensures ∙ c.if-is_true.false))
+          ∙ also_also c.loop-i.wrote c.in-Ok.test.wrote next
+          ∙ ap (λ w. also w next) (sym c.either-wrote-in-loop-i.ensures);
+      clauses = (and_parts _ _ (sym (each_clause items c.loop-i.i c.index-items-i.result (omega (arith, c.loop-i-test.true)) c.index-items-i.is) ∙ c.loop-i.invariant.clauses)).1;
+      forms = λ k d h. c.in-Ok.ensures.kept _ (c.loop-i.invariant.forms k d h);
+      marked = c.in-Ok.ensures.marked ∙ c.loop-i.invariant.marked;
+    }
+
+pub deciding::selected-returns-clause-gives : goal.deciding::selected-returns-clause-gives
+deciding::selected-returns-clause-gives t c =
+    let names = c.args.names.now in
+    let items = c.args.items.now in
+    let s = c.loop-i.world.0 in
+    let args = arguments_of (map object_of items) in
+    subst (Answers done c.after-2.result s)
+    (sym (ap (λ b. seen c.args.wanted (cond b (selected names c.args.world.now.0 args) (Err ARGUMENT_KIND))) (sym c.are_clauses.ensures ∙ c.if-not-are_clauses.false)
+    ∙ ap (seen c.args.wanted) (c.loop-i.invariant.same ∙ ap (also c.loop-i.wrote) (none_selected names s items c.loop-i.i (omega arith)))
+    ∙ seen_also c.args.wanted c.loop-i.wrote (gives nil s)))
+    (c.after-2.ensures.gives s (seen c.args.wanted (gives nil s)) (c.seen-2.ensures.gives s (gives nil s) (c.nothing.ensures.gives s)))
+
+pub deciding::guarded-returns-in-Err-clause-gives : goal.deciding::guarded-returns-in-Err-clause-gives
+deciding::guarded-returns-in-Err-clause-gives t c =
+    guarded_stops c.args.wanted c.args.names.now c.args.truth c.args.world.now.0 c.evaluate_for.new.world.0 c.args.items.now c.index-items-1.result c.requires.counted c.index-items-1.is c.in-Err.error c.evaluate_for.new.world.0 c.in-Err.ensures.gives
+
+pub deciding::guarded-returns-then-not-has_truth-clause-gives : goal.deciding::guarded-returns-then-not-has_truth-clause-gives
+deciding::guarded-returns-then-not-has_truth-clause-gives t c =
+    let s = c.evaluate_for.new.world.0 in
+    guarded_passes c.args.wanted c.args.names.now c.args.truth c.args.world.now.0 s c.args.items.now c.index-items-1.result c.requires.counted c.index-items-1.is c.in-Ok.guard c.after.result s c.in-Ok.ensures.gives
+    (sym c.has_truth.ensures ∙ c.if-not-has_truth.true) (c.after.ensures.gives s (seen c.args.wanted (gives nil s)) (c.seen.ensures.gives s (gives nil s) (c.nothing.ensures.gives s)))
+
+pub deciding::guarded-returns-clause-gives : goal.deciding::guarded-returns-clause-gives
+deciding::guarded-returns-clause-gives t c =
+    let forms = sequence_value c.args.names.now c.evaluate_for.new.world.0 (arguments_of (map object_of c.arguments.result.now)) in
+    guarded_forms c.args.wanted c.args.names.now c.args.truth c.args.world.now.0 c.evaluate_for.new.world.0 c.args.items.now c.index-items-1.result c.requires.counted c.index-items-1.is c.arguments.result.now c.arguments.ensures c.in-Ok.guard c.after-2.result c.sequence.new.world.0
+    c.in-Ok.ensures.gives (sym c.has_truth.ensures ∙ c.if-not-has_truth.false) (c.after-2.ensures.gives c.sequence.new.world.0 (seen c.args.wanted forms) c.sequence.ensures.gives)
+
+pub deciding::first_kept-returns-in-Err-clause-gives : goal.deciding::first_kept-returns-in-Err-clause-gives
+deciding::first_kept-returns-in-Err-clause-gives t c =
+    first_stops c.args.wanted c.args.names.now c.args.world.now.0 c.evaluate_for.new.world.0 c.args.items.now c.index-items-1.result c.requires.counted c.index-items-1.is c.in-Err.error c.evaluate_for.new.world.0 c.in-Err.ensures.gives
+
+pub deciding::first_kept-returns-in-Ok-sequence-clause-gives : goal.deciding::first_kept-returns-in-Ok-sequence-clause-gives
+deciding::first_kept-returns-in-Ok-sequence-clause-gives t c =
+    first_kept c.args.wanted c.args.names.now c.args.world.now.0 c.evaluate_for.new.world.0 c.args.items.now c.index-items-1.result c.requires.counted c.index-items-1.is c.arguments.result.now c.arguments.ensures c.in-Ok.first c.in-Ok-sequence.others c.sequence.new.world.0 c.either.result
+    c.in-Ok.ensures.gives c.in-Ok-sequence.ensures.gives c.either.ensures
+
+pub deciding::first_kept-returns-in-Err-sequence-clause-gives : goal.deciding::first_kept-returns-in-Err-sequence-clause-gives
+deciding::first_kept-returns-in-Err-sequence-clause-gives t c =
+    first_others_stop c.args.wanted c.args.names.now c.args.world.now.0 c.evaluate_for.new.world.0 c.args.items.now c.index-items-1.result c.requires.counted c.index-items-1.is c.arguments.result.now c.arguments.ensures c.in-Ok.first c.in-Err-sequence.error c.sequence.new.world.0
+    c.in-Ok.ensures.gives c.in-Err-sequence.ensures.gives
+
+pub deciding::decided-asserted-requires : goal.deciding::decided-asserted-requires
+deciding::decided-asserted-requires t c = proper_test c.evaluate_for-test.new.world.0.packages c.evaluate_for-test.result c.evaluate_for-test.ensures.value
+
+pub deciding::decided-returns-in-Assert-clause-gives : goal.deciding::decided-returns-in-Assert-clause-gives
+deciding::decided-returns-in-Assert-clause-gives t c =
+    let names = c.args.names.now in
+    let s = c.args.world.now.0 in
+    let u = c.evaluate_for-test.new.world.0 in
+    let items = c.args.items.now in
+    let test = value names s (object_of c.index-items-1.result) in
+    let some : 2 ≤ length items = (subst (λ d. IsCounted (Decides d) (length items)) c.in-Assert.is c.requires.counted).0 in
+    subst (λ o. Answers done c.seen.result u (seen c.args.wanted o))
+    (sym (ap (λ d. operation_value names (Decides d) (arguments_of (map object_of items)) s) c.in-Assert.is ∙ assert_form names s items c.index-items-1.result some c.index-items-1.is))
+    (c.seen.ensures.gives u (asserted test) (c.asserted.ensures.gives u test c.evaluate_for-test.ensures.gives))
+
+pub deciding::guarded-sequence-requires : goal.deciding::guarded-sequence-requires
+deciding::guarded-sequence-requires t c =
+    let so = later_items c.args.world.now.0.packages c.evaluate_for.new.world.0.packages c.args.items.now c.arguments.result.now c.requires.counted c.arguments.ensures c.in-Ok.ensures.kept c.requires.items in
+    (grind (arith, the_lemmas, c.arguments.ensures, c.decreases), (so.0, (c.requires.names, so.1)))
+
+pub deciding::first_kept-sequence-requires : goal.deciding::first_kept-sequence-requires
+deciding::first_kept-sequence-requires t c =
+    let so = later_items c.args.world.now.0.packages c.evaluate_for.new.world.0.packages c.args.items.now c.arguments.result.now c.requires.counted c.arguments.ensures c.in-Ok.ensures.kept c.requires.items in
+    (grind (arith, the_lemmas, c.arguments.ensures, c.decreases), (so.0, (c.requires.names, so.1)))
+
+pub deciding::selected-evaluate_for-requires : goal.deciding::selected-evaluate_for-requires
+deciding::selected-evaluate_for-requires t c =
+    let so = clause_at c.loop-i.world.0.packages c.args.items.now c.in-Some.clause.now c.loop-i.i c.index-items-i.result c.index-clause-0.result (omega (arith, c.loop-i-test.true)) c.index-items-i.is c.in-Some.ensures.0 c.in-Some.ensures.1 c.index-clause-0.is c.loop-i.invariant.forms in
+    (grind (arith, the_lemmas, sized-List c.in-Some.clause.now None, ap the_size c.in-Some.ensures.0), (c.requires.names, so.1))
+
+pub deciding::selected-sequence-requires : goal.deciding::selected-sequence-requires
+deciding::selected-sequence-requires t c =
+    let so = clause_at c.loop-i.world.0.packages c.args.items.now c.in-Some.clause.now c.loop-i.i c.index-items-i.result c.index-clause-0.result (omega (arith, c.loop-i-test.true)) c.index-items-i.is c.in-Some.ensures.0 c.in-Some.ensures.1 c.index-clause-0.is c.loop-i.invariant.forms in
+    (grind (arith, the_lemmas, sized-List c.in-Some.clause.now None, ap the_size c.in-Some.ensures.0), (c.in-Some.ensures.1, (c.requires.names, λ k d h. c.in-Ok.ensures.kept _ (so.2 k d h))))

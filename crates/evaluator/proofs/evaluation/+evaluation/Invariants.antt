@@ -1,8 +1,9 @@
-use Rattle.std.proofs.Common.{◌≡◌, false, List, [], All, map, drop}
+use Rattle.std.proofs.Common.{◌≡◌, true, false, List, [], All, map, drop}
 use Rattle.lisp_object.specs.Object.{Object, list_of}
 use Rattle.lisp_object.specs.Datum.{object_of}
 use Rattle.lisp_operators.specs.Evaluation.{also}
 use Rattle.lisp_operators.specs.ListBuilder.{HoldsList}
+use Rattle.evaluator.specs.Value.{sought, selected, are_clauses}
 use Rattle.evaluator.specs.Gathered.{followed, arguments_of, sequence_value}
 use Rattle.lisp_operators.specs.Evaluated.{IsArgument, KeepsArguments}
 use Rattle.evaluator.proofs.evaluation.+evaluation.Given as goal
@@ -29,6 +30,23 @@ abbrev pub invariant-listed-loop-i : goal.invariant-listed-loop-i
 invariant-listed-loop-i l = record {
   listed : (xs : List Object) × HoldsList xs l.values
       × (followed l.names [] false l.fn.world.0 (list_of (map object_of (drop 1 l.items))) ≡ followed l.names xs l.wrote l.world.0 (list_of (map object_of (drop l.i l.items))));
+  forms : All (IsArgument l.world.0.packages) l.items;
+  marked : l.world.1 ≡ l.fn.world.1;
+}
+
+abbrev pub invariant-deciding::sought-loop-i : goal.invariant-deciding::sought-loop-i
+invariant-deciding::sought-loop-i l = record {
+  same : sought l.names l.truth l.fn.world.0 (arguments_of (map object_of l.items))
+      ≡ also l.wrote (sought l.names l.truth l.world.0 (list_of (map object_of (drop l.i l.items))));
+  forms : All (IsArgument l.world.0.packages) l.items;
+  marked : l.world.1 ≡ l.fn.world.1;
+}
+
+abbrev pub invariant-deciding::selected-loop-i : goal.invariant-deciding::selected-loop-i
+invariant-deciding::selected-loop-i l = record {
+  same : selected l.names l.fn.world.0 (arguments_of (map object_of l.items))
+      ≡ also l.wrote (selected l.names l.world.0 (list_of (map object_of (drop l.i l.items))));
+  clauses : are_clauses (list_of (map object_of (drop l.i l.items))) ≡ true;
   forms : All (IsArgument l.world.0.packages) l.items;
   marked : l.world.1 ≡ l.fn.world.1;
 }
