@@ -1,19 +1,25 @@
 //! The streams of the program.
 //!
 //! - `Uninterrupted`: a stream on which a signal ends no session (module `uninterrupted`).
+//! - `TypedLines`: an input at a terminal that tells of each line which the terminal has cut (module `typed_lines`).
 //! - `Shown`: a writer of text that lets no control character through to a terminal (module `shown`).
 //! - `Refusals`: an output that lets the refusals among answers through, and counts; `write_counts` writes the line on the counts (module
 //!   `refusals`, over `answer_text`, which tells where an answer ends).
+//! - `Pipe`: an output that takes note of it when its reader has gone, and `BesidePipe`, a writer that tells nothing any more then (module `pipe`).
 //! - `Progress`: an input that tells how much of it was read, and `Cleared`, a writer that takes this line away first (module `progress`).
 #![tactic(auto)]
 
 mod answer_text;
+mod pipe;
 mod progress;
 mod refusals;
 mod shown;
+mod typed_lines;
 mod uninterrupted;
 
+pub use pipe::{BesidePipe, Pipe};
 pub use progress::{Cleared, Progress};
 pub use refusals::{Counts, Refusals, write_counts};
 pub use shown::Shown;
+pub use typed_lines::TypedLines;
 pub use uninterrupted::Uninterrupted;
