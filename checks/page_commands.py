@@ -45,11 +45,14 @@ def commands(code):
         yield usage.removeprefix("./pazturrok "), does[usage]
 
 
-def row_of_script():
-    """The rows of the options that the script carries out, and not the program."""
+def rows_of_script(command):
+    """The rows of the options of a command that the script carries out, and not the program."""
     of_name = dict(re.findall('^([A-Z]+)_DOES="([^"]*)"', read(SCRIPT), re.M))
-    rows_of_it = (("--operators", of_name["OPERATORS"]), ("--wait SECONDS", of_name["WAIT"]))
-    return "\n".join(f"| `{option}` | {does}. `./pazturrok` does it, before it starts the program |" for option, does in rows_of_it)
+    if command == "run":
+        for option, does in (("--operators", of_name["OPERATORS"]), ("--wait SECONDS", of_name["WAIT"])):
+            yield f"| `{option}` | {does}. `./pazturrok` does it, before it starts the program |"
+    if command == "check":
+        yield f"| `--run` | {of_name['RUN']}. `./pazturrok` does it, by sessions of the program |"
 
 
 def rows(usage, known):
@@ -57,8 +60,7 @@ def rows(usage, known):
         if name != "existing" and name in known:
             value, does = known[name]
             yield f"| `--{name}{' ' + value if value else ''}` | {does} |"
-    if usage.startswith("run "):
-        yield row_of_script()
+    yield from rows_of_script(usage.split(" ")[0])
 
 
 def page():

@@ -26,7 +26,7 @@ _pazturrok() {
         info) words='--existing --help' ;;
         log) words='--existing --from --places --help' ;;
         backup) words='--existing --help' ;;
-        check) words='--store --help' kind=-f ;;
+        check) words='--store --help --run' kind=-f ;;
     esac
     if [ "$COMP_CWORD" -eq 1 ]; then
         words='run snapshot upgrade export dump verify show info log backup check help compile build install release --help --version'

@@ -202,7 +202,10 @@ help_of_command() {
     text_of PROGRAM_HELP | sed -n "s/^  $1  *//p"
     printf '\nUsage: %s\n\n' "$(text_of "${name}_USAGE")"
     text_of "${name}_HELP"
-    [ "$1" != run ] || printf '\n%s\n' "$OWN_HELP"
+    case $1 in
+        run) printf '\n%s\n' "$OWN_HELP" ;;
+        check) printf '\n%s\n' "$OWN_HELP_OF_CHECK" ;;
+    esac
 }
 
 # Answers words that ask for help or the version from the texts of the sources, and ends.

@@ -1,0 +1,67 @@
+"""`check --run`: each form of a file that is refused, with its place and its text, and nothing that is written."""
+import os
+
+from calls import called, check, is_refused
+
+FORMS = b"""(SETF (GET 'A 'B) 7)
+(FROB 1) (GET 'A) (INCF (GET 'A 'B))
+(PROGN
+  (FROB "a
+b")) X (GET 'A 'B)
+(GET 'A 1.5) (LOST)
+#| a remark (FROB) |# (SETF (GET 'A 'B) (FROB)) ; (FROB)
+(IF (GET 'A 'B) 1 (FROB))
+(SETF (GET 'A
+"""
+
+TOLD = b"""line 2, column 1: refused with 31 UNKNOWN-OPERATOR in form 2, which began at line 2, column 1
+    (FROB 1)%20
+line 2, column 10: refused with 32 ARGUMENT-COUNT in form 3, which began at line 2, column 10
+    (GET 'A)%20
+line 3, column 1: refused with 31 UNKNOWN-OPERATOR in form 5, which began at line 3, column 1
+    (PROGN
+line 5, column 6: refused with 30 NOT-A-FORM in form 6, which began at line 5, column 6
+    X%20
+line 6, column 12: refused with 7 FLOAT-TOKEN in form 8, which began at line 6, column 1
+    (GET 'A 1.5) (LOST)
+line 7, column 23: refused with 31 UNKNOWN-OPERATOR in form 9, which began at line 7, column 23
+    (SETF (GET 'A 'B) (FROB)) ; (FROB)
+line 10, column 1: refused with 1 END-OF-FILE in form 11, which began at line 9, column 1
+    (SETF (GET 'A
+forms 11 refused 7
+""".replace(b"%20", b" ")
+
+
+def over_a_store(script: str, room: str, file: str) -> None:
+    """The forms see the store, and nothing of it changes, also while it is served."""
+    store = os.path.join(room, "carried out")
+    called(script, "run", store, stdin=b"(MAKE-PACKAGE \"P\") (SETF (GET 'A 'B) 1)")
+    before = called(script, "dump", store, "--existing")
+    with open(file, "wb") as text:
+        text.write(b"(SETF (GET 'P::X 'A) (GET 'A 'B)) (INCF (GET 'A 'B) 'X)")
+    told = called(script, "check", "--run", file, "--store", store)
+    check("over a store", told, (1, b"line 1, column 35: refused with 33 ARGUMENT-KIND in form 2, which began at line 1, column 35\n"
+                                 b"    (INCF (GET 'A 'B) 'X)\nforms 2 refused 1\n", b""))
+    check("the store", called(script, "dump", store, "--existing"), before)
+    check("over nothing", called(script, "check", "--run", file)[1].splitlines()[0],
+          b"line 1, column 17: refused with 11 NO-PACKAGE in form 1, which began at line 1, column 1")
+    check("no store", (called(script, "check", file, "--run", f"--store={room}/none")[0], os.path.exists(f"{room}/none")), (3, False))
+
+
+def check_all(script: str, room: str) -> None:
+    """Checks all of it in a room."""
+    file = os.path.join(room, "forms to carry out")
+    with open(file, "wb") as text:
+        text.write(FORMS)
+    check("each refusal", called(script, "check", "--run", file), (1, TOLD, b""))
+    check("from standard input", called(script, "check", "--run", stdin=FORMS), (1, TOLD, b""))
+    check("no refusal", called(script, "check", "-", "--run", stdin=b"(MAKE-PACKAGE \"P\")\n(GET 'P::X 'Y) 7"), (0, b"forms 3 refused 0\n", b""))
+    check("no form", called(script, "check", "--run"), (0, b"forms 0 refused 0\n", b""))
+    many = b"(FROB)" * 9 + b"\n" + b"(LIST 1) " * 2_000 + b"(FROB)"
+    check("many forms", called(script, "check", "--run", stdin=many)[1].splitlines()[-3:],
+          [b"line 2, column 18001: refused with 31 UNKNOWN-OPERATOR in form 2010, which began at line 2, column 18001", b"    (FROB)", b"forms 2010 refused 10"])
+    over_a_store(script, room, file)
+    check("a file that is not there", called(script, "check", "--run", file + " not")[:2], (3, b""))
+    is_refused("words", script, "check", "--run", "a", "b", says="one file")
+    is_refused("words", script, "check", "--run", "--bogus", says="knows no --bogus")
+    is_refused("words", script, "check", "--run", "--store", says="is missing")
