@@ -16,7 +16,7 @@ STD-VECTOR STD-UNINTERNED STD-BLOCK STD-BINARY STD-OCTAL STD-HEX STD-RADIX STD-D
 PACKAGES, SYMBOLS = 1_000, 1_000_000
 
 # Reading, evaluation, the store, and memory.
-NUMBERS = {*range(1, 27), *range(30, 47), *range(60, 69), 90}
+NUMBERS = {*range(1, 27), *range(30, 48), *range(60, 69), 90}
 
 
 def check_first(made):

@@ -13,7 +13,7 @@
      store, and last until the next call on it; so threads that share a store look at an answer under a lock of their own.
    - Texts are bytes below 128, and need no zero at their end. Answers have one after their length, which is not counted.
 
-   Numbers: 0; 1 to 26 the text cannot be read as one form; 30 to 46 the form is refused; 50 to 52 are of messages; 60 the device
+   Numbers: 0; 1 to 26 the text cannot be read as one form; 30 to 47 the form is refused; 50 to 52 are of messages; 60 the device
    failed, and the store has to be closed and opened again; 61 there is no store, or it has failed before; 62, 63, 65, 66 what
    stands in the files is refused; 64 the file in use is full: take a snapshot, and execute the form again; 67 the system gave no
    random bytes; 90 no memory. docs/use/refusals.md tells them all. */
