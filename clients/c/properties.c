@@ -71,9 +71,10 @@ int pazturrok_compare_and_set(pazturrok_store store, const char *symbol, const c
     *is_set = 0;
     const struct part parts[] = {PLAIN("(IF (PAZTURROK::EQUAL "), GET(symbol, indicator), PLAIN(" (QUOTE "), {old.text, old.length, 0},
                                  PLAIN(")) (PROGN (SETF "), GET(symbol, indicator), PLAIN(" (QUOTE "), {wanted.text, wanted.length, 0},
-                                 PLAIN(")) T) NIL)")};
+                                 PLAIN(")) 1) 0)")};
     number = execute(store, parts, sizeof parts / sizeof *parts, &answer, &length);
-    if (number == 0) *is_set = length == 1;
+    /* T and NIL have a package before them where the store's current package does not use COMMON-LISP; a number has none. */
+    if (number == 0) *is_set = length == 1 && *answer == '1';
     return number;
 }
 
