@@ -208,6 +208,22 @@ class JournalTest(unittest.IsolatedAsyncioTestCase):
         os.unlink(second)
         self.begun(3)
 
+    async def test_damage_while_it_runs(self):
+        """What is read again for a store that was started again has to be what was read before: no entry is passed over."""
+        one = self.begun()
+        for number in (1, 2, 3):
+            await one.append([(b"%d" % number, b"x")], 0)
+        with mock.patch.object(journals, "SEGMENT", 0):
+            await one.append([(b"4", b"x")], 0)
+        whole = pathlib.Path(self.segments()[0]).read_bytes()
+        for spoilt in (whole.replace(b"do 2 ", b"do 9 "), whole[:-1], b""):
+            pathlib.Path(self.segments()[0]).write_bytes(spoilt)
+            with self.assertRaises(RefusedStoreError):
+                await self.given(one, 0)
+            self.assertEqual(await self.given(one, 3), [(4, b"4", b"x")])
+        pathlib.Path(self.segments()[0]).write_bytes(whole)
+        self.assertEqual([number for number, _, _ in await self.given(one, 1)], [2, 3, 4])
+
     async def test_old(self):
         one = self.begun(keep=0.0)
         for number in range(4):

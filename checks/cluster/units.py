@@ -159,9 +159,11 @@ class AppenderTest(unittest.IsolatedAsyncioTestCase):
         self.assertEqual([name for name, _ in self.log.entries[5:]], [b"a4", b"b4", b"a5"])
 
     async def test_device(self):
-        """A device that fails ends the node."""
+        """A device that fails ends the node, and nothing is put after that."""
         self.log.is_quick, self.log.error = True, OSError(errno.EIO, "Input/output error")
         await self.send("a1")
+        await self.send("b1")
+        self.assertEqual((self.log.batches, self.taken), ([], {}))
         with self.assertRaises(OSError):
             await asyncio.wait_for(self.task, 1)
 

@@ -69,6 +69,9 @@ class Appender:
     def _put_all(self) -> None:
         """Puts what came in this turn of the loop, by one write where the log is quick, or else by a lane."""
         self._is_due = False
+        if self._fault and self._fault.done():
+            # the device has failed: a sync that succeeds after one that failed tells nothing of what that one left out
+            return
         try:
             while self._has_begun and self._log.is_quick and not self._senders and (some := self._take()):
                 self._place_at_once(some)

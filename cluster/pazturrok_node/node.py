@@ -310,6 +310,8 @@ class Node:
         self._moved.look()
 
     def _take_answer(self, number: int, text: bytes) -> None:
+        if not self._sent:
+            raise NoFrameError(f"an answer to {number}, and no entry waits for one")
         self._last = self._sent.popleft()
         self.count_of_entries += 1
         if self._last.number != number:
@@ -329,6 +331,8 @@ class Node:
             self.compared = entry.number
 
     def _answer_question(self, text: bytes) -> None:
+        if not self._asked:
+            raise NoFrameError("an answer to a question, and none was asked")
         one = self._asked.popleft()
         one.take(Told(self.position, text))
         if not self._asked:
