@@ -208,6 +208,22 @@ class JournalTest(unittest.IsolatedAsyncioTestCase):
         os.unlink(second)
         self.begun(3)
 
+    async def test_damage_of_what_the_store_has(self):
+        """At the end of the last segment, too, nothing is cut that the store was fed, and damage is told as such."""
+        one = self.begun()
+        for number in (1, 2, 3):
+            await one.append([(b"%d" % number, b"x")], 0)
+        one.close()
+        path = pathlib.Path(self.segments()[0])
+        spoilt = path.read_bytes().replace(b"do 2 ", b"do 9 ")
+        for left in (spoilt, spoilt + b"\0" * 100):
+            path.write_bytes(left)
+            for position in (2, 3):
+                with self.assertRaisesRegex(RefusedStoreError, "is no record of this journal"):
+                    self.begun(position)
+                self.assertEqual(path.read_bytes(), left)
+        self.assertEqual(await self.given(self.begun(1), 0), [(1, b"1", b"x")])
+
     async def test_damage_while_it_runs(self):
         """What is read again for a store that was started again has to be what was read before: no entry is passed over."""
         one = self.begun()
