@@ -126,10 +126,9 @@
 
 (define-check what-no-session-reads-is-not-sent ()
   (with-new-store (store "unsendable")
-    (dolist (form (list "M" 1.5 ''uiop:getcwd (expt 2 127)))
-      (let ((form (if (equal form "M") (format nil "M~Cller" (code-char 252)) form)))
-        (expect "it is not sent" 'unsendable (signalled (send store form)))
-        (expect "the store goes on" 1 (send store 1))))
+    (dolist (form (list 1.5 ''uiop:getcwd (expt 2 127)))
+      (expect "it is not sent" 'unsendable (signalled (send store form)))
+      (expect "the store goes on" 1 (send store 1)))
     (dolist (text (list (format nil "\"M~Cller\"" (code-char 252)) "(list 1" "1 2" "'" ""))
       (expect "it is not sent" 'unsendable (signalled (send-text store text)))
       (expect "the store goes on" 1 (send store 1)))

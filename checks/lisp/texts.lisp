@@ -98,7 +98,7 @@
   (let ((circle (list 1 2)) (deep nil))
     (setf (cddr circle) circle)
     (dotimes (i 101) (setf deep (list deep)))
-    (dolist (object (list 1.5 1d0 (complex 1 2) (string (code-char 252)) (code-char 955) (intern (string (code-char 252)))
+    (dolist (object (list 1.5 1d0 (complex 1 2) (code-char 955) (intern (string (code-char 252)))
                           (expt 2 127) (/ 1 (expt 2 128)) (make-hash-table) #'car (find-package "COMMON-LISP") (list 1 2.0)
                           (make-array '(2 2) :initial-element 0) circle deep (make-string 1048577 :initial-element #\a)
                           (make-symbol (make-string 4097 :initial-element #\A)) (vector 1 #p"x") (list 1 (cons 2 1.5)) '|PI/2.0|))
