@@ -64,7 +64,7 @@ def check_all(script: str) -> None:
     check("rows of the page", (len(rows) >= 27, "GET" in operators), (True, True))
     for operator in sorted(operators):
         operator_told(script, operator, rows)
-    check("an example", "In a session:\n  (SETF (GET 'A 'B) 7)\n  7\n" in told(script, "SETF")[1].decode(), True)
+    check("an example", "In a session:\n  (SETF (GET 'ACC 'BAL) 70)\n  70\n" in told(script, "SETF")[1].decode(), True)
     check("a variable", "In a session:\n  *READ-BASE*\n  10\n" in told(script, "*READ-BASE*")[1].decode(), True)
     numbers = re.findall(r"^\| (\d+) \| ([A-Z-]+) \|", page("refusals.md"), re.M)
     check("numbers of the page", len(numbers) > 50, True)
