@@ -51,6 +51,8 @@ def rows_of_script(command):
     if command == "run":
         for option, does in (("--operators", of_name["OPERATORS"]), ("--wait SECONDS", of_name["WAIT"])):
             yield f"| `{option}` | {does}. `./pazturrok` does it, before it starts the program |"
+    if command == "show":
+        yield f"| `--html FILE` | {of_name['HTML']}. `./pazturrok` does it, by looks of the program |"
     if command == "check":
         yield f"| `--run` | {of_name['RUN']}. `./pazturrok` does it, by sessions of the program |"
 

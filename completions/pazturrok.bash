@@ -22,7 +22,7 @@ _pazturrok() {
         export) words='--existing --data --help' ;;
         dump) words='--existing --at --help' ;;
         verify) words='--existing --help' ;;
-        show) words='--existing --package --indicator --like --forms --help' ;;
+        show) words='--existing --package --indicator --like --forms --help --html' ;;
         info) words='--existing --help' ;;
         log) words='--existing --from --places --help' ;;
         backup) words='--existing --help' ;;
@@ -33,7 +33,7 @@ _pazturrok() {
         kind=
     fi
     case ${COMP_WORDS[COMP_CWORD - 1]} in
-        --at | --from | --indicator | --like | --package | --snapshot-every | --snapshot-ratio | --wait) return ;;
+        --at | --from | --html | --indicator | --like | --package | --snapshot-every | --snapshot-ratio | --wait) return ;;
         --store) kind=-d words='' ;;
     esac
     if [ -z "$kind" ] || [ "${word#-}" != "$word" ]; then

@@ -91,7 +91,7 @@ install_program() {
         [ "$other" = "${program##*/}" ] || rm -f "$prefix/libexec/pazturrok/$other"
     done
     put "$top/pazturrok" "$prefix/bin/pazturrok" 755
-    put_all "$prefix/libexec/pazturrok" "$top/tools/pages.awk" "$top/tools/check_run.sh"
+    put_all "$prefix/libexec/pazturrok" "$top/tools/pages.awk" "$top/tools/check_run.sh" "$top/tools/show_html.sh" "$top/tools/world.html"
     put_all "$prefix/share/pazturrok" "$top/lisp/operators.lisp"
     put "$room/manual" "$prefix/share/man/man1/pazturrok.1" 644
     put "$room/forms" "$prefix/share/man/man7/pazturrok-forms.7" 644

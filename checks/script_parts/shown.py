@@ -1,0 +1,50 @@
+"""`show DIR --html FILE`: the page has what the looks of the program tell, and nothing of the store changes."""
+import base64
+import os
+import re
+from typing import Dict
+
+from calls import called, check, is_refused
+
+FORMS = b"""(SETF (GET 'A 'B) '(1 "</script>" #\\<))
+(MAKE-PACKAGE "P")
+(SETF (GET 'P::|x y| 'A) #(1 2))
+(SET-SYNTAX-FROM-CHAR #\\[ #\\()
+(GET 'A 'B)
+"""
+
+
+def parts_of(page: str) -> Dict[str, bytes]:
+    """The texts in a page, by the names of its blocks."""
+    with open(page, encoding="ascii") as file:
+        blocks = re.findall(r'<script type="text/plain" id="data-(\w+)">\n([A-Za-z0-9+/=\n]*)</script>', file.read())
+    return {name: base64.b64decode(text) for name, text in blocks}
+
+
+def of_a_store(script: str, room: str) -> None:
+    """What the page has is what the looks tell."""
+    store, page = os.path.join(room, "store of a page"), os.path.join(room, "a page.html")
+    called(script, "run", store, stdin=FORMS)
+    world, log = (called(script, *words)[1] for words in (("dump", store, "--existing"), ("log", store)))
+    check("no words are written", called(script, "show", store, "--html", page), (0, b"", b""))
+    found = parts_of(page)
+    check("the blocks", sorted(found), ["folder", "info", "log", "made", "world"])
+    check("the world and the log", (found["world"], found["log"]), (world, log))
+    names = [line.split(b" ")[0] for line in called(script, "info", store)[1].splitlines()]
+    check("the figures", [line.split(b" ")[0] for line in found["info"].splitlines()], names)
+    check("the folder", found["folder"], os.path.realpath(store).encode() + b"\n")
+    check("the store", called(script, "dump", store, "--existing")[1], world)
+    called(script, "run", store, stdin=b"(SETF (GET 'A 'B) 2)")
+    check("once more", (called(script, "show", f"--html={page}", store)[0], b"(A B 2)" in parts_of(page)["world"]), (0, True))
+
+
+def check_all(script: str, room: str) -> None:
+    """Checks all of it in a room."""
+    of_a_store(script, room)
+    none = os.path.join(room, "none")
+    status, out, _ = called(script, "show", none, "--html", none + ".html")
+    check("no store", (status, out, os.path.exists(none), os.path.exists(none + ".html")), (3, b"", False, False))
+    is_refused("no folder", script, "show", "--html", none, says="a folder is missing")
+    is_refused("no file", script, "show", none, "--html", says="a file is missing")
+    is_refused("two folders", script, "show", none, none, "--html", none, says="takes one folder")
+    is_refused("words", script, "show", none, "--forms", "--html", none, says="knows no --forms")
