@@ -96,7 +96,7 @@ module _ (names : List Name) (Kept : WorldState → WorldState → Type 0) (chan
   push_keeps _ s = record { kept = tt }
 
   -- ---- packages
-  in_package_keeps : {A : Type 0} (s : WorldState) (n : Name) (on : Name → Evaluation A) → ((p : Name) → Keeps s (on p)) → Keeps s (in_package s n on)
+  pub in_package_keeps : {A : Type 0} (s : WorldState) (n : Name) (on : Name → Evaluation A) → ((p : Name) → Keeps s (on p)) → Keeps s (in_package s n on)
   in_package_keeps s n on each = keeps_option Kept s (package_named s.packages n) on (Err NO_SUCH_PACKAGE) each (record { kept = tt })
 
   made_keeps : (s : WorldState) (n : Name) (r : Result Table PackageError) → Keeps s (made s n r)

@@ -26,3 +26,7 @@ pub mod SameBase
 pub mod Pushes
 pub mod ListSizes
 pub mod ListBuilding
+pub mod LookUpLaws
+pub mod LookUpSteps
+pub mod PlaceLaws
+pub mod PlaceSteps

@@ -67,7 +67,7 @@ push_numbered (v ∷ x ∷ i ∷ []) s = numbered_kind (a_symbol x) _ (λ x'. nu
 push_numbered _ s = record { number = (omega arith, omega arith) }
 
 -- ---- packages
-in_package_numbered : {A : Type 0} (s : WorldState) (n : Name) (on : Name → Evaluation A) → ((p : Name) → Numbered (on p)) → Numbered (in_package s n on)
+pub in_package_numbered : {A : Type 0} (s : WorldState) (n : Name) (on : Name → Evaluation A) → ((p : Name) → Numbered (on p)) → Numbered (in_package s n on)
 in_package_numbered s n on each = numbered_option (package_named s.packages n) on (Err NO_SUCH_PACKAGE) each (record { number = (omega arith, omega arith) })
 
 made_numbered : (s : WorldState) (n : Name) (r : Result Table PackageError) → IsPackagesNumbered r → Numbered (made s n r)

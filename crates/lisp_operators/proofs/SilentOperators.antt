@@ -67,7 +67,7 @@ push_silent (v ∷ x ∷ i ∷ []) s = keeps_kind s (a_symbol x) _ (λ x'. keeps
 push_silent _ s = record { same = tt }
 
 -- ---- packages
-in_package_silent : {A : Type 0} (s : WorldState) (n : Name) (on : Name → Evaluation A) → ((p : Name) → Keeps s (on p)) → Keeps s (in_package s n on)
+pub in_package_silent : {A : Type 0} (s : WorldState) (n : Name) (on : Name → Evaluation A) → ((p : Name) → Keeps s (on p)) → Keeps s (in_package s n on)
 in_package_silent s n on each = keeps_option s (package_named s.packages n) on (Err NO_SUCH_PACKAGE) each (record { same = tt })
 
 made_silent : (s : WorldState) (n : Name) (r : Result Table PackageError) → Keeps s (made s n r)

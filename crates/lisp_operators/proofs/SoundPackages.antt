@@ -36,7 +36,7 @@ named_there u n p e =
       | false ↦ λ _ no. absurd (none_some p no)
     ] refl e
 
-in_package_safe : (s : WorldState) (n : Name) (on : Name → Evaluation Object) → ((p : Name) → IsPackage s.packages p → Goods IsValue s (on p)) → Goods IsValue s (in_package s n on)
+pub in_package_safe : (s : WorldState) (n : Name) (on : Name → Evaluation Object) → ((p : Name) → IsPackage s.packages p → Goods IsValue s (on p)) → Goods IsValue s (in_package s n on)
 in_package_safe s n on each = goods_option IsValue s (package_named s.packages n) on (Err NO_SUCH_PACKAGE) (λ p e. each p (named_there s.packages n p e)) (refused s _)
 
 -- ---- MAKE-PACKAGE and IN-PACKAGE

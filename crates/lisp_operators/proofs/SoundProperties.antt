@@ -86,7 +86,7 @@ get_safe (x ∷ i ∷ rest) s sound are =
     goods_here IsValue s (unwrap_or (property s x' i') (given_or_nil rest)) false sound
     (property_value s x' i' (given_or_nil rest) sound (given_value s rest sound (rest_of s i rest (rest_of s x (i ∷ rest) are))))))
 
-put_safe : (s : WorldState) (x i : Symbol) (v : Object) → IsSound s → IsSymbol s.packages x → IsSymbol s.packages i → IsValue s.packages v
+pub put_safe : (s : WorldState) (x i : Symbol) (v : Object) → IsSound s → IsSymbol s.packages x → IsSymbol s.packages i → IsValue s.packages v
     → Goods IsValue s (Ok (record { value = v; state = with_property s x i v; wrote = true }))
 put_safe s x i v sound at_home indicator is = goods_state IsValue s v (with_property s x i v) true (sound_put s x i v sound at_home indicator is) (grows_same s.packages) is
 
@@ -116,7 +116,7 @@ symbol_plist_safe (x ∷ []) s sound are =
     goods_kind IsValue s (a_symbol x) _ (λ x' _. list_safe (in_turn (plist s x')) s sound (turn_values s.packages sound.packages (plist s x') (held s x' sound).indicators (held s x' sound).values))
 symbol_plist_safe _ s sound are = refused s _
 
-range_fits : (n : ℤ) → is_in_range n ≡ true → FitsSigned w128 n
+pub range_fits : (n : ℤ) → is_in_range n ≡ true → FitsSigned w128 n
 range_fits (pos n) e = record { sfits = ltb-true n (2 ^ 127) e }
 range_fits (negsuc n) e = record { sfits = ltb-true n (2 ^ 127) e }
 

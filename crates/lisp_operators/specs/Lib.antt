@@ -9,3 +9,5 @@ pub mod Readtables
 pub mod ReadBase
 pub mod Effects
 pub mod ListBuilder
+pub mod LookUps
+pub mod Places

@@ -5,8 +5,8 @@
 //! of specs/Evaluated.antt). After a refusal or out of memory the world may have changed, but for its marks. Which form is a call
 //! of which operator, the crate `evaluator` says.
 //!
-//! - `properties`, `packages`, `package_lists`, `readtables`, `read_base`: the operators of each family; `effects`: SETF and PUSH
-//!   of a property, where their values are not asked for
+//! - `properties`, `places`, `packages`, `package_lists`, `look_ups`, `readtables`, `read_base`: the operators of each family;
+//!   `effects`: SETF and PUSH of a property, where their values are not asked for
 //! - `error`, `evaluated`: what an operator gives, `EvaluationError` and `Evaluated`
 //! - `arguments`, `owned_arguments`, `kinds`, `lists`, `values`: so many arguments, what each stands for, lists of them, and
 //!   values that are built; `list_builder`: a list that is built of one value after the other; `changes`: changes of the packages, one after the other
@@ -37,9 +37,11 @@ mod evaluated;
 pub mod kinds;
 mod list_builder;
 mod lists;
+pub mod look_ups;
 mod owned_arguments;
 pub mod package_lists;
 pub mod packages;
+pub mod places;
 pub mod properties;
 pub mod read_base;
 pub mod readtables;

@@ -65,3 +65,16 @@ pub(crate) fn three(values: Vec<Datum>) -> Result<(Datum, Datum, Datum), Evaluat
     let (second, third) = two(rest)?;
     Ok((head, second, third))
 }
+
+/// The first three arguments, and those after them.
+pub(crate) fn three_and_rest(
+    values: Vec<Datum>,
+) -> Result<(Datum, Datum, Datum, Vec<Datum>), EvaluationError>
+    ensures value { AreAtLeast 3 (λ p. p.0 ∷ p.1 ∷ p.2 ∷ p.3.items) values.items result }
+    ensures arguments { WhereArguments values.items result
+        (λ u p. IsArgument u p.0 × IsArgument u p.1 × IsArgument u p.2 × All (IsArgument u) p.3.items) }
+{
+    let (head, rest) = first(values)?;
+    let (second, third, rest) = two_and_rest(rest)?;
+    Ok((head, second, third, rest))
+}

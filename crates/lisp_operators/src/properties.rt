@@ -158,8 +158,8 @@ pub fn symbol_plist(
     values::list(alloc, in_turn(alloc, &row)?)
 }
 
-// By how much INCF adds: 1 where it is not given.
-fn amount(rest: &[Datum]) -> Result<i128, EvaluationError>
+/// By how much INCF adds: 1 where it is not given.
+pub(crate) fn amount(rest: &[Datum]) -> Result<i128, EvaluationError>
     requires { AreProper rest.now }
     ensures { IsOfKind (λ n. n) result (amount (objects rest.now)) }
 {
