@@ -11,8 +11,9 @@ use Rattle.property_rows.specs.Slots.{no_property, with_value}
 use Rattle.plist_state.specs.Shown.{numbered_property}
 use Rattle.plist_state.specs.Properties.{value_by, with_value_by, without_value_by}
 use Rattle.plist_state.specs.Pushed.{pushed, with_pushed_by}
+use Rattle.plist_state.specs.Popped.{popped, with_popped_by}
 use Rattle.plist_state.specs.Lists.{NumberedPlist, same_number}
-use Rattle.plist_state.specs.Undoing.{with_value_at, with_rest_at, without_first, with_inserted}
+use Rattle.plist_state.specs.Undoing.{with_value_at, with_changed_at, without_first, with_inserted}
 
 abbrev pub has : ℕ → NumberedProperty → Bool
 has i p = same_number i p.indicator
@@ -134,6 +135,14 @@ pushed_at items i k p v x at is made =
     ∙ sym ((first_at items i k at).written (pair (object_of x) (object_of p.value)))
     ∙ ap (λ o. with_value_by same_number (shown items) i (pushed (object_of x) o)) (sym (stands_at items i k p at is))
 
+-- the list at the index of an indicator, without its first item
+pub popped_at : (items : List NumberedProperty) (i k : ℕ) (p : NumberedProperty) (v : Datum) → position (has i) items ≡ Some k → p ≡ get_or items k p → object_of v ≡ without_first (object_of p.value)
+    → shown (set items k (record { indicator = p.indicator; order = p.order; value = v })) ≡ with_popped_by same_number (shown items) i
+popped_at items i k p v at is made =
+    shown-set items k p v is ∙ ap (with_value_at (shown items) k) made
+    ∙ sym ((first_at items i k at).written (without_first (object_of p.value)))
+    ∙ ap (λ o. with_value_by same_number (shown items) i (popped o)) (sym (stands_at items i k p at is))
+
 -- the list as it was, where there was no memory
 pub unpushed : {A E : Type 0} (r : Result A E) (items : List NumberedProperty) (k : ℕ) (p : NumberedProperty) (v : Datum) → p ≡ get_or items k p → object_of v ≡ object_of p.value
     → OnErr r (shown (set items k (record { indicator = p.indicator; order = p.order; value = v })) ≡ shown items)
@@ -141,26 +150,26 @@ unpushed (Ok x) items k p v is same = tt
 unpushed (Err e) items k p v is same =
     shown-set items k p v is ∙ ap (with_value_at (shown items) k) same ∙ with_value_at-same items k p is
 
--- and without it again
-pub pushed_back : (items : List NumberedProperty) (k : ℕ) (p : NumberedProperty) (v x : Datum) → p ≡ get_or items k p → object_of v ≡ pair (object_of x) (object_of p.value)
-    → with_rest_at (shown (set items k (record { indicator = p.indicator; order = p.order; value = v }))) k ≡ shown items
-pushed_back [] k p v x is made = refl
-pushed_back (q ∷ qs) zero p v x is made =
-    ap (λ o. (p.indicator, without_first o) ∷ shown qs) made ∙ ap (λ (t : NumberedProperty). numbered_property t ∷ shown qs) is
-pushed_back (q ∷ qs) (suc k) p v x is made = ap (λ ps. numbered_property q ∷ ps) (pushed_back qs k p v x is made)
+-- the value at an index, of which something makes the earlier one
+pub changed_back : (f : Object → Object) (items : List NumberedProperty) (k : ℕ) (p : NumberedProperty) (v : Datum) → p ≡ get_or items k p → f (object_of v) ≡ object_of p.value
+    → with_changed_at f (shown (set items k (record { indicator = p.indicator; order = p.order; value = v }))) k ≡ shown items
+changed_back f [] k p v is made = refl
+changed_back f (q ∷ qs) zero p v is made =
+    ap (λ o. (p.indicator, o) ∷ shown qs) made ∙ ap (λ (t : NumberedProperty). numbered_property t ∷ shown qs) is
+changed_back f (q ∷ qs) (suc k) p v is made = ap (λ ps. numbered_property q ∷ ps) (changed_back f qs k p v is made)
 
--- the list at an index, without its first item
-pub shown-rest : (items : List NumberedProperty) (k : ℕ) (p : NumberedProperty) (v : Datum) → p ≡ get_or items k p → object_of v ≡ without_first (object_of p.value)
-    → shown (set items k (record { indicator = p.indicator; order = p.order; value = v })) ≡ with_rest_at (shown items) k
-shown-rest [] k p v is made = refl
-shown-rest (q ∷ qs) zero p v is made =
-    ap (λ o. (p.indicator, o) ∷ shown qs) made ∙ ap (λ (t : NumberedProperty). (t.indicator, without_first (object_of t.value)) ∷ shown qs) is
-shown-rest (q ∷ qs) (suc k) p v is made = ap (λ ps. numbered_property q ∷ ps) (shown-rest qs k p v is made)
+-- what is made of the value at an index
+pub shown-changed : (f : Object → Object) (items : List NumberedProperty) (k : ℕ) (p : NumberedProperty) (v : Datum) → p ≡ get_or items k p → object_of v ≡ f (object_of p.value)
+    → shown (set items k (record { indicator = p.indicator; order = p.order; value = v })) ≡ with_changed_at f (shown items) k
+shown-changed f [] k p v is made = refl
+shown-changed f (q ∷ qs) zero p v is made =
+    ap (λ o. (p.indicator, o) ∷ shown qs) made ∙ ap (λ (t : NumberedProperty). (t.indicator, f (object_of t.value)) ∷ shown qs) is
+shown-changed f (q ∷ qs) (suc k) p v is made = ap (λ ps. numbered_property q ∷ ps) (shown-changed f qs k p v is made)
 
-pub with_rest_at-past : (ps : NumberedPlist) (k : ℕ) → length ps ≤ k → with_rest_at ps k ≡ ps
-with_rest_at-past [] k h = refl
-with_rest_at-past (p ∷ ps) zero h = absurd (omega arith)
-with_rest_at-past (p ∷ ps) (suc k) h = ap (λ qs. p ∷ qs) (with_rest_at-past ps k (omega arith))
+pub with_changed_at-past : (f : Object → Object) (ps : NumberedPlist) (k : ℕ) → length ps ≤ k → with_changed_at f ps k ≡ ps
+with_changed_at-past f [] k h = refl
+with_changed_at-past f (p ∷ ps) zero h = absurd (omega arith)
+with_changed_at-past f (p ∷ ps) (suc k) h = ap (λ qs. p ∷ qs) (with_changed_at-past f ps k (omega arith))
 
 -- an index past the end
 pub with_value_at-past : (ps : NumberedPlist) (k : ℕ) (x : Object) → length ps ≤ k → with_value_at ps k x ≡ ps

@@ -20,4 +20,5 @@ pub mod Marking
 pub mod Left
 pub mod Viewed
 pub mod Pushed
+pub mod Popped
 pub mod Sized

@@ -1,6 +1,6 @@
 -- That the calls keep the state of a world sound.
 --     sound_packages      other packages, in which nothing is lost
---     sound_put, sound_removed      a property
+--     sound_value, sound_put, sound_removed      a property
 --     removed_absent      a property that is not there, removed
 --     sound_in_package, sound_in_readtable, sound_base      the current names, and the base
 --     sound_table      a readtable in place of one, or a new one
@@ -11,7 +11,7 @@ use Rattle.std.specs.Option.{option_map, option_map_or}
 use Rattle.package_table.proofs.Frames.{equal_names, equal_itself}
 use Rattle.std.specs.Ordering.{eq_by_cmp}
 use Rattle.std.proofs.lemmas.Bool.{false≢true, and_parts, and_from}
-use Rattle.std.proofs.lemmas.List.Elements.{All-weaker, All-nil}
+use Rattle.std.proofs.lemmas.List.Elements.{All-weaker, All-nil, All-head, All-tail}
 use Rattle.std.specs.FinMap as finite
 use Rattle.std.specs.FinMap.{get-insert}
 use Rattle.std.specs.Cmp.{eq_by_cmp_equiv}
@@ -26,6 +26,7 @@ use Rattle.plist_state.specs.Properties.{Symbol, Plist, Properties, symbol_cmp, 
 use Rattle.plist_state.specs.State.{WorldState, standard_name, user_name}
 use Rattle.plist_state.specs.Changes.{plist, property, with_property, without_property, with_packages, with_base}
 use Rattle.plist_state.specs.Sound.{IsSymbol, IsKnown, IsValue, IsApart, IsPlist, IsNamed, IsSound}
+use Rattle.package_table.proofs.Names.{same_some}
 use Rattle.plist_state.proofs.Orders.{one_symbol, one_name, name_total, symbol_total}
 use Rattle.plist_state.proofs.Lists.{kept, AreSome, all_with, all_without, without-absent, get-with_list, with_list_same}
 
@@ -202,6 +203,18 @@ list_of s x sound =
       | None ↦ λ _. record { apart = tt; indicators = All-nil (λ (p : Symbol × Object). IsSymbol s.packages p.0); values = All-nil (λ (p : Symbol × Object). IsValue s.packages p.1) }
       | Some ps ↦ λ e. record { apart = (sound.properties x ps e).apart; indicators = (sound.properties x ps e).indicators; values = (sound.properties x ps e).values }
     ] refl
+
+value_held : (t : packages.Table) (ps : Plist) (i : Symbol) (v : Object) → All (λ p. IsValue t p.1) ps → value_at ps i ≡ Some v → IsValue t v
+value_held t [] i v all is = absurd (cc)
+value_held t (p ∷ ps) i v all is =
+    elim (same_symbol i p.0) as (λ b. cond b (Some p.1) (value_at ps i) ≡ Some v → IsValue t v) [
+      | true ↦ λ here. subst (IsValue t) (same_some p.1 v here) (All-head (λ p. IsValue t p.1) p ps all)
+      | false ↦ λ later. value_held t ps i v (All-tail (λ p. IsValue t p.1) p ps all) later
+    ] is
+
+-- a value that is there may be stored
+pub sound_value : (s : WorldState) (x i : Symbol) (v : Object) → IsSound s → property s x i ≡ Some v → IsValue s.packages v
+sound_value s x i v sound is = value_held s.packages (plist s x) i v (list_of s x sound).values is
 
 pub sound_put : (s : WorldState) (x i : Symbol) (v : Object) → IsSound s → IsSymbol s.packages x → IsSymbol s.packages i → IsValue s.packages v → IsSound (with_property s x i v)
 sound_put s x i v sound at_home indicator value =

@@ -19,13 +19,13 @@ use Rattle.lisp_object.specs.Object.{Object}
 use Rattle.lisp_object.specs.Datum.{object_of}
 use Rattle.lisp_object.specs.declared.datum.Datum.{Datum}
 use Rattle.plist_state.specs.declared.note.PropertyChange.{PropertyChange}
-use Rattle.plist_state.specs.declared.note.PropertyChange.TheVariants.{Set, Added, Removed, Pushed}
+use Rattle.plist_state.specs.declared.note.PropertyChange.TheVariants.{Set, Added, Removed, Pushed, Popped}
 use Rattle.plist_state.specs.declared.note.Note.{Note}
 use Rattle.plist_state.specs.declared.note.Note.TheVariants.{Property, Made, Changed, InPackage, InReadtable, InBase}
-use Rattle.plist_state.specs.declared.overwritten.Place.{Place}
+use Rattle.plist_state.specs.declared.overwritten.PropertyPlace.{PropertyPlace}
 use Rattle.plist_state.specs.Lists.{NumberedPlist, NumberedLists, row_of, with_row}
 use Rattle.plist_state.specs.Shown.{Rows, room_at, lists_in, NumberedRest}
-use Rattle.plist_state.specs.Undoing.{with_value_at, with_rest_at, with_inserted, without_first, list_before, undone, all_undone, rests_at}
+use Rattle.plist_state.specs.Undoing.{with_value_at, with_changed_at, with_items, with_inserted, without_first, list_before, undone, all_undone, rests_at}
 use Rattle.plist_state.specs.Journal.{marks_of, Fits, LeadsBack, IsJournal, Continues}
 use Rattle.plist_state.specs.Overwritten.{before_change, before_note, before_notes, with_at, IsOverwritten}
 use Rattle.plist_state.proofs.Indices.{with_value_at-past, with_value_at-twice, length-inserted}
@@ -41,10 +41,10 @@ length-set [] k x = refl
 length-set (p ∷ ps) zero x = refl
 length-set (p ∷ ps) (suc k) x = ap suc (length-set ps k x)
 
-length-rest : (ps : NumberedPlist) (k : ℕ) → length (with_rest_at ps k) ≡ length ps
-length-rest [] k = refl
-length-rest (p ∷ ps) zero = refl
-length-rest (p ∷ ps) (suc k) = ap suc (length-rest ps k)
+length-changed : (f : Object → Object) (ps : NumberedPlist) (k : ℕ) → length (with_changed_at f ps k) ≡ length ps
+length-changed f [] k = refl
+length-changed f (p ∷ ps) zero = refl
+length-changed f (p ∷ ps) (suc k) = ap suc (length-changed f ps k)
 
 set_apart : (ps : NumberedPlist) (j k : ℕ) (x y : Object) → j ≢ k → with_value_at (with_value_at ps j x) k y ≡ with_value_at (with_value_at ps k y) j x
 set_apart [] j k x y apart = refl
@@ -53,13 +53,13 @@ set_apart (p ∷ ps) zero (suc k) x y apart = refl
 set_apart (p ∷ ps) (suc j) zero x y apart = refl
 set_apart (p ∷ ps) (suc j) (suc k) x y apart = ap (λ qs. p ∷ qs) (set_apart ps j k x y (λ e. apart (ap suc e)))
 
-rest_set : (ps : NumberedPlist) (j k : ℕ) (x : Object) → (w : Object) × (with_rest_at (with_value_at ps j x) k ≡ with_value_at (with_rest_at ps k) j w)
-rest_set [] j k x = (x, refl)
-rest_set (p ∷ ps) zero zero x = (without_first x, refl)
-rest_set (p ∷ ps) zero (suc k) x = (x, refl)
-rest_set (p ∷ ps) (suc j) zero x = (x, refl)
-rest_set (p ∷ ps) (suc j) (suc k) x =
-    let later : (w : Object) × (with_rest_at (with_value_at ps j x) k ≡ with_value_at (with_rest_at ps k) j w) = rest_set ps j k x in
+changed_set : (f : Object → Object) (ps : NumberedPlist) (j k : ℕ) (x : Object) → (w : Object) × (with_changed_at f (with_value_at ps j x) k ≡ with_value_at (with_changed_at f ps k) j w)
+changed_set f [] j k x = (x, refl)
+changed_set f (p ∷ ps) zero zero x = (f x, refl)
+changed_set f (p ∷ ps) zero (suc k) x = (x, refl)
+changed_set f (p ∷ ps) (suc j) zero x = (x, refl)
+changed_set f (p ∷ ps) (suc j) (suc k) x =
+    let later : (w : Object) × (with_changed_at f (with_value_at ps j x) k ≡ with_value_at (with_changed_at f ps k) j w) = changed_set f ps j k x in
     (later.0, ap (λ qs. p ∷ qs) later.1)
 
 take_set : (n : ℕ) (ps : NumberedPlist) (j : ℕ) (x : Object) → take n (with_value_at ps j x) ≡ with_value_at (take n ps) j x
@@ -87,11 +87,11 @@ insert_after (p ∷ ps) (suc k) zero q x here within = refl
 insert_after (p ∷ ps) (suc k) (suc j) q x here within = ap (λ qs. p ∷ qs) (insert_after ps k j q x (omega (arith, here)) (omega (arith, within)))
 
 -- the lists are the same but for the value at a place, or are the same
-abbrev ListFollows : NumberedPlist → Option Place → NumberedPlist → Type 0
+abbrev ListFollows : NumberedPlist → Option PropertyPlace → NumberedPlist → Type 0
 ListFollows ps None qs = qs ≡ ps
 ListFollows ps (Some p) qs = (v : Object) × (length ps ≡ p.length) × (p.index < p.length) × (qs ≡ with_value_at ps p.index v)
 
-module _ (ps qs : NumberedPlist) (p : Place) (v : Object) (long : length ps ≡ p.length) (within : p.index < p.length) (is : qs ≡ with_value_at ps p.index v) where
+module _ (ps qs : NumberedPlist) (p : PropertyPlace) (v : Object) (long : length ps ≡ p.length) (within : p.index < p.length) (is : qs ≡ with_value_at ps p.index v) where
   same_long : length qs ≡ length ps
   same_long = ap length is ∙ length-set ps p.index v
 
@@ -139,17 +139,18 @@ module _ (ps qs : NumberedPlist) (p : Place) (v : Object) (long : length ps ≡ 
         ap (λ xs. with_inserted xs k q) is ∙ insert_after ps k p.index q v past (omega (arith, within, long)),
       )
 
-  follows_pushed : (k : ℕ) (d : Datum) → ListFollows (list_before (Pushed k d) ps) (Some p) (list_before (Pushed k d) qs)
-  follows_pushed k d =
-      let left : (w : Object) × (with_rest_at (with_value_at ps p.index v) k ≡ with_value_at (with_rest_at ps k) p.index w) = rest_set ps p.index k v in
-      (left.0, length-rest ps k ∙ long, within, ap (λ xs. with_rest_at xs k) is ∙ left.1)
+  follows_made : (f : Object → Object) (k : ℕ) → ListFollows (with_changed_at f ps k) (Some p) (with_changed_at f qs k)
+  follows_made f k =
+      let left : (w : Object) × (with_changed_at f (with_value_at ps p.index v) k ≡ with_value_at (with_changed_at f ps k) p.index w) = changed_set f ps p.index k v in
+      (left.0, length-changed f ps k ∙ long, within, ap (λ xs. with_changed_at f xs k) is ∙ left.1)
 
-follows_change : (change : PropertyChange) (ps qs : NumberedPlist) (p : Place) → ListFollows ps (Some p) qs
+follows_change : (change : PropertyChange) (ps qs : NumberedPlist) (p : PropertyPlace) → ListFollows ps (Some p) qs
     → ListFollows (list_before change ps) (before_change change p) (list_before change qs)
 follows_change (Set k d) ps qs p f = follows_set ps qs p f.0 f.1 f.2 f.3 k d (k == p.index) refl
 follows_change Added ps qs p f = follows_added ps qs p f.0 f.1 f.2 f.3 (p.index + 1 == p.length) refl
 follows_change (Removed k q) ps qs p f = follows_removed ps qs p f.0 f.1 f.2 f.3 k (q.indicator, object_of q.value) (nat_le k p.index) refl
-follows_change (Pushed k d) ps qs p f = follows_pushed ps qs p f.0 f.1 f.2 f.3 k d
+follows_change (Pushed k d) ps qs p f = follows_made ps qs p f.0 f.1 f.2 f.3 without_first k
+follows_change (Popped k items) ps qs p f = follows_made ps qs p f.0 f.1 f.2 f.3 (with_items items) k
 
 -- ---- two lists in a map
 row_apart : (m : NumberedLists) (x y : ℕ) (ps : NumberedPlist) → eq_by_cmp nat_cmp y x ≡ false → row_of (with_row m x ps) y ≡ row_of m y
@@ -167,7 +168,7 @@ with_row_apart m x y ps qs apart = same_map nat_cmp_total nat_cmp-IsAntisymmetri
     ∙ sym (get-with_row (with_row m y qs) x ps q ∙ ap (cond (eq_by_cmp nat_cmp q x) (kept ps)) (get-with_row m y qs q)))
 
 -- ---- what is kept besides the packages
-abbrev Follows : ℕ → NumberedRest → Option Place → NumberedRest → Type 0
+abbrev Follows : ℕ → NumberedRest → Option PropertyPlace → NumberedRest → Type 0
 Follows x s None a = a ≡ s
 Follows x s (Some p) a = (v : Object) × (length (row_of s.properties x) ≡ p.length) × (p.index < p.length) × (a ≡ with_at s x p.index v)
 
@@ -188,7 +189,7 @@ module _ (x : ℕ) (change : PropertyChange) (s : NumberedRest) where
       ((λ i. with_row (with_row s.properties x (list_before change (row_of s.properties x))) x (with_value_at (row-with_row s.properties x (list_before change (row_of s.properties x)) i) k w))
       ∙ with_row_twice s.properties x (list_before change (row_of s.properties x)) (with_value_at (list_before change (row_of s.properties x)) k w))
 
-  follows_list : (o : Option Place) (qs : NumberedPlist) → ListFollows (list_before change (row_of s.properties x)) o (list_before change qs)
+  follows_list : (o : Option PropertyPlace) (qs : NumberedPlist) → ListFollows (list_before change (row_of s.properties x)) o (list_before change qs)
       → Follows x (undone (Property x change) s) o (undone (Property x change) (record s { properties = with_row s.properties x qs }))
   follows_list None qs f = made qs ∙ ap (λ l. record s { properties = with_row s.properties x l }) f
   follows_list (Some q) qs f = (
@@ -198,7 +199,7 @@ module _ (x : ℕ) (change : PropertyChange) (s : NumberedRest) where
     made qs ∙ ap (λ l. record s { properties = with_row s.properties x l }) f.3 ∙ sym (put_at q.index f.0),
   )
 
-follows_here : (x : ℕ) (change : PropertyChange) (s a : NumberedRest) (p : Place) → Follows x s (Some p) a
+follows_here : (x : ℕ) (change : PropertyChange) (s a : NumberedRest) (p : PropertyPlace) → Follows x s (Some p) a
     → Follows x (undone (Property x change) s) (before_change change p) (undone (Property x change) a)
 follows_here x change s a p f =
     subst (λ (b : NumberedRest). Follows x (undone (Property x change) s) (before_change change p) (undone (Property x change) b)) (sym f.3)
@@ -206,7 +207,7 @@ follows_here x change s a p f =
     (follows_change change (row_of s.properties x) (with_value_at (row_of s.properties x) p.index f.0) p (f.0, f.1, f.2, refl)))
 
 -- a change of another list
-follows_there : (x y : ℕ) (change : PropertyChange) (s a : NumberedRest) (p : Place) → y ≢ x → Follows x s (Some p) a
+follows_there : (x y : ℕ) (change : PropertyChange) (s a : NumberedRest) (p : PropertyPlace) → y ≢ x → Follows x s (Some p) a
     → Follows x (undone (Property y change) s) (Some p) (undone (Property y change) a)
 follows_there x y change s a p apart f =
     let m : NumberedLists = s.properties in
@@ -223,14 +224,14 @@ follows_there x y change s a p apart f =
           ∙ (λ i. with_row (with_row m y before) x (with_value_at (sym here i) p.index f.0))),
     )
 
-follows_property : (x y : ℕ) (change : PropertyChange) (s a : NumberedRest) (p : Place) (b : Bool) → (y == x) ≡ b → Follows x s (Some p) a
+follows_property : (x y : ℕ) (change : PropertyChange) (s a : NumberedRest) (p : PropertyPlace) (b : Bool) → (y == x) ≡ b → Follows x s (Some p) a
     → Follows x (undone (Property y change) s) (cond b (before_change change p) (Some p)) (undone (Property y change) a)
 follows_property x y change s a p true e f =
     let same : x ≡ y = grind (arith, nat_tests, e) in
     subst (λ z. Follows x (undone (Property z change) s) (before_change change p) (undone (Property z change) a)) same (follows_here x change s a p f)
 follows_property x y change s a p false e f = follows_there x y change s a p (λ same. absurd (grind (arith, nat_tests, e, same))) f
 
-follows_note : (x : ℕ) (n : Note) (o : Option Place) (s a : NumberedRest) → Follows x s o a
+follows_note : (x : ℕ) (n : Note) (o : Option PropertyPlace) (s a : NumberedRest) → Follows x s o a
     → Follows x (undone n s) (option_and_then (before_note x n) o) (undone n a)
 follows_note x n None s a f = ap (undone n) f
 follows_note x (Property y change) (Some p) s a f = follows_property x y change s a p (y == x) refl f
@@ -240,13 +241,13 @@ follows_note x (InPackage name) (Some p) s a f = (f.0, f.1, f.2, ap (undone (InP
 follows_note x (InReadtable name) (Some p) s a f = (f.0, f.1, f.2, ap (undone (InReadtable name)) f.3)
 follows_note x (InBase base) (Some p) s a f = (f.0, f.1, f.2, ap (undone (InBase base)) f.3)
 
-follows_notes : (x : ℕ) (ns : List Note) (p : Place) (s a : NumberedRest) → Follows x s (Some p) a
+follows_notes : (x : ℕ) (ns : List Note) (p : PropertyPlace) (s a : NumberedRest) → Follows x s (Some p) a
     → Follows x (all_undone ns s) (before_notes x ns p) (all_undone ns a)
 follows_notes x [] p s a f = f
 follows_notes x (n ∷ ns) p s a f = follows_note x n (before_notes x ns p) (all_undone ns s) (all_undone ns a) (follows_notes x ns p s a f)
 
 -- ---- the memory of the rows
-same_lengths : (x : ℕ) (o : Option Place) (s a : NumberedRest) → Follows x s o a → (y : ℕ) → length (row_of a.properties y) ≡ length (row_of s.properties y)
+same_lengths : (x : ℕ) (o : Option PropertyPlace) (s a : NumberedRest) → Follows x s o a → (y : ℕ) → length (row_of a.properties y) ≡ length (row_of s.properties y)
 same_lengths x None s a f y = ap (λ (r : NumberedRest). length (row_of r.properties y)) f
 same_lengths x (Some p) s a f y =
     let qs : NumberedPlist = with_value_at (row_of s.properties x) p.index f.0 in
@@ -258,14 +259,14 @@ same_lengths x (Some p) s a f y =
       | false ↦ λ e. ap length (row_apart s.properties x y qs e)
     ] refl
 
-leads_to : (x : ℕ) (ns : List Note) (p : Place) (s a : NumberedRest) (rows : Rows) → Follows x s (Some p) a → LeadsBack ns s rows → LeadsBack ns a rows
+leads_to : (x : ℕ) (ns : List Note) (p : PropertyPlace) (s a : NumberedRest) (rows : Rows) → Follows x s (Some p) a → LeadsBack ns s rows → LeadsBack ns a rows
 leads_to x [] p s a rows f leads = tt
 leads_to x (n ∷ ns) p s a rows f leads =
     let fits : Fits rows (all_undone (n ∷ ns) a) = λ y.
     subst (λ k. k ≤ room_at rows y) (sym (same_lengths x (before_notes x (n ∷ ns) p) (all_undone (n ∷ ns) s) (all_undone (n ∷ ns) a) (follows_notes x (n ∷ ns) p s a f) y)) (leads.1 y) in
     (leads.0, fits, leads_to x ns p s a rows f leads.2)
 
-leads_from : (x : ℕ) (ns : List Note) (p : Place) (s a : NumberedRest) (rows : Rows) → Follows x s (Some p) a → LeadsBack ns a rows → LeadsBack ns s rows
+leads_from : (x : ℕ) (ns : List Note) (p : PropertyPlace) (s a : NumberedRest) (rows : Rows) → Follows x s (Some p) a → LeadsBack ns a rows → LeadsBack ns s rows
 leads_from x [] p s a rows f leads = tt
 leads_from x (n ∷ ns) p s a rows f leads =
     let fits : Fits rows (all_undone (n ∷ ns) s) = λ y.
@@ -282,7 +283,7 @@ back_the_same ms ns t u back leads = record {
       journal_put ms ns u rows (leads rows left.0) (subst (λ r. IsJournal ms r rows) (sym back) left.1);
 }
 
-overwritten : (ms : List (List Note)) (ns : List Note) (x : ℕ) (p : Place) → before_notes x ns p ≡ None → p.index < p.length → IsOverwritten (ms ++ ns ∷ []) x p
+overwritten : (ms : List (List Note)) (ns : List Note) (x : ℕ) (p : PropertyPlace) → before_notes x ns p ≡ None → p.index < p.length → IsOverwritten (ms ++ ns ∷ []) x p
 overwritten ms ns x p none within r v long =
     let a : NumberedRest = with_at r x p.index v in
     let f : Follows x r (Some p) a = (v, long, within, refl) in
@@ -291,13 +292,13 @@ overwritten ms ns x p none within r v long =
       back_the_same ms ns a r (sym back) (λ rows. leads_from x ns p r a rows f),
     )
 
-pub earlier_notes : (x : ℕ) (k : ℕ) (ns : List Note) (p : Place) → before_notes x (drop k ns) p ≡ None → before_notes x ns p ≡ None
+pub earlier_notes : (x : ℕ) (k : ℕ) (ns : List Note) (p : PropertyPlace) → before_notes x (drop k ns) p ≡ None → before_notes x ns p ≡ None
 earlier_notes x zero ns p none = none
 earlier_notes x (suc k) [] p none = none
 earlier_notes x (suc k) (n ∷ ns) p none = ap (option_and_then (before_note x n)) (earlier_notes x k ns p none)
 
 -- one note more is looked at
-pub passed : (x : ℕ) (ns : List Note) (j k : ℕ) (d : Note) (p q : Place) → j ≡ k + 1 → k < length ns → before_notes x (drop j ns) p ≡ Some q
+pub passed : (x : ℕ) (ns : List Note) (j k : ℕ) (d : Note) (p q : PropertyPlace) → j ≡ k + 1 → k < length ns → before_notes x (drop j ns) p ≡ Some q
     → before_notes x (drop k ns) p ≡ before_note x (get_or ns k d) q
 passed x ns j k d p q next within is =
     at_drop_more (λ ks. before_notes x ks p) ns k d within
@@ -315,7 +316,7 @@ length-dropped (suc k) [] = omega arith
 length-dropped (suc k) (n ∷ ns) = let less = length-dropped k ns in omega (arith, less)
 
 -- the notes of the newest mark, from one of them on
-pub overwritten_since : (ms : List (Vec Note)) (newest : Vec Note) → Some newest ≡ slice_get ms (length ms - 1) → (x : ℕ) (p : Place) (k : ℕ)
+pub overwritten_since : (ms : List (Vec Note)) (newest : Vec Note) → Some newest ≡ slice_get ms (length ms - 1) → (x : ℕ) (p : PropertyPlace) (k : ℕ)
     → before_notes x (slice_range newest.items k (length newest.items)) p ≡ None → p.index < p.length → IsOverwritten (marks_of ms) x p
 overwritten_since ms newest is x p k none within =
     let split : (before : List (Vec Note)) × (ms ≡ before ++ newest ∷ []) = ends_with ms newest is in
@@ -325,7 +326,7 @@ overwritten_since ms newest is x p k none within =
     (overwritten (marks_of split.0) newest.items x p (earlier_notes x k newest.items p (ap (λ ns. before_notes x ns p) (sym whole) ∙ none)) within)
 
 -- a value that was set, and is overwritten
-pub not_noted : (ms : List (List Note)) (x : ℕ) (p : Place) (k : ℕ) (d : Datum) → p.index ≡ k → IsOverwritten ms x p → (t u : NumberedRest)
+pub not_noted : (ms : List (List Note)) (x : ℕ) (p : PropertyPlace) (k : ℕ) (d : Datum) → p.index ≡ k → IsOverwritten ms x p → (t u : NumberedRest)
     → length (row_of u.properties x) ≡ p.length → undone (Property x (Set k d)) u ≡ t → Continues ms t ms u
 not_noted ms x p k d here gone t u long undoes =
     subst (λ (r : NumberedRest). Continues ms r ms u) (ap (λ j. with_at u x j (object_of d)) here ∙ undoes) (gone u (object_of d) long).1

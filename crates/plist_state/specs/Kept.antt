@@ -3,7 +3,7 @@ use Rattle.std.specs.Prelude.{◌≡◌, ℕ, ◌≤◌, true, All, IfSome, code
 use Rattle.lisp_object.specs.declared.datum.Datum.{Datum}
 use Rattle.lisp_object.specs.Datum.{is_proper}
 use Rattle.plist_state.specs.declared.note.PropertyChange.{PropertyChange}
-use Rattle.plist_state.specs.declared.note.PropertyChange.TheVariants.{Set, Added, Removed, Pushed}
+use Rattle.plist_state.specs.declared.note.PropertyChange.TheVariants.{Set, Added, Removed, Pushed, Popped}
 use Rattle.property_rows.specs.Rows.{PropertyRow}
 use Rattle.plist_state.specs.Shown.{Rows, row_at, room_at}
 
@@ -22,6 +22,7 @@ IsProperChange (Set index value) = is_proper value ≡ true
 IsProperChange Added = Unit {0}
 IsProperChange (Removed index property) = is_proper property.value ≡ true
 IsProperChange (Pushed index empty) = IsEmptyList empty
+IsProperChange (Popped index items) = All (λ d. is_proper d ≡ true) items.items
 
 -- the rows of one hold what those of the other held, in as much memory
 pub record IsWider (rows later : Rows) : Type 0 where

@@ -17,4 +17,5 @@ pub mod Sizes
 pub mod Marked
 pub mod Viewed
 pub mod Pushed
+pub mod Popped
 pub mod Shortened

@@ -3,25 +3,26 @@ use Rattle.std.specs.Prelude.{◌≡◌, ℕ, ◌+◌, ◌-◌, ◌==◌, nat_le
 use Rattle.std.specs.Option.{option_and_then}
 use Rattle.lisp_object.specs.Object.{Object}
 use Rattle.plist_state.specs.declared.note.PropertyChange.{PropertyChange}
-use Rattle.plist_state.specs.declared.note.PropertyChange.TheVariants.{Set, Added, Removed, Pushed}
+use Rattle.plist_state.specs.declared.note.PropertyChange.TheVariants.{Set, Added, Removed, Pushed, Popped}
 use Rattle.plist_state.specs.declared.note.Note.{Note}
 use Rattle.plist_state.specs.declared.note.Note.TheVariants.{Property, Made, Changed, InPackage, InReadtable, InBase}
-use Rattle.plist_state.specs.declared.overwritten.Place.{Place}
+use Rattle.plist_state.specs.declared.overwritten.PropertyPlace.{PropertyPlace}
 use Rattle.plist_state.specs.Lists.{row_of, with_row}
 use Rattle.plist_state.specs.Shown.{NumberedRest}
 use Rattle.plist_state.specs.Undoing.{with_value_at}
 use Rattle.plist_state.specs.Journal.{Continues}
 
 -- where the property at a place was before a change of its list; none where its value is overwritten as the change is undone
-abbrev pub before_change : PropertyChange → Place → Option Place
+abbrev pub before_change : PropertyChange → PropertyPlace → Option PropertyPlace
 before_change (Set index value) p = if index == p.index then None else Some p
 before_change Added p = if p.index + 1 == p.length then None else Some (record { index = p.index; length = p.length - 1 })
 before_change (Removed index property) p =
     Some (record { index = if nat_le index p.index then p.index + 1 else p.index; length = p.length + 1 })
 before_change (Pushed index empty) p = Some p
+before_change (Popped index items) p = Some p
 
 -- the same of any note, where the list is that of the symbol x
-abbrev pub before_note : ℕ → Note → Place → Option Place
+abbrev pub before_note : ℕ → Note → PropertyPlace → Option PropertyPlace
 before_note x (Property number change) p = if number == x then before_change change p else Some p
 before_note x (Made name) p = Some p
 before_note x (Changed name change) p = Some p
@@ -30,7 +31,7 @@ before_note x (InReadtable name) p = Some p
 before_note x (InBase base) p = Some p
 
 -- and of notes, of which the last is undone first
-abbrev pub before_notes : ℕ → List Note → Place → Option Place
+abbrev pub before_notes : ℕ → List Note → PropertyPlace → Option PropertyPlace
 before_notes x [] p = Some p
 before_notes x (n ∷ ns) p = option_and_then (before_note x n) (before_notes x ns p)
 
@@ -39,7 +40,7 @@ abbrev pub with_at : NumberedRest → ℕ → ℕ → Object → NumberedRest
 with_at r x index v = record r { properties = with_row r.properties x (with_value_at (row_of r.properties x) index v) }
 
 -- whatever the property at this place has, one gets back to the same
-abbrev pub IsOverwritten : List (List Note) → ℕ → Place → Type 0
+abbrev pub IsOverwritten : List (List Note) → ℕ → PropertyPlace → Type 0
 IsOverwritten ms x p =
     (r : NumberedRest) (v : Object) → length (row_of r.properties x) ≡ p.length
     → Continues ms r ms (with_at r x p.index v) × Continues ms (with_at r x p.index v) ms r

@@ -1,14 +1,16 @@
 -- How changes are taken back: of a property list, of the readtables, and of all that a world keeps besides its packages.
-use Rattle.std.specs.Prelude.{◌≡◌, ℕ, Bool, false, zero, suc, ◌-◌, List, [], ◌∷◌, length, take, bytes_eq}
+use Rattle.std.specs.Prelude.{◌≡◌, ℕ, Bool, false, zero, suc, ◌+◌, ◌-◌, nat_le, if◌then◌else◌, List, [], ◌∷◌, length, map, take, bytes_eq, vec_capacity}
+use Rattle.std.specs.Global.{Vec}
 use Rattle.std.specs.Option.{option_map_or}
 use Rattle.std.specs.FinMap as finite
-use Rattle.lisp_object.specs.Object.{Object, pair}
+use Rattle.lisp_object.specs.Object.{Object, pair, pairs}
 use Rattle.lisp_object.specs.Datum.{object_of}
+use Rattle.lisp_object.specs.declared.datum.Datum.{Datum}
 use Rattle.readtable_core.specs.Tables.{Table}
 use Rattle.readtable_core.specs.Changes.{with_entry}
 use Rattle.package_table.specs.Table.{Name}
 use Rattle.plist_state.specs.declared.note.PropertyChange.{PropertyChange}
-use Rattle.plist_state.specs.declared.note.PropertyChange.TheVariants.{Set, Added, Removed, Pushed}
+use Rattle.plist_state.specs.declared.note.PropertyChange.TheVariants.{Set, Added, Removed, Pushed, Popped}
 use Rattle.plist_state.specs.declared.note.TableChange.{TableChange}
 use Rattle.plist_state.specs.declared.note.TableChange.TheVariants.{Over, Letters, Character}
 use Rattle.plist_state.specs.declared.note.Note.{Note}
@@ -28,11 +30,22 @@ abbrev pub without_first : Object → Object
 without_first (pair x xs) = xs
 without_first x = x
 
--- without the first element of the value at an index
-abbrev pub with_rest_at : NumberedPlist → ℕ → NumberedPlist
-with_rest_at [] k = []
-with_rest_at (p ∷ ps) zero = (p.0, without_first p.1) ∷ ps
-with_rest_at (p ∷ ps) (suc k) = p ∷ with_rest_at ps k
+-- how many elements a list has; none where it is no list with one
+abbrev pub element_count : Object → ℕ
+element_count (pair x xs) = suc (element_count xs)
+element_count _ = 0
+
+-- a list with these items before its own, if they have room for those; else it, and another object, as it is
+abbrev pub with_items : Vec Datum → Object → Object
+with_items items (pair x xs) =
+    if nat_le (length items.items + element_count (pair x xs)) (vec_capacity items) then pairs (map object_of items.items) (pair x xs) else pair x xs
+with_items items x = x
+
+-- with what is made of the value at an index
+abbrev pub with_changed_at : (Object → Object) → NumberedPlist → ℕ → NumberedPlist
+with_changed_at f [] k = []
+with_changed_at f (p ∷ ps) zero = (p.0, f p.1) ∷ ps
+with_changed_at f (p ∷ ps) (suc k) = p ∷ with_changed_at f ps k
 
 -- with the property before the one at an index, or last where the list does not reach so far
 abbrev pub with_inserted : NumberedPlist → ℕ → ℕ × Object → NumberedPlist
@@ -45,7 +58,8 @@ abbrev pub list_before : PropertyChange → NumberedPlist → NumberedPlist
 list_before (Set index value) ps = with_value_at ps index (object_of value)
 list_before Added ps = take (length ps - 1) ps
 list_before (Removed index property) ps = with_inserted ps index (numbered_property property)
-list_before (Pushed index empty) ps = with_rest_at ps index
+list_before (Pushed index empty) ps = with_changed_at without_first ps index
+list_before (Popped index items) ps = with_changed_at (with_items items) ps index
 
 -- the change leads back from the later list to the one before
 abbrev pub GoesBack : NumberedPlist → NumberedPlist → PropertyChange → Type 0

@@ -28,7 +28,7 @@
 //! - `symbol`, `property`, `property_list`: `Symbol`, `BorrowedSymbol`, `Property`, `PropertyList`
 //! - `error`: `ReadtableError`
 //! - `stored`: what a world keeps besides its packages, over `rows` (property lists by number; `row_index`: the indexes of
-//!   long ones) and `tables` (readtables by name; `copies`: those that are copied)
+//!   long ones; `pops`: items taken off their lists) and `tables` (readtables by name; `copies`: those that are copied)
 //! - `sizes`: how large lists are that items were put before
 //!
 //! # Definitions for the crates above
@@ -36,7 +36,8 @@
 //! - specs/State.antt: `WorldState`, `Worlds`, `Readtables`, `initial`, `first_readtables`, `first_base`, `standard_name`, `user_name`
 //! - specs/Properties.antt: `Symbol`, `Plist`, `Properties`, `symbol_cmp`, `same_symbol`, `value_at`, `with_value`, `list_at`,
 //!   `with_list`
-//! - specs/Changes.antt: what each call makes of a state; specs/Pushed.antt: `pushed`, `with_pushed`, `holds_pair`, `pair_size`
+//! - specs/Changes.antt: what each call makes of a state; specs/Pushed.antt: `pushed`, `with_pushed`, `holds_pair`, `pair_size`;
+//!   specs/Popped.antt: `first_item`, `with_popped`
 //! - specs/Sound.antt: what holds of each state; specs/Readers.antt: the lists that a world gives
 //! - specs/Shown.antt: `symbol_of`, `symbol_named`, `property_of`; specs/Refused.antt: `number_of`; specs/Codes.antt: `state_code`
 //!
@@ -46,6 +47,7 @@
 //!   `sound_in_readtable`, `sound_base`; proofs/FirstWorld.antt: so is the first state: `first_sound`
 //! - proofs/KeptWorld.antt: the same of a change of the readtables: `sound_changed`, `sound_copied`, `sound_syntax`,
 //!   `named_case`, `named_macro`, `named_dispatching`, `named_dispatched`, `dispatch_there`
+//! - proofs/Popped.antt: a first item taken off a list: `first_there`, `none_popped`, `with_popped_there`, `rest_value`
 //! - proofs/Lists.antt: a symbol is given a property list: `get-with_list`, `list-with_list`, `with_list_twice`, `kept`
 //! - proofs/Orders.antt: symbols and names are in one order: `symbol_total`, `symbol_exact`, `symbol_tied`, `one_symbol`,
 //!   `name_total`, `name_exact`, `name_tied`, `one_name`
@@ -61,6 +63,7 @@ mod note;
 mod numbers;
 mod overwritten;
 mod packages;
+mod pops;
 mod properties;
 mod property;
 mod property_list;

@@ -23,6 +23,12 @@ pub(crate) enum PropertyChange {
         index: usize,
         empty: Datum,
     },
+    /// These items were taken off the front of the list at an index, which has more. With them before it the list is there
+    /// again: they have room for what it has.
+    Popped {
+        index: usize,
+        items: Vec<Datum>,
+    },
     /// This property was taken out, which stood at an index.
     Removed {
         index: usize,

@@ -8,14 +8,14 @@ use lisp_object::Datum;
 
 /// Where a property is: its index, and the length of the list that it is in.
 #[derive(Clone, Copy)]
-pub(crate) struct Place {
+pub(crate) struct PropertyPlace {
     pub(crate) index: usize,
     pub(crate) length: usize,
 }
 
 impl PropertyChange {
     // Where the property at a place was before this change; none where its value is overwritten as this is undone.
-    fn place_before(&self, place: Place) -> Option<Place>
+    fn place_before(&self, place: PropertyPlace) -> Option<PropertyPlace>
         requires index { place.index < place.length }
         requires length { place.length < 2 ^ 64 - 1 }
         ensures { result ≡ before_change self.now place }
@@ -28,16 +28,17 @@ impl PropertyChange {
                 Some(place)
             }
             PropertyChange::Pushed { .. } => Some(place),
+            PropertyChange::Popped { .. } => Some(place),
             PropertyChange::Added => {
                 if place.index + 1 == place.length {
                     return None;
                 }
-                Some(Place {
+                Some(PropertyPlace {
                     index: place.index,
                     length: place.length - 1,
                 })
             }
-            PropertyChange::Removed { index, .. } => Some(Place {
+            PropertyChange::Removed { index, .. } => Some(PropertyPlace {
                 index: if *index <= place.index {
                     place.index + 1
                 } else {
@@ -51,7 +52,7 @@ impl PropertyChange {
 
 impl Note {
     // Where the property at a place in the list of the symbol of a number was before this, as `PropertyChange::place_before` says.
-    fn place_before(&self, number: u32, place: Place) -> Option<Place>
+    fn place_before(&self, number: u32, place: PropertyPlace) -> Option<PropertyPlace>
         requires index { place.index < place.length }
         requires length { place.length < 2 ^ 64 - 1 }
         ensures { result ≡ before_note number self.now place }
@@ -72,7 +73,7 @@ impl Note {
 }
 
 // Whether a value is overwritten as these notes are undone.
-fn overwrites(notes: &[Note], number: u32, place: Place) -> bool
+fn overwrites(notes: &[Note], number: u32, place: PropertyPlace) -> bool
     ensures { result ≡ true → before_notes number notes.now place ≡ None }
 {
     let mut place = place;
@@ -108,7 +109,12 @@ fn first_looked_at(notes: &[Note], value: &Datum) -> usize
 
 /// Whether the value that a property has, or had, need not be kept for the marks: what it has at the newest mark does not depend on
 /// it. Only the newest notes are looked at, more of them the larger the value is.
-pub(crate) fn is_overwritten(marks: &[Vec<Note>], number: u32, place: Place, value: &Datum) -> bool
+pub(crate) fn is_overwritten(
+    marks: &[Vec<Note>],
+    number: u32,
+    place: PropertyPlace,
+    value: &Datum,
+) -> bool
     ensures { result ≡ true → IsOverwritten (marks_of marks.now) number place }
 {
     let Some(notes) = marks.last() else {

@@ -1,11 +1,13 @@
 //! The calls that change properties.
-ghost use Rattle.std.specs.Prelude.{◌≡◌, true, Some, is_some, IfOk, OnOk, OnErr};
+ghost use Rattle.std.specs.Prelude.{◌≡◌, true, Some, is_some, option_map, IfOk, IfSome, OnOk, OnErr};
 ghost use Rattle.lisp_object.specs.Datum.{object_of, is_proper};
 ghost use Rattle.plist_state.specs.Changes.{property, with_property, without_property};
 ghost use Rattle.plist_state.specs.Pushed.{holds_pair, pair_size, pushed, with_pushed};
+ghost use Rattle.plist_state.specs.Popped.{first_item, with_popped};
 ghost use Rattle.plist_state.specs.Shown.{symbol_of, symbol_named};
 ghost use Rattle.plist_state.specs.Sound.{IsSymbol, IsValue};
 
+use crate::first_items::first_of;
 use crate::numbers::number;
 use crate::{BorrowedSymbol, Symbol, World, sizes, stored};
 use lisp_object::Datum;
@@ -97,6 +99,54 @@ impl World {
         )?;
         sizes::note(&mut self.sizes, owner, indicator, size);
         Ok(())
+    }
+
+    // Takes the first item off the list that is beside an indicator of a symbol.
+    fn take_first(&mut self, symbol: &Symbol, indicator: &Symbol) -> Result<(), AllocError>
+        requires symbol { IsSymbol self.old.0.packages (symbol_of symbol.now) }
+        requires indicator { IsSymbol self.old.0.packages (symbol_of indicator.now) }
+        requires list { holds_pair
+            (property self.old.0 (symbol_of symbol.now) (symbol_of indicator.now)) ≡ true }
+        ensures ok { OnOk result (self.new
+            ≡ (with_popped self.old.0 (symbol_of symbol.now) (symbol_of indicator.now), self.old.1)) }
+        ensures err { OnErr result (self.new ≡ self.old) }
+    {
+        self.packages.numbering();
+        let owner = number(&self.packages, symbol.borrowed());
+        let indicator = number(&self.packages, indicator.borrowed());
+        sizes::forget(&mut self.sizes, owner, indicator);
+        stored::pop(
+            self.alloc,
+            &mut self.stored,
+            &mut self.marks,
+            owner,
+            indicator,
+        )
+    }
+
+    /// Takes the first item off the list that is beside an indicator of a symbol (standard 14.2, `pop`), and gives it. The
+    /// rest is not copied. Where that was the only item, what ends the list is the value: NIL, or the object after the dot.
+    /// `None` where there is no such property, or its value is no list with an item: then nothing has changed. Both
+    /// symbols are there. After out of memory nothing has changed.
+    pub fn pop(&mut self, symbol: &Symbol, indicator: &Symbol) -> Result<Option<Datum>, AllocError>
+        requires symbol { IsSymbol self.old.0.packages (symbol_of symbol.now) }
+        requires indicator { IsSymbol self.old.0.packages (symbol_of indicator.now) }
+        ensures first { IfOk result (λ first. option_map object_of first
+            ≡ first_item (property self.old.0 (symbol_of symbol.now) (symbol_of indicator.now))) }
+        ensures proper { IfOk result (λ first. IfSome first (λ d. is_proper d ≡ true)) }
+        ensures ok { OnOk result (self.new
+            ≡ (with_popped self.old.0 (symbol_of symbol.now) (symbol_of indicator.now), self.old.1)) }
+        ensures err { OnErr result (self.new ≡ self.old) }
+    {
+        let alloc = self.alloc;
+        let Some(value) = self.get(symbol, indicator) else {
+            return Ok(None);
+        };
+        let Some(first) = first_of(alloc, value)? else {
+            return Ok(None);
+        };
+        self.take_first(symbol, indicator)?;
+        Ok(Some(first))
     }
 
     /// Removes the property of an indicator from the list of a symbol, and answers whether it was there (standard 10.2,

@@ -15,6 +15,7 @@ ghost use Rattle.plist_state.specs.Kept.{IsProperRow, IsProperRows, IsProperChan
 
 use crate::first_items::{put_first, take_first};
 use crate::note::PropertyChange;
+use crate::pops::put_back;
 use crate::row_index::{Indexes, new_order, note_back, place};
 use lisp_object::Datum;
 use property_rows::{NumberedProperty, Row};
@@ -202,6 +203,7 @@ fn revert(row: &mut Row, indexes: &mut Indexes, number: u32, change: PropertyCha
                 let _ = row.replace(index, list);
             }
         }
+        PropertyChange::Popped { index, items } => put_back(row, index, items),
         PropertyChange::Removed { index, property } => {
             let index = index.min(row.len());
             note_back(row, indexes, number, index, &property);

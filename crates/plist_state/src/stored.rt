@@ -1,23 +1,26 @@
 //! What a world keeps besides its packages.
-ghost use Rattle.std.specs.Prelude.{◌≡◌, ◌≢◌, ◌≤◌, true, Ok, Err, is_some, IfOk, IfErr, OnOk, OnErr};
+ghost use Rattle.std.specs.Prelude.{◌≡◌, ◌≢◌, ◌≤◌, ◌<◌, true, Ok, Err, is_some, unwrap_or, IfOk, IfErr, OnOk, OnErr};
 ghost use Rattle.std.specs.FinMap as finite;
+ghost use Rattle.lisp_object.specs.Object.{nil};
 ghost use Rattle.lisp_object.specs.Datum.{object_of, is_proper};
 ghost use Rattle.plist_state.specs.Pushed.{holds_pair, with_pushed_in};
+ghost use Rattle.plist_state.specs.Popped.{with_popped_in};
 ghost use Rattle.plist_state.specs.State.{first_readtables};
 ghost use Rattle.plist_state.specs.Lists.{value_in, with_value_in, without_value_in};
 ghost use Rattle.plist_state.specs.Shown.{NumberedRest, first_numbered, rest_of, lists_of, readtables_of};
 ghost use Rattle.plist_state.specs.Indexed.{AreIndexed};
 ghost use Rattle.plist_state.specs.Kept.{IsProperRows, IsWider};
-ghost use Rattle.plist_state.specs.Undoing.{undone};
+ghost use Rattle.plist_state.specs.Undoing.{undone, element_count};
 ghost use Rattle.plist_state.specs.declared.note.Note.TheVariants.{Property};
 ghost use Rattle.plist_state.specs.Journal.{marks_of, Continues};
 
+use crate::first_items::{count_items, end_of};
 use crate::journal::{push_note, reserve_note};
 use crate::note::{Note, PropertyChange};
-use crate::overwritten::{Place, is_overwritten};
+use crate::overwritten::{PropertyPlace, is_overwritten};
 use crate::row_index::Indexes;
-use crate::rows;
 use crate::tables::{STANDARD, USER};
+use crate::{pops, rows};
 use lisp_object::Datum;
 use package_table::standardized::COMMON_LISP_USER;
 use property_rows::Row;
@@ -95,7 +98,7 @@ fn needs_no_note(
         return false;
     }
     let length = rows::count(rows, number);
-    let place = Place {
+    let place = PropertyPlace {
         index: *index,
         length,
     };
@@ -183,6 +186,83 @@ pub(crate) fn push(
     };
     push_note(marks, Note::Property { number, change });
     Ok(())
+}
+
+// Takes the first item off the list that is a property of the symbol of a number, which has so many, and notes it.
+fn shorten(
+    alloc: Global,
+    stored: &mut Stored,
+    marks: &mut Vec<Vec<Note>>,
+    number: u32,
+    indicator: u32,
+    count: usize,
+) -> Result<(), AllocError>
+    requires values { IsProperRows stored.old.properties.entries }
+    requires indexed { AreIndexed stored.old.properties.entries stored.old.indexes.entries }
+    requires count { let old = value_in (rest_of stored.old).properties number indicator in
+        element_count (unwrap_or old nil) ≡ count }
+    requires more { 1 < count }
+
+    // The property has the rest; or memory ran out, and it is as it was.
+    ensures ok { let r = rest_of stored.old in
+        OnOk result (rest_of stored.new ≡ record r {
+          properties = with_popped_in r.properties number indicator;
+        }) }
+    ensures err { OnErr result (rest_of stored.new ≡ rest_of stored.old) }
+
+    // What the next change rests on.
+    ensures wider { IsWider stored.old.properties.entries stored.new.properties.entries }
+    ensures indexed { AreIndexed stored.new.properties.entries stored.new.indexes.entries }
+    ensures marked { Continues (marks_of marks.old.items) (rest_of stored.old)
+        (marks_of marks.new.items) (rest_of stored.new) }
+{
+    reserve_note(marks)?;
+    let space = Vec::with_capacity(alloc, count)?;
+    let change = pops::pop(
+        &mut stored.properties,
+        &stored.indexes,
+        number,
+        indicator,
+        space,
+    );
+    push_note(marks, Note::Property { number, change });
+    Ok(())
+}
+
+/// Takes the first item off the list that is a property of the symbol of a number, and notes it. The rest is not copied.
+pub(crate) fn pop(
+    alloc: Global,
+    stored: &mut Stored,
+    marks: &mut Vec<Vec<Note>>,
+    number: u32,
+    indicator: u32,
+) -> Result<(), AllocError>
+    requires values { IsProperRows stored.old.properties.entries }
+    requires indexed { AreIndexed stored.old.properties.entries stored.old.indexes.entries }
+    requires list { holds_pair (value_in (rest_of stored.old).properties number indicator) ≡ true }
+
+    // The property has the rest; or memory ran out, and it is as it was.
+    ensures ok { let r = rest_of stored.old in
+        OnOk result (rest_of stored.new ≡ record r {
+          properties = with_popped_in r.properties number indicator;
+        }) }
+    ensures err { OnErr result (rest_of stored.new ≡ rest_of stored.old) }
+
+    // What the next change rests on.
+    ensures wider { IsWider stored.old.properties.entries stored.new.properties.entries }
+    ensures indexed { AreIndexed stored.new.properties.entries stored.new.indexes.entries }
+    ensures marked { Continues (marks_of marks.old.items) (rest_of stored.old)
+        (marks_of marks.new.items) (rest_of stored.new) }
+{
+    let Some(list) = rows::value(&stored.properties, &stored.indexes, number, indicator) else {
+        unreachable!()
+    };
+    let count = count_items(list);
+    if count > 1 {
+        return shorten(alloc, stored, marks, number, indicator, count);
+    }
+    let end = end_of(alloc, list)?;
+    put(alloc, stored, marks, number, indicator, end)
 }
 
 // Moves the properties of the symbol of a number together, if there is no mark: then nothing that was taken out comes back.

@@ -10,7 +10,7 @@ use Rattle.property_rows.specs.Slots.{no_property, with_value}
 use Rattle.property_rows.specs.Rows.{room}
 use Rattle.plist_state.specs.Shown.{numbered_property, plist_of}
 use Rattle.plist_state.specs.Undoing.{list_before, without_first}
-use Rattle.plist_state.proofs.Indices.{item_at, item_is, put_back, shown-set, with_value_at-past, shown-rest, with_rest_at-past, shown-insert, length-inserted}
+use Rattle.plist_state.proofs.Indices.{item_at, item_is, put_back, shown-set, with_value_at-past, shown-changed, with_changed_at-past, shown-insert, length-inserted}
 use Rattle.plist_state.specs.Kept.{IsProperChange}
 use Rattle.plist_state.specs.Indexed.{IsIndexedIn}
 use Rattle.plist_state.proofs.Noted.{indexed_set, indexed_taken}
@@ -75,7 +75,7 @@ returns-then-index-len-2-clause-after c =
     let written : c.replace-then-index-len-2.new.self.items ≡ set items k (with_value (item_at items k) left) =
     put_back items c.replace-list.new.self.items c.replace-then-index-len-2.new.self.items k (Integer (pos 0)) left c.replace-list.ensures.items c.replace-then-index-len-2.ensures.items in
     ap (map numbered_property) written
-    ∙ shown-rest items k (item_at items k) left (item_is items k) (c.take_first.ensures.value ∙ ap (λ v. without_first (object_of v)) c.replace-list.ensures.value)
+    ∙ shown-changed without_first items k (item_at items k) left (item_is items k) (c.take_first.ensures.value ∙ ap (λ v. without_first (object_of v)) c.replace-list.ensures.value)
     ∙ sym (ap (λ change. list_before change (plist_of c.args.row.now)) c.in-Pushed.is)
 
 pub returns-then-index-len-2-clause-values : goal.returns-then-index-len-2-clause-values
@@ -91,7 +91,7 @@ returns-then-index-len-2-clause-values c = λ all.
 pub returns-else-index-len-2-clause-after : goal.returns-else-index-len-2-clause-after
 returns-else-index-len-2-clause-after c =
     let past : length (plist_of c.args.row.now) ≤ c.in-Pushed.index = omega (arith, length-map c.args.row.now.items numbered_property) in
-    sym (ap (λ change. list_before change (plist_of c.args.row.now)) c.in-Pushed.is ∙ with_rest_at-past (plist_of c.args.row.now) c.in-Pushed.index past)
+    sym (ap (λ change. list_before change (plist_of c.args.row.now)) c.in-Pushed.is ∙ with_changed_at-past without_first (plist_of c.args.row.now) c.in-Pushed.index past)
 
 pub returns-then-index-len-clause-indexed : goal.returns-then-index-len-clause-indexed
 returns-then-index-len-clause-indexed c =
@@ -121,3 +121,13 @@ returns-in-Added-clause-after c =
     ∙ sym (take-map numbered_property (length items - 1) items)
     ∙ ap (λ n. take (n - 1) (plist_of c.args.row.now)) (sym (length-map items numbered_property))
     ∙ sym (ap (λ change. list_before change (plist_of c.args.row.now)) c.in-Added.is)
+
+pub put_back-requires-clause-items : goal.put_back-requires-clause-items
+put_back-requires-clause-items c = subst IsProperChange c.in-Popped.is c.requires.former
+
+pub returns-in-Popped-clause-after : goal.returns-in-Popped-clause-after
+returns-in-Popped-clause-after c =
+    c.put_back.ensures.after ∙ sym (ap (λ change. list_before change (plist_of c.args.row.now)) c.in-Popped.is)
+
+pub returns-in-Popped-clause-indexed : goal.returns-in-Popped-clause-indexed
+returns-in-Popped-clause-indexed c = c.put_back.ensures.indexed c.args.indexes.now.entries c.args.number c.requires.indexed

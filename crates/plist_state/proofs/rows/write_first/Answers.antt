@@ -7,10 +7,10 @@ use Rattle.property_rows.specs.declared.property.NumberedProperty.{NumberedPrope
 use Rattle.property_rows.specs.Slots.{no_property, with_value}
 use Rattle.plist_state.specs.Shown.{numbered_property}
 use Rattle.lisp_object.specs.Object.{pair}
-use Rattle.plist_state.specs.Undoing.{with_rest_at}
+use Rattle.plist_state.specs.Undoing.{with_changed_at, without_first}
 use Rattle.plist_state.specs.Pushed.{holds_pair}
 use Rattle.plist_state.specs.Indexed.{IsIndexedIn}
-use Rattle.plist_state.proofs.Indices.{item_at, item_is, put_back, first_at, absent, stands_at, pushed_at, pushed_back, unpushed}
+use Rattle.plist_state.proofs.Indices.{item_at, item_is, put_back, first_at, absent, stands_at, pushed_at, changed_back, unpushed}
 use Rattle.plist_state.proofs.Noted.{indexed_set}
 use Rattle.plist_state.proofs.rows.write_first.Goals as goal
 
@@ -65,9 +65,9 @@ returns-clause-back c =
     let made = c.put_first-pushed.new.list in
     let written : c.replace.new.self.items ≡ set items k (with_value (item_at items k) made) =
     put_back items c.replace-list.new.self.items c.replace.new.self.items k (Integer (pos 0)) made c.replace-list.ensures.items c.replace.ensures.items in
-    ap (λ xs. with_rest_at (map numbered_property xs) k) written
-    ∙ pushed_back items k (item_at items k) made c.args.first (item_is items k)
-    (c.in_ok-pushed.ensures.ok ∙ ap (λ v. pair (object_of c.args.first) (object_of v)) c.replace-list.ensures.value)
+    ap (λ xs. with_changed_at without_first (map numbered_property xs) k) written
+    ∙ changed_back without_first items k (item_at items k) made (item_is items k)
+    (ap without_first c.in_ok-pushed.ensures.ok ∙ ap object_of c.replace-list.ensures.value)
 
 pub returns-clause-values : goal.returns-clause-values
 returns-clause-values c =

@@ -1,0 +1,34 @@
+-- The first item taken off the list that a property has (standard 14.2, POP).
+use Rattle.std.specs.Prelude.{ℕ, Bool, List, Option, None, Some, unwrap_or}
+use Rattle.lisp_object.specs.Object.{Object, pair, nil}
+use Rattle.plist_state.specs.Properties.{Symbol, value_by, with_value_by}
+use Rattle.plist_state.specs.State.{WorldState}
+use Rattle.plist_state.specs.Changes.{property, with_property}
+use Rattle.plist_state.specs.Lists.{NumberedLists, same_number, row_of, with_row}
+use Rattle.plist_state.specs.Undoing.{without_first}
+
+-- the first item of a value that is a list with an item
+abbrev pub first_item : Option Object → Option Object
+first_item (Some (pair x xs)) = Some x
+first_item _ = None
+
+-- with what follows the first item of this value beside the indicator; as it is, where that is no list with an item
+abbrev pub with_rest : WorldState → Symbol → Symbol → Option Object → WorldState
+with_rest s x i (Some (pair y ys)) = with_property s x i ys
+with_rest s x i _ = s
+
+-- without the first item of the list that is beside the indicator
+abbrev pub with_popped : WorldState → Symbol → Symbol → WorldState
+with_popped s x i = with_rest s x i (property s x i)
+
+-- a value without its first item. Where there is none, it is NIL.
+abbrev pub popped : Option Object → Object
+popped value = without_first (unwrap_or value nil)
+
+-- with the list beside the key without its first item
+abbrev pub with_popped_by : {K : Type 0} → (K → K → Bool) → List (K × Object) → K → List (K × Object)
+with_popped_by same ps i = with_value_by same ps i (popped (value_by same ps i))
+
+-- the same, by numbers
+abbrev pub with_popped_in : NumberedLists → ℕ → ℕ → NumberedLists
+with_popped_in m i j = with_row m i (with_popped_by same_number (row_of m i) j)
