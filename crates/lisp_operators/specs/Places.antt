@@ -7,6 +7,7 @@ use Rattle.lisp_object.specs.declared.refusal.TheConstants.{ARGUMENT_KIND, INTEG
 use Rattle.lisp_object.specs.declared.datum.Datum.{Datum}
 use Rattle.lisp_object.specs.Datum.{object_of}
 use Rattle.package_table.specs.Table.{Name}
+use Rattle.plist_state.specs.Properties.{Symbol}
 use Rattle.plist_state.specs.State.{WorldState}
 use Rattle.plist_state.specs.Changes.{property, with_property}
 use Rattle.lisp_operators.specs.declared.error.EvaluationError.{EvaluationError}
@@ -16,6 +17,8 @@ use Rattle.lisp_operators.specs.declared.places.PlaceChange.TheVariants.{Stepped
 use Rattle.lisp_operators.specs.declared.places.Direction.{Direction}
 use Rattle.lisp_operators.specs.declared.places.Direction.TheVariants.{Increment, Decrement}
 use Rattle.lisp_operators.specs.Evaluation.{Evaluation, writes, of_kind}
+use Rattle.lisp_operators.specs.declared.evaluated.Evaluated.{Evaluated}
+use Rattle.lisp_operators.specs.Evaluated.{Answers, done}
 use Rattle.lisp_operators.specs.Kinds.{a_symbol, an_integer}
 use Rattle.lisp_operators.specs.Properties.{amount, is_in_range}
 
@@ -44,11 +47,13 @@ parted (pair x rest) = Some (x, rest)
 parted (symbol home name) = if is_nil home name then Some (nil, nil) else None
 parted _ = None
 
--- POP: the first item of the property, of which the rest stays. Where there is none the default stands for it.
+-- POP of a place: the first item of the property, of which the rest stays. Where there is none the default stands for it.
+abbrev pub popped_at : WorldState → Symbol → Symbol → Object → Evaluation Object
+popped_at s x i d = of_kind (parted (unwrap_or (property s x i) d)) (λ p. writes p.0 (with_property s x i p.1))
+
+-- POP: the same of its arguments
 abbrev pub pop : List Object → WorldState → Evaluation Object
-pop (x ∷ i ∷ d ∷ []) s =
-    of_kind (a_symbol x) (λ x'. of_kind (a_symbol i) (λ i'. of_kind (parted (unwrap_or (property s x' i') d)) (λ p.
-    writes p.0 (with_property s x' i' p.1))))
+pop (x ∷ i ∷ d ∷ []) s = of_kind (a_symbol x) (λ x'. of_kind (a_symbol i) (λ i'. popped_at s x' i' d))
 pop _ s = Err ARGUMENT_KIND
 
 -- ---- all of them: the names, how many arguments each takes, the place among them, and what it does
@@ -85,3 +90,7 @@ abbrev pub IsParted : Result (Datum × Datum) EvaluationError → Option (Object
 IsParted (Ok p) o = o ≡ Some (object_of p.0, object_of p.1)
 IsParted (Err (Refused code)) o = (code ≡ ARGUMENT_KIND) × (o ≡ None)
 IsParted (Err OutOfMemory) o = Unit {0}
+
+-- the value of POP of a place is told, from the first of two states to the second
+abbrev pub Pops : WorldState → Symbol → Symbol → Object → WorldState → Result Evaluated EvaluationError → Type 0
+Pops old x i d new result = Answers done result new (popped_at old x i d)

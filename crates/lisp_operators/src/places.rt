@@ -8,9 +8,10 @@ ghost use Rattle.package_table.specs.Table.{Table, IsSound};
 ghost use Rattle.plist_state.specs.Changes.{property};
 ghost use Rattle.plist_state.specs.Shown.{symbol_of};
 ghost use Rattle.lisp_operators.specs.Kinds.{an_integer};
-ghost use Rattle.lisp_operators.specs.Places.{change_named, most_of_change, with_default, place_changed, if_stepped, take_step, parted, pop, IsParted};
+ghost use Rattle.lisp_operators.specs.Places.{change_named, most_of_change, with_default, place_changed, if_stepped, take_step, parted, pop, Pops, IsParted};
 ghost use Rattle.lisp_operators.specs.declared.error.EvaluationError.TheVariants.{OutOfMemory};
 ghost use Rattle.lisp_operators.specs.Evaluated.{IsArgument, IsOfKind, IsProper, IsProperValue, AreArgumentsOf, CarriesOut, objects};
+ghost use Rattle.plist_state.specs.Sound.{IsSymbol};
 
 use crate::EvaluationError::Refused;
 use crate::owned_arguments::{three, three_and_rest};
@@ -220,7 +221,54 @@ fn parted(alloc: Global, list: Datum) -> Result<(Datum, Datum), EvaluationError>
     }
 }
 
-// POP: the first item of the list that a place has, of which the rest stays. The rest is copied.
+// POP where the property is no list with an item. Where there is none, the default stands for it.
+fn pop_other(
+    alloc: Global,
+    world: &mut World,
+    symbol: &Symbol,
+    indicator: Symbol,
+    default: Datum,
+) -> Result<Evaluated, EvaluationError>
+    requires symbol { IsSymbol world.old.0.packages (symbol_of symbol.now) }
+    requires indicator { IsSymbol world.old.0.packages (symbol_of indicator) }
+    requires default { IsArgument world.old.0.packages default }
+    ensures gives { Pops world.old.0 (symbol_of symbol.now) (symbol_of indicator)
+        (object_of default) world.new.0 result }
+    ensures proper { IfOk result IsProperValue }
+    ensures unchanged { IfErr result (λ _. world.new ≡ world.old) }
+    ensures marked { world.new.1 ≡ world.old.1 }
+{
+    let list = value_at(alloc, world, symbol, &indicator, default)?;
+    let (value, rest) = parted(alloc, list)?;
+    world.soundness();
+    world.put(symbol, indicator, rest)?;
+    Ok(Evaluated { value, wrote: true })
+}
+
+// POP of a place. The list that is there is not copied.
+fn pop_at(
+    alloc: Global,
+    world: &mut World,
+    symbol: &Symbol,
+    indicator: Symbol,
+    default: Datum,
+) -> Result<Evaluated, EvaluationError>
+    requires symbol { IsSymbol world.old.0.packages (symbol_of symbol.now) }
+    requires indicator { IsSymbol world.old.0.packages (symbol_of indicator) }
+    requires default { IsArgument world.old.0.packages default }
+    ensures gives { Pops world.old.0 (symbol_of symbol.now) (symbol_of indicator)
+        (object_of default) world.new.0 result }
+    ensures proper { IfOk result IsProperValue }
+    ensures unchanged { IfErr result (λ _. world.new ≡ world.old) }
+    ensures marked { world.new.1 ≡ world.old.1 }
+{
+    match world.pop(symbol, &indicator)? {
+        Some(value) => Ok(Evaluated { value, wrote: true }),
+        None => pop_other(alloc, world, symbol, indicator, default),
+    }
+}
+
+// POP: the first item of the list that a place has, of which the rest stays.
 fn pop(alloc: Global, world: &mut World, values: Vec<Datum>) -> Result<Evaluated, EvaluationError>
     requires { AreArgumentsOf world.old values.items }
     ensures gives { CarriesOut pop values.items world.old.0 world.new.0 result }
@@ -230,9 +278,5 @@ fn pop(alloc: Global, world: &mut World, values: Vec<Datum>) -> Result<Evaluated
 {
     let (symbol, indicator, default) = three(values)?;
     let (symbol, indicator) = property_key(symbol, indicator)?;
-    let list = value_at(alloc, world, &symbol, &indicator, default)?;
-    let (value, rest) = parted(alloc, list)?;
-    world.soundness();
-    world.put(&symbol, indicator, rest)?;
-    Ok(Evaluated { value, wrote: true })
+    pop_at(alloc, world, &symbol, indicator, default)
 }
