@@ -1,9 +1,9 @@
 -- The operators that decide which of their forms are evaluated, a form at a time.
 --     stopped, going_on      a form that is refused, and one that has a value, before another
---     proper_test, assert_refused, assert_false, assert_true, assert_form      ASSERT
+--     proper_test, assert_refused, assert_false, assert_true, assert_answers      ASSERT
 --     none_sought, sought_stops, sought_next, sought_here, sought_last      AND and OR
 --     each_clause, no_clauses      the clauses of COND
---     selected_stops, selected_next, selected_test, selected_forms, none_selected      COND
+--     conditional_is, selected_stops, selected_next, selected_test, selected_forms, none_selected      COND
 --     later_items      what comes after the operator
 --     guarded_stops, guarded_passes, guarded_forms      WHEN and UNLESS
 --     first_stops, first_others_stop, first_kept      PROG1
@@ -14,7 +14,7 @@ use Rattle.std.proofs.lemmas.List.Elements.{All-tail}
 use Rattle.lisp_object.specs.Object.{Object, pair, nil, list_of}
 use Rattle.lisp_object.specs.Datum.{object_of}
 use Rattle.lisp_object.specs.declared.datum.Datum.{Datum}
-use Rattle.lisp_object.specs.declared.refusal.TheConstants.{ASSERTION_FAILED}
+use Rattle.lisp_object.specs.declared.refusal.TheConstants.{ARGUMENT_KIND, ASSERTION_FAILED}
 use Rattle.package_table.specs.Table.{Name, Table}
 use Rattle.plist_state.specs.State.{WorldState}
 use Rattle.lisp_operators.specs.declared.error.EvaluationError.{EvaluationError}
@@ -26,9 +26,11 @@ use Rattle.lisp_operators.specs.Kinds.{is_true, is_pair}
 use Rattle.lisp_operators.specs.Properties.{t as truth_symbol}
 use Rattle.evaluator.specs.Operators.{first}
 use Rattle.evaluator.specs.Value.{value, values, other_value, sought, selected, guarded, has_truth, is_clause, are_clauses, last, value_over}
-use Rattle.evaluator.specs.Gathered.{arguments_of, asserted, first_value, operation_value, sequence_value}
+use Rattle.evaluator.specs.Gathered.{arguments_of, conditional, asserted, first_value, operation_value, sequence_value}
 use Rattle.evaluator.specs.declared.operation.Operation.TheVariants.{Decides}
+use Rattle.evaluator.specs.declared.decision.Decision.{Decision}
 use Rattle.evaluator.specs.declared.decision.Decision.TheVariants.{Assert}
+use Rattle.evaluator.specs.Operations.{IsCounted}
 use Rattle.evaluator.specs.declared.wanted.Wanted.{Wanted}
 use Rattle.evaluator.specs.declared.wanted.Wanted.TheVariants.{Truth, Nothing}
 use Rattle.evaluator.specs.Wanted.{seen, stand_in}
@@ -72,10 +74,17 @@ module _ (o : Evaluation Object) (s : WorldState) where
   pub assert_true : (d : Evaluated) (r : Result Evaluated EvaluationError) → seen Truth o ≡ Ok (done d s) → is_true (object_of d.value) ≡ true → Answers done r s (also d.wrote (gives nil s)) → Answers done r s (asserted o)
   assert_true d r h test after = subst (Answers done r s) (sym (given d true h test)) after
 
-pub assert_form : (names : List Name) (s : WorldState) (items : List Datum) (x : Datum) → 2 ≤ length items → x ≡ get_or items 1 x
+assert_form : (names : List Name) (s : WorldState) (items : List Datum) (x : Datum) → 2 ≤ length items → x ≡ get_or items 1 x
     → operation_value names (Decides Assert) (arguments_of (map object_of items)) s ≡ asserted (value names s (object_of x))
 assert_form names s items x some is =
     ap (λ l. asserted (other_value names s l)) (one_argument items x some is) ∙ ap asserted (other_one names s (object_of x) (list_of (map object_of (drop 2 items))))
+
+pub assert_answers : (w : Wanted) (names : List Name) (s u : WorldState) (items : List Datum) (x : Datum) (decision : Decision) (r : Result Evaluated EvaluationError) → decision ≡ Assert → IsCounted (Decides decision) (length items) → x ≡ get_or items 1 x
+    → Answers done r u (seen w (asserted (value names s (object_of x)))) → Answers done r u (seen w (operation_value names (Decides decision) (arguments_of (map object_of items)) s))
+assert_answers w names s u items x decision r same counted is h =
+    let some : 2 ≤ length items = (subst (λ d. IsCounted (Decides d) (length items)) same counted).0 in
+    subst (λ o. Answers done r u (seen w o))
+    (sym (ap (λ d. operation_value names (Decides d) (arguments_of (map object_of items)) s) same ∙ assert_form names s items x some is)) h
 
 -- ---- the rest of a list of forms
 more_forms : (items : List Datum) (i : ℕ) (f : Datum) → i < length items → is_pair (list_of (map object_of (drop i items))) ≡ true
@@ -151,6 +160,9 @@ pub no_clauses : (items : List Datum) (i : ℕ) → i ≡ length items → are_c
 no_clauses items i end = ap are_clauses (no_more items i end)
 
 -- ---- COND
+pub conditional_is : (names : List Name) (s : WorldState) (forms : Object) → are_clauses forms ≡ true → conditional names s forms ≡ selected names s forms
+conditional_is names s forms all = ap (λ b. cond b (selected names s forms) (Err ARGUMENT_KIND)) all
+
 selected_of : (names : List Name) (s : WorldState) (test forms others : Object)
     → selected names s (pair (pair test forms) others) ≡ and_then (value names s test) (λ y later. cond (is_true y) (cond (is_pair forms) (sequence_value names later forms) (gives y later)) (selected names later others))
 unfolding value_over

@@ -2,11 +2,11 @@
 --     symbol_form, constant_form, uninterned_form      atoms
 --     head_at, arguments_proper, arguments_count, head_form, head_refused      a list by its head
 --     ordinary_is, performed      operators
---     arguments_from, place_given, place_first, before_given      what operators take
+--     arguments_from, gathered_from_none, followed_more, place_given, place_first, before_given      what operators take
 --     choice_refused, choice_true, choice_none, choice_other      IF
-use Rattle.std.proofs.Common.{◌≡◌, ◌<◌, ◌≤◌, ◌-◌, ℕ, Bool, true, false, cond, not, ◌&&◌, suc, zero, List, [], ◌∷◌, ◌++◌, Result, Ok, Err, Option, Some, None, is_some, map, length, drop, get_or, refl, sym, ap, subst, ◌∙◌, arith}
+use Rattle.std.proofs.Common.{◌≡◌, ◌<◌, ◌≤◌, ◌-◌, ℕ, Bool, true, false, cond, not, ◌&&◌, ◌||◌, ◌+◌, suc, zero, List, [], ◌∷◌, ◌++◌, Result, Ok, Err, Option, Some, None, is_some, map, length, drop, get_or, refl, sym, ap, subst, ◌∙◌, arith}
 use Rattle.std.proofs.lemmas.Bool.{false≢true, and_parts}
-use Rattle.std.proofs.lemmas.List.{length-map}
+use Rattle.std.proofs.lemmas.List.{length-map, map-append}
 use Rattle.lisp_object.specs.declared.datum.Datum
 use Rattle.lisp_object.specs.declared.datum.Datum.{Datum}
 use Rattle.lisp_object.specs.declared.refusal.TheConstants.{NOT_A_FORM, ARGUMENT_KIND}
@@ -39,10 +39,11 @@ use Rattle.evaluator.specs.Gathered.{arguments_of, parts, followed, subforms, ga
 use Rattle.evaluator.specs.Gathered.{operation_value}
 use Rattle.evaluator.specs.declared.place.Place.{Place}
 use Rattle.evaluator.specs.declared.wanted.Wanted.{Wanted}
+use Rattle.evaluator.specs.declared.wanted.Wanted.TheVariants.{Value}
 use Rattle.evaluator.specs.Wanted.{seen}
 use Rattle.evaluator.proofs.Places.{count_pairs}
-use Rattle.evaluator.proofs.Seen.{seen_also}
-use Rattle.evaluator.proofs.Steps.{value_symbol, value_constant, value_uninterned, is_constant, followed_start}
+use Rattle.evaluator.proofs.Seen.{seen_also, seen_value}
+use Rattle.evaluator.proofs.Steps.{value_symbol, value_constant, value_uninterned, is_constant, followed_start, followed_both}
 
 -- ---- atoms
 pub symbol_form : (names : List Name) (s : WorldState) (d : Datum) (home name : Name) (r : Result Evaluated EvaluationError) → d ≡ Datum.Symbol home name
@@ -157,6 +158,22 @@ gathered_in_order names s _ arguments setf incf push = refl
 pub arguments_from : (xs : List Datum) → arguments_of (map object_of xs) ≡ list_of (map object_of (drop 1 xs))
 arguments_from [] = refl
 arguments_from (x ∷ xs) = refl
+
+-- the values of all arguments, after none
+pub gathered_from_none : (names : List Name) (s t : WorldState) (operation : Operation) (items vs : List Datum) (w : Bool) (r : Result Values EvaluationError) → (operation ≡ Setf → ⊥) → (operation ≡ Incf → ⊥) → (operation ≡ Push → ⊥) → vs ≡ [] → w ≡ false
+    → Answers all_done r t (followed names (map object_of vs) w s (list_of (map object_of (drop 1 items)))) → Answers all_done r t (gathered names s operation (arguments_of (map object_of items)))
+gathered_from_none names s t operation items vs w r setf incf push none not_written h =
+    let forms = list_of (map object_of (drop 1 items)) in
+    subst (Answers all_done r t)
+    (ap (λ l. followed names (map object_of l) w s forms) none ∙ ap (λ b. followed names [] b s forms) not_written ∙ followed_start names s forms
+    ∙ ap (values names s) (sym (arguments_from items)) ∙ sym (gathered_in_order names s operation (arguments_of (map object_of items)) setf incf push)) h
+
+-- one value more, after those of data
+pub followed_more : (names : List Name) (xs ys : List Datum) (w both : Bool) (s t : WorldState) (forms : List Datum) (i : ℕ) (f : Datum) (e : Evaluated) (o : Evaluation (List Object)) → o ≡ followed names (map object_of xs) w s (list_of (map object_of (drop i forms)))
+    → i < length forms → f ≡ get_or forms i f → seen Value (value names s (object_of f)) ≡ Ok (done e t) → ys ≡ xs ++ e.value ∷ [] → both ≡ (w || e.wrote) → o ≡ followed names (map object_of ys) both t (list_of (map object_of (drop (i + 1) forms)))
+followed_more names xs ys w both s t forms i f e o before within is h more told =
+    followed_both names (map object_of xs) w e.wrote both s t forms i f (object_of e.value) o before within is (sym (seen_value (value names s (object_of f))) ∙ h) told
+    ∙ ap (λ zs. followed names zs both t (list_of (map object_of (drop (i + 1) forms)))) (sym (ap (map object_of) more ∙ map-append object_of xs (e.value ∷ [])))
 
 -- the first of the arguments, and the first two
 pub one_argument : (items : List Datum) (x : Datum) → 2 ≤ length items → x ≡ get_or items 1 x → arguments_of (map object_of items) ≡ pair (object_of x) (list_of (map object_of (drop 2 items)))

@@ -2,26 +2,32 @@
 --     seen_value, seen_also      all of it; what was written before
 --     refused_seen, refused_so      what is refused
 --     evaluated_so, truth_of      what was evaluated; whether it is true
---     stand_in_value      what stands for a value may be stored
+--     stand_in_value, evaluated_good      what stands for a value may be stored
 --     truth_shown, truth_refused, truth_left, truth_stops      what tells whether a value is true
 --     left_seen, left_refused, leaves_so, stops_so      what tells whether anything was written
-use Rattle.std.proofs.Common.{◌≡◌, Bool, true, false, cond, pos, nat_lt, Result, Ok, Err, refl, sym, ap, ◌∙◌, arith}
+use Rattle.std.proofs.Common.{◌≡◌, Bool, true, false, cond, pos, nat_lt, List, Result, Ok, Err, refl, sym, ap, subst, ◌∙◌, arith}
 use Rattle.std.proofs.lemmas.Bool.{false≢true}
 use Rattle.lisp_object.specs.Object.{Object, integer, rational, character, text, symbol, uninterned, pair, vector, nil, is_nil, object_depth}
 use Rattle.lisp_object.proofs.ProperLists.{nil_symbol}
 use Rattle.plist_state.specs.State.{WorldState}
 use Rattle.lisp_operators.specs.declared.error.EvaluationError.{EvaluationError}
 use Rattle.lisp_operators.specs.declared.error.EvaluationError.TheVariants.{Refused, OutOfMemory}
+use Rattle.lisp_operators.specs.declared.evaluated.Evaluated.{Evaluated}
 use Rattle.lisp_operators.specs.Evaluated.{Answers, done}
+use Rattle.lisp_operators.specs.Readtables.{AreFunctionNames}
 use Rattle.lisp_operators.specs.Evaluation.{Done, Evaluation, also}
 use Rattle.lisp_operators.specs.Effects.{IsTruth, Leaves, effect}
 use Rattle.lisp_operators.specs.Kinds.{is_true}
 use Rattle.lisp_operators.proofs.SoundBase.{base_value}
-use Rattle.package_table.specs.Table.{Table}
-use Rattle.plist_state.specs.Sound.{IsValue}
+use Rattle.package_table.specs.Growth.{Grows}
+use Rattle.package_table.specs.Table.{Name, Table}
+use Rattle.lisp_object.specs.Datum.{object_of}
+use Rattle.plist_state.specs.Sound.{IsSound, IsValue}
 use Rattle.evaluator.specs.declared.wanted.Wanted.{Wanted}
 use Rattle.evaluator.specs.declared.wanted.Wanted.TheVariants.{Value, Truth, Depth, Nothing}
 use Rattle.evaluator.specs.Wanted.{stand_in, seen}
+use Rattle.evaluator.specs.Value.{value}
+use Rattle.evaluator.proofs.Steps.{good_value}
 
 pub seen_value : (o : Evaluation Object) → seen Value o ≡ o
 seen_value (Ok d) = refl
@@ -60,6 +66,13 @@ stand_in_value Value u x is = is
 stand_in_value Truth u x is = elim (is_true x) as (λ b. IsValue u (cond b (integer (pos 1)) x)) [ true ↦ base_value u 1 (omega arith) | false ↦ is ]
 stand_in_value Depth u x is = elim (nat_lt 99 (object_depth x)) as (λ b. IsValue u (cond b x (integer (pos 1)))) [ true ↦ is | false ↦ base_value u 1 (omega arith) ]
 stand_in_value Nothing u x is = base_value u 1 (omega arith)
+
+pub evaluated_good : (w : Wanted) (names : List Name) (s t : WorldState) (x : Object) (e : Evaluated) → AreFunctionNames names → IsSound s → IsValue s.packages x → seen w (value names s x) ≡ Ok (done e t)
+    → IsValue t.packages (object_of e.value) × Grows s.packages t.packages
+evaluated_good w names s t x e all sound is h =
+    let so = evaluated_so w (value names s x) (done e t) h in
+    let good = good_value names s x (record { value = so.0; state = t; wrote = e.wrote }) all sound is so.1 in
+    (subst (IsValue t.packages) so.2 (stand_in_value w t.packages so.0 good.value), good.grows)
 
 -- ---- what the calls of operators tell
 pub false_nil : (x : Object) → is_true x ≡ false → x ≡ nil

@@ -1,8 +1,8 @@
 -- PROGN, a form at a time.
 --     sequence_step, sequence_stops      a form that is not the last
---     sequence_last, no_forms      the last one; no form
---     also_also, also_refused      what was written before
-use Rattle.std.proofs.Common.{◌≡◌, ◌<◌, ◌+◌, ℕ, Bool, true, false, ◌||◌, zero, suc, List, [], ◌∷◌, Ok, Err, map, length, drop, get_or, refl, sym, ap, ◌∙◌, arith}
+--     same_last, sequence_last, no_forms      the last one; no form
+--     also_also, also_refused, answered, refused_after, step_after      what was written before
+use Rattle.std.proofs.Common.{◌≡◌, ◌<◌, ◌+◌, ◌-◌, ℕ, Bool, true, false, ◌||◌, zero, suc, List, [], ◌∷◌, Result, Ok, Err, map, length, drop, get_or, refl, sym, ap, subst, ◌∙◌, arith}
 use Rattle.std.proofs.Math.Seq.{drop-length}
 use Rattle.lisp_object.specs.Object.{Object, pair, nil, list_of}
 use Rattle.lisp_object.specs.Datum.{object_of}
@@ -15,6 +15,10 @@ use Rattle.lisp_operators.specs.Evaluated.{Answers, done}
 use Rattle.lisp_operators.specs.Evaluation.{Evaluation, gives, also, and_then}
 use Rattle.evaluator.specs.Value.{last, value, values, value_over}
 use Rattle.evaluator.specs.Gathered.{arguments_of, sequence_value}
+use Rattle.lisp_operators.specs.declared.evaluated.Evaluated.{Evaluated}
+use Rattle.evaluator.specs.declared.wanted.Wanted.{Wanted}
+use Rattle.evaluator.specs.Wanted.{seen}
+use Rattle.evaluator.proofs.Seen.{seen_also, refused_seen}
 use Rattle.evaluator.proofs.Steps.{or_false, forms_from, value_first}
 
 or_or : (a b : Bool) → ((a || b) || false) ≡ (a || (b || false))
@@ -29,6 +33,17 @@ also_also a b (Err code) = refl
 pub also_refused : (e : EvaluationError) (s : WorldState) (w : Bool) (o p : Evaluation Object) → o ≡ also w p → Answers done (Err e) s p → Answers done (Err e) s o
 also_refused (Refused code) s w o p same is = same ∙ ap (also w) is
 also_refused OutOfMemory s w o p same is = tt
+
+-- what a loop over forms answers: the forms before wrote this, or not
+module _ (w : Wanted) (wrote : Bool) (o p : Evaluation Object) where
+  pub answered : (q : Evaluation Object) (r : Result Evaluated EvaluationError) (u : WorldState) → o ≡ also wrote p → p ≡ q → Answers done r u (also wrote (seen w q)) → Answers done r u (seen w o)
+  answered q r u same is h = subst (Answers done r u) (sym (ap (seen w) (same ∙ ap (also wrote) is) ∙ seen_also w wrote q)) h
+
+pub refused_after : (w : Wanted) (e : EvaluationError) (s : WorldState) (wrote : Bool) (o p : Evaluation Object) → o ≡ also wrote p → Answers done (Err e) s p → Answers done (Err e) s (seen w o)
+refused_after w e s wrote o p same is = refused_seen w e s o (also_refused e s wrote o p same is)
+
+pub step_after : (a b both : Bool) (o p q : Evaluation Object) → o ≡ also a p → p ≡ also b q → both ≡ (a || b) → o ≡ also both q
+step_after a b both o p q same is either = same ∙ ap (also a) is ∙ also_also a b q ∙ ap (λ w. also w q) (sym either)
 
 -- the last of values is that of those after the first
 later_last : (y z : Object) (v : Bool) (o : Evaluation (List Object))
@@ -63,6 +78,10 @@ pub any_default : (xs : List Datum) (i : ℕ) (d : Datum) → get_or xs i d ≡ 
 any_default [] i d = refl
 any_default (x ∷ xs) zero d = refl
 any_default (x ∷ xs) (suc i) d = any_default xs i d
+
+-- the last of a list, by its index
+pub same_last : (items : List Datum) (i : ℕ) (f : Datum) → i + 1 ≡ length items → f ≡ get_or items (length items - 1) f → f ≡ get_or items i f
+same_last items i f end is = let at : length items - 1 ≡ i = omega (arith, end) in is ∙ ap (λ n. get_or items n f) at
 
 pub sequence_step : (names : List Name) (s t : WorldState) (items : List Datum) (i : ℕ) (f : Datum) (y : Object) (v : Bool) → i + 1 < length items → f ≡ get_or items i f
     → value names s (object_of f) ≡ Ok (record { value = y; state = t; wrote = v })

@@ -1,6 +1,7 @@
 -- Evaluation, a step at a time.
 --     value_symbol, value_constant, value_uninterned, value_dotted      forms that are no lists of arguments
---     followed_start, followed_step, followed_refused, followed_end      forms one after the other
+--     items_arguments, list_arguments      what is in a list
+--     followed_start, followed_step, followed_both, followed_refused, followed_end      forms one after the other
 --     good_value      what holds after the value of a form
 use Rattle.std.proofs.Common.{◌≡◌, ◌<◌, ◌+◌, ℕ, Bool, true, false, ◌||◌, List, [], ◌∷◌, ◌++◌, All, Ok, Err, Option, Some, None, is_some, map, length, drop, get_or, refl, sym, ap, subst, ◌∙◌, add-one, suc}
 use Rattle.std.proofs.Math.Seq.{drop-cons, drop-length}
@@ -29,6 +30,7 @@ use Rattle.evaluator.specs.Gathered.{all_done}
 use Rattle.evaluator.specs.Gathered.{followed}
 use Rattle.lisp_operators.proofs.Good.{Goods, IsGood}
 use Rattle.lisp_operators.proofs.Storable.{value_parts, value_grown}
+use Rattle.evaluator.proofs.Places.{some_items}
 use Rattle.evaluator.proofs.SoundForms.{value_safe}
 use Rattle.lisp_operators.proofs.Shapes.{dotted_pair}
 
@@ -89,6 +91,10 @@ items_arguments u d items (Some end) is argument =
     are_arguments u items ((items_of_proper items (Some end) (ap is_proper (sym is) ∙ argument.proper)).1)
     (part_values u items (object_of end) (subst (IsValue u) (ap object_of is ∙ object_of-dotted items end) argument.value))
 
+pub list_arguments : (u : Table) (d : Datum) (items xs : List Datum) (tail : Option Datum) → d ≡ Datum.List items tail → IsArgument u d → xs ≡ items → (0 < length xs) × All (IsArgument u) xs
+list_arguments u d items xs tail is argument same =
+    (some_items d items xs tail is argument.proper same, subst (All (IsArgument u)) (sym same) (items_arguments u d items tail is argument))
+
 pub argument_grown : (u v : Table) → Grows u v → (d : Datum) → IsArgument u d → IsArgument v d
 argument_grown u v grows d is = record { proper = is.proper; value = value_grown u v grows (object_of d) is.value }
 
@@ -146,6 +152,12 @@ followed_step names xs w s forms i f y t v within is e =
     ap (followed names xs w s) (forms_from forms i f within is)
     ∙ ap (λ o. also w (and_then o (λ ys end'. gives (xs ++ ys) end'))) (value_first names s (object_of f) (list_of (map object_of (drop (i + 1) forms))) y t v e)
     ∙ next xs w y v (values names t (list_of (map object_of (drop (i + 1) forms))))
+
+-- the same, where what was written is told
+pub followed_both : (names : List Name) (xs : List Object) (w v both : Bool) (s t : WorldState) (forms : List Datum) (i : ℕ) (f : Datum) (y : Object) (o : Evaluation (List Object)) → o ≡ followed names xs w s (list_of (map object_of (drop i forms)))
+    → i < length forms → f ≡ get_or forms i f → value names s (object_of f) ≡ Ok (record { value = y; state = t; wrote = v }) → both ≡ (w || v) → o ≡ followed names (xs ++ y ∷ []) both t (list_of (map object_of (drop (i + 1) forms)))
+followed_both names xs w v both s t forms i f y o before within is e told =
+    before ∙ followed_step names xs w s forms i f y t v within is e ∙ ap (λ b. followed names (xs ++ y ∷ []) b t (list_of (map object_of (drop (i + 1) forms)))) (sym told)
 
 refused_first : (names : List Name) (s : WorldState) (x rest : Object) (code : ℕ) → value names s x ≡ Err code → values names s (pair x rest) ≡ Err code
 unfolding value_over

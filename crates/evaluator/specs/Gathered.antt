@@ -26,7 +26,7 @@ use Rattle.evaluator.specs.declared.wanted.Task.{Task}
 use Rattle.evaluator.specs.Wanted.{seen}
 use Rattle.evaluator.specs.Operators.{count, first}
 use Rattle.evaluator.specs.Operations.{action_of}
-use Rattle.evaluator.specs.Value.{Parts, is_clause, last, value, values, choice, other_value, sought, selected, guarded, values_at_place, values_before_place, action_value, place_refusal, get_place_refusal, is_base_place, is_case_place, rest}
+use Rattle.evaluator.specs.Value.{Parts, is_clause, are_clauses, last, value, values, choice, other_value, sought, selected, guarded, values_at_place, values_before_place, action_value, place_refusal, get_place_refusal, is_base_place, is_case_place, rest}
 
 -- values that leave this state
 abbrev pub all_done : Values → WorldState → Done (List Object)
@@ -90,6 +90,10 @@ abbrev pub subforms : List Name → List Object → Bool → WorldState → Obje
 subforms names xs wrote s (pair operator forms) = followed names xs wrote s forms
 subforms names xs wrote s (symbol home name) = Ok (record { value = xs; state = s; wrote = wrote })
 subforms names xs wrote s _ = Err ARGUMENT_KIND
+
+-- COND of these clauses
+abbrev pub conditional : List Name → WorldState → Object → Evaluation Object
+conditional names s forms = if are_clauses forms then selected names s forms else Err ARGUMENT_KIND
 
 -- PROG1: the first value of these forms
 abbrev pub first_value : List Name → WorldState → Object → Evaluation Object

@@ -139,7 +139,10 @@ impl Operation {
             | Operation::GetDispatchMacroCharacter => 2,
             Operation::SetDispatchMacroCharacter => 3,
             Operation::Computes(function) => function.least(),
-            Operation::Decides(decision) => decision.least(),
+            Operation::Decides(Decision::And)
+            | Operation::Decides(Decision::Or)
+            | Operation::Decides(Decision::Cond) => 0,
+            Operation::Decides(_) => 1,
         }
     }
 
@@ -173,7 +176,8 @@ impl Operation {
             | Operation::SetMacroCharacter
             | Operation::SetDispatchMacroCharacter => Some(4),
             Operation::Computes(function) => function.most(),
-            Operation::Decides(decision) => decision.most(),
+            Operation::Decides(Decision::Assert) => Some(2),
+            Operation::Decides(_) => None,
         }
     }
 

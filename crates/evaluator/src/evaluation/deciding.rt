@@ -1,18 +1,16 @@
 //! The operators that decide which of their forms are evaluated (standard 5.3), and ASSERT.
-ghost use Rattle.std.specs.Prelude.{◌≡◌, ◌≤◌, ◌&&◌, true, false, if◌then◌else◌, IfOk, IfSome, Option, Some, None, Err, length, drop};
-ghost use Rattle.lisp_object.specs.Object.{Object, nil, list_of};
+ghost use Rattle.std.specs.Prelude.{◌≡◌, ◌≤◌, if◌then◌else◌, IfOk, length, drop};
+ghost use Rattle.lisp_object.specs.Object.{Object, nil};
 ghost use Rattle.lisp_object.specs.Datum.{object_of};
-ghost use Rattle.lisp_object.specs.declared.refusal.TheConstants.{ARGUMENT_KIND};
 ghost use Rattle.plist_state.specs.State.{WorldState};
-ghost use Rattle.lisp_operators.specs.Kinds.{is_true};
 ghost use Rattle.lisp_operators.specs.Properties.{t};
 ghost use Rattle.lisp_operators.specs.Readtables.{AreFunctionNames};
-ghost use Rattle.lisp_operators.specs.Evaluated.{Answers, done, IsProper, AreProper, IsProperValue, AreArgumentsOf, objects};
-ghost use Rattle.lisp_operators.specs.Evaluation.{Evaluation, gives};
-ghost use Rattle.evaluator.specs.Value.{choice, sought, selected, guarded, has_truth, are_clauses};
-ghost use Rattle.evaluator.specs.Gathered.{first_value, asserted, arguments_in, operation_value, HasValue};
+ghost use Rattle.lisp_operators.specs.Evaluated.{Answers, done, IsProper, IsProperValue, AreArgumentsOf};
+ghost use Rattle.lisp_operators.specs.Evaluation.{Evaluation};
+ghost use Rattle.evaluator.specs.Value.{choice, sought, guarded, has_truth};
+ghost use Rattle.evaluator.specs.Gathered.{first_value, conditional, asserted, arguments_in, operation_value, HasValue};
 ghost use Rattle.evaluator.specs.Operations.{IsCounted};
-ghost use Rattle.evaluator.specs.Wanted.{seen, stand_in};
+ghost use Rattle.evaluator.specs.Wanted.{seen};
 ghost use Rattle.evaluator.specs.declared.operation.Operation.TheVariants.{Decides};
 ghost use Rattle.evaluator.specs.declared.wanted.Wanted.TheVariants.{Truth};
 
@@ -150,7 +148,7 @@ fn selected(
     requires names { AreFunctionNames names.now }
     requires items { AreArgumentsOf world.old items.now }
     ensures gives { Answers done result world.new.0
-        (seen wanted (if are_clauses (arguments_in items.now) then selected names.now world.old.0 (arguments_in items.now) else Err ARGUMENT_KIND)) }
+        (seen wanted (conditional names.now world.old.0 (arguments_in items.now))) }
     ensures proper { IfOk result IsProperValue }
     ensures marked { world.new.1 ≡ world.old.1 }
 {

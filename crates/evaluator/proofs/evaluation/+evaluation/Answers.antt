@@ -1,36 +1,32 @@
 -- What each call answers.
-use Rattle.std.proofs.Common.{◌≡◌, ◌+◌, ◌-◌, [], ◌∷◌, ◌++◌, ◌||◌, true, false, cond, Err, None, All, drop, map, length, refl, sym, ap, subst, ◌∙◌, arith}
-use Rattle.lisp_object.specs.Object.{Object, nil, list_of}
-use Rattle.plist_state.specs.Sound.{IsValue}
-use Rattle.lisp_operators.specs.Evaluation.{Done, gives, also}
+use Rattle.std.proofs.Common.{◌≡◌, ◌+◌, [], ◌∷◌, ◌++◌, true, false, cond, Ok, Err, None, drop, map, refl, sym, ap, subst, ◌∙◌, arith}
+use Rattle.lisp_object.specs.Object.{nil, list_of}
+use Rattle.lisp_operators.specs.Evaluation.{gives}
 use Rattle.lisp_object.specs.Datum.{object_of}
 use Rattle.lisp_object.proofs.Objects.{object_of-Symbol, object_of-List}
-use Rattle.std.proofs.lemmas.List.{map-append}
 use Rattle.lisp_object.specs.declared.datum.Datum.TheViews.{sized-List, the_lemmas}
 use Rattle.lisp_object.proofs.datum.Datum.TheLaws.{the_size}
 use Rattle.lisp_operators.specs.Kinds.{is_pair}
-use Rattle.evaluator.specs.Gathered.{all_done, arguments_of, operation_value, followed, subforms, sequence_value, asserted}
+use Rattle.evaluator.specs.Gathered.{arguments_of, operation_value, followed, subforms, sequence_value, asserted}
 use Rattle.evaluator.specs.declared.wanted.Wanted.TheVariants.{Value, Nothing}
 use Rattle.evaluator.specs.Wanted.{stand_in, seen}
 use Rattle.evaluator.proofs.ListItems.{held_so}
-use Rattle.evaluator.proofs.Seen.{seen_value, seen_also, refused_seen, refused_so, evaluated_so, stand_in_value}
-use Rattle.evaluator.proofs.Sequences.{sequence_step, sequence_stops, sequence_last, no_forms, also_refused, also_also}
+use Rattle.evaluator.proofs.Seen.{seen_value, refused_seen, refused_so, evaluated_so, evaluated_good}
+use Rattle.evaluator.proofs.Sequences.{same_last, sequence_step, sequence_stops, sequence_last, no_forms, answered, refused_after, step_after}
 use Rattle.evaluator.specs.Value.{value, values, sought, selected, has_truth}
 use Rattle.lisp_operators.specs.Properties.{list}
 use Rattle.plist_state.specs.Shown.{symbol_named}
-use Rattle.std.specs.Prelude.{◌≤◌, ◌==◌}
+use Rattle.std.specs.Prelude.{◌==◌}
 use Rattle.std.proofs.lemmas.Bool.{and_parts}
 use Rattle.lisp_object.specs.declared.refusal.TheConstants.{ARGUMENT_KIND}
-use Rattle.evaluator.specs.Operations.{IsCounted}
-use Rattle.evaluator.specs.declared.operation.Operation.TheVariants.{Get, Decides}
+use Rattle.evaluator.specs.declared.operation.Operation.TheVariants.{Get}
 use Rattle.evaluator.proofs.QuotedKeys.{get_of_key}
 use Rattle.evaluator.proofs.Lists.{list_stops, list_given}
-use Rattle.lisp_operators.specs.Evaluated.{IsArgument, Answers, done}
-use Rattle.evaluator.proofs.Steps.{followed_start, value_dotted, items_arguments, good_value, followed_step, followed_stops, followed_at_end, argument_grown, all_more}
-use Rattle.evaluator.proofs.Places.{some_items}
-use Rattle.evaluator.proofs.Forms.{arguments_from, gathered_in_order, head_form, head_refused, place_first, place_given, push_no_place, push_refused, push_given, same_item, subforms_given, performed}
+use Rattle.lisp_operators.specs.Evaluated.{Answers, done}
+use Rattle.evaluator.proofs.Steps.{value_dotted, followed_stops, followed_at_end, argument_grown, all_more, list_arguments, followed_both}
+use Rattle.evaluator.proofs.Forms.{head_form, head_refused, place_first, place_given, push_no_place, push_refused, push_given, same_item, subforms_given, performed, gathered_from_none, followed_more}
 use Rattle.evaluator.proofs.ClauseShapes.{clause_at}
-use Rattle.evaluator.proofs.Deciding.{assert_form, later_items, proper_test, none_sought, sought_stops, sought_here, sought_next, sought_last, each_clause, selected_stops, selected_test, selected_forms, selected_next, none_selected, guarded_stops, guarded_passes, guarded_forms, first_stops, first_kept, first_others_stop}
+use Rattle.evaluator.proofs.Deciding.{assert_answers, later_items, proper_test, none_sought, sought_stops, sought_here, sought_next, sought_last, each_clause, conditional_is, selected_stops, selected_test, selected_forms, selected_next, none_selected, guarded_stops, guarded_passes, guarded_forms, first_stops, first_kept, first_others_stop}
 use Rattle.evaluator.proofs.Branches.{choice_refused, choice_true, choice_none, choice_other}
 use Rattle.evaluator.proofs.evaluation.+evaluation.Goals as goal
 
@@ -59,18 +55,9 @@ act-returns-in-Some-literal_assignment-clause-gives t c =
 
 pub gathered-returns-in_default : goal.gathered-returns-in_default
 gathered-returns-in_default t c =
-    let names = c.args.names.now in
-    let s = c.args.world.now.0 in
-    let items = c.args.items.now in
-    let forms = list_of (map object_of (drop 1 items)) in
     record {
-      gives = subst (Answers all_done c.extended.result c.extended.new.world.0)
-          (ap (λ l. followed names (map object_of l) c.none.result.wrote s forms) c.none.ensures.values
-          ∙ ap (λ b. followed names [] b s forms) c.none.ensures.wrote
-          ∙ followed_start names s forms
-          ∙ ap (values names s) (sym (arguments_from items))
-          ∙ sym (gathered_in_order names s c.args.operation (arguments_of (map object_of items)) c.in_default.not-Setf c.in_default.not-Incf c.in_default.not-Push))
-          c.extended.ensures.gives;
+      gives = gathered_from_none c.args.names.now c.args.world.now.0 c.extended.new.world.0 c.args.operation c.args.items.now c.none.result.values.items c.none.result.wrote c.extended.result
+          c.in_default.not-Setf c.in_default.not-Incf c.in_default.not-Push c.none.ensures.values c.none.ensures.wrote c.extended.ensures.gives;
       values = c.extended.ensures.values;
       marked = c.extended.ensures.marked;
     }
@@ -87,13 +74,9 @@ any_form-returns-in_default-clause-gives t c =
     c.seen.ensures.gives c.args.world.now.0 (value c.args.names.now c.args.world.now.0 (object_of c.args.form.now)) (c.atom.ensures.gives c.args.names.now)
 
 pub any_form-list_form-requires : goal.any_form-list_form-requires
-any_form-list_form-requires t c = (
-  grind (arith, the_lemmas, sized-List c.in-List.items c.in-List.tail, ap the_size c.in-List.is),
-  (
-    some_items c.args.form.now c.in-List.items c.in-List.items c.in-List.tail c.in-List.is c.requires.form.proper refl,
-    (c.requires.names, items_arguments c.args.world.now.0.packages c.args.form.now c.in-List.items c.in-List.tail c.in-List.is c.requires.form),
-  ),
-)
+any_form-list_form-requires t c =
+    let so = list_arguments c.args.world.now.0.packages c.args.form.now c.in-List.items c.in-List.items c.in-List.tail c.in-List.is c.requires.form refl in
+    (grind (arith, the_lemmas, sized-List c.in-List.items c.in-List.tail, ap the_size c.in-List.is), (so.0, (c.requires.names, so.1)))
 
 pub at_place-returns-in-Ok-clause-gives : goal.at_place-returns-in-Ok-clause-gives
 at_place-returns-in-Ok-clause-gives t c =
@@ -145,20 +128,15 @@ deciding::chosen-returns-clause-gives t c =
 
 pub evaluate_for-returns-in-Ok-clause-value : goal.evaluate_for-returns-in-Ok-clause-value
 evaluate_for-returns-in-Ok-clause-value t c =
-    let so = evaluated_so c.args.wanted (value c.args.names.now c.args.world.now.0 (object_of c.args.form.now)) (done c.in-Ok.evaluated c.any_form.new.world.0) c.in-Ok.ensures.gives in
-    let d : Done Object = record { value = so.0; state = c.any_form.new.world.0; wrote = c.in-Ok.evaluated.wrote } in
     record {
       proper = c.in-Ok.ensures.proper;
-      value = subst (IsValue c.any_form.new.world.0.packages) so.2
-          (stand_in_value c.args.wanted c.any_form.new.world.0.packages so.0 ((good_value c.args.names.now c.args.world.now.0 (object_of c.args.form.now) d c.requires.names c.soundness.ensures.present c.requires.form.value so.1).value));
+      value = (evaluated_good c.args.wanted c.args.names.now c.args.world.now.0 c.any_form.new.world.0 (object_of c.args.form.now) c.in-Ok.evaluated c.requires.names c.soundness.ensures.present c.requires.form.value c.in-Ok.ensures.gives).0;
     }
 
 pub evaluate_for-returns-in-Ok-clause-kept : goal.evaluate_for-returns-in-Ok-clause-kept
 evaluate_for-returns-in-Ok-clause-kept t c =
-    let so = evaluated_so c.args.wanted (value c.args.names.now c.args.world.now.0 (object_of c.args.form.now)) (done c.in-Ok.evaluated c.any_form.new.world.0) c.in-Ok.ensures.gives in
-    let d : Done Object = record { value = so.0; state = c.any_form.new.world.0; wrote = c.in-Ok.evaluated.wrote } in
     argument_grown c.args.world.now.0.packages c.any_form.new.world.0.packages
-    (good_value c.args.names.now c.args.world.now.0 (object_of c.args.form.now) d c.requires.names c.soundness.ensures.present c.requires.form.value so.1).grows
+    (evaluated_good c.args.wanted c.args.names.now c.args.world.now.0 c.any_form.new.world.0 (object_of c.args.form.now) c.in-Ok.evaluated c.requires.names c.soundness.ensures.present c.requires.form.value c.in-Ok.ensures.gives).1
 
 pub extended-returns-in-Err-clause-gives : goal.extended-returns-in-Err-clause-gives
 extended-returns-in-Err-clause-gives t c =
@@ -170,12 +148,8 @@ pub extended-loop-i-preserved : goal.extended-loop-i-preserved
 extended-loop-i-preserved t c =
     let more = c.in_ok-values.ensures in
     record {
-      same = c.loop-i.invariant.same
-          ∙ followed_step c.args.names.now (map object_of c.loop-i.values.values.items) c.loop-i.values.wrote c.loop-i.world.0 c.args.forms.now c.loop-i.i c.index-forms-i.result (object_of c.in-Ok.evaluated.value) c.evaluate_for.new.world.0 c.in-Ok.evaluated.wrote
-          c.loop-i-test.true c.index-forms-i.is (sym (seen_value (value c.args.names.now c.loop-i.world.0 (object_of c.index-forms-i.result))) ∙ c.in-Ok.ensures.gives)
-          ∙ ap (λ xs. followed c.args.names.now xs (c.loop-i.values.wrote || c.in-Ok.evaluated.wrote) c.evaluate_for.new.world.0 (list_of (map object_of (drop (c.loop-i.i + 1) c.args.forms.now))))
-          (sym (ap (map object_of) more.0 ∙ map-append object_of c.loop-i.values.values.items (c.in-Ok.evaluated.value ∷ [])))
-          ∙ ap (λ w. followed c.args.names.now (map object_of c.in_ok-values.values.values.items) w c.evaluate_for.new.world.0 (list_of (map object_of (drop (c.loop-i.i + 1) c.args.forms.now)))) (sym more.1);
+      same = followed_more c.args.names.now c.loop-i.values.values.items c.in_ok-values.values.values.items c.loop-i.values.wrote c.in_ok-values.values.wrote c.loop-i.world.0 c.evaluate_for.new.world.0 c.args.forms.now c.loop-i.i c.index-forms-i.result c.in-Ok.evaluated _
+          c.loop-i.invariant.same c.loop-i-test.true c.index-forms-i.is c.in-Ok.ensures.gives more.0 more.1;
       values = all_more c.evaluate_for.new.world.0.packages c.loop-i.values.values.items c.in_ok-values.values.values.items c.in-Ok.evaluated.value more.0 (λ k d h. c.in-Ok.ensures.kept _ (c.loop-i.invariant.values k d h)) c.in-Ok.ensures.value;
       forms = λ k d h. c.in-Ok.ensures.kept _ (c.loop-i.invariant.forms k d h);
       kept = λ d is. c.in-Ok.ensures.kept d (c.loop-i.invariant.kept d is);
@@ -199,16 +173,8 @@ list_form-returns-in-Err-clause-gives t c =
 
 pub subforms-extended-requires : goal.subforms-extended-requires
 subforms-extended-requires t c =
-    let items = items_arguments c.args.world.now.0.packages c.args.place.now c.in-List.items c.in-List.tail c.in-List.is c.requires.place in (
-      grind (arith, the_lemmas, sized-List c.in-List.items c.in-List.tail, ap the_size c.in-List.is),
-      (
-        some_items c.args.place.now c.in-List.items c.as_slice.result.now c.in-List.tail c.in-List.is c.requires.place.proper c.as_slice.ensures,
-        (
-          c.requires.names,
-          (c.requires.values, subst (All (IsArgument c.args.world.now.0.packages)) (sym c.as_slice.ensures) items),
-        ),
-      ),
-    )
+    let so = list_arguments c.args.world.now.0.packages c.args.place.now c.in-List.items c.as_slice.result.now c.in-List.tail c.in-List.is c.requires.place c.as_slice.ensures in
+    (grind (arith, the_lemmas, sized-List c.in-List.items c.in-List.tail, ap the_size c.in-List.is), (so.0, (c.requires.names, (c.requires.values, so.1))))
 
 pub subforms-returns-in-List-clause-gives : goal.subforms-returns-in-List-clause-gives
 subforms-returns-in-List-clause-gives t c =
@@ -227,37 +193,25 @@ sequence-returns-then-last-eq0-clause-gives t c =
 
 pub sequence-returns-in-Err-clause-gives : goal.sequence-returns-in-Err-clause-gives
 sequence-returns-in-Err-clause-gives t c =
-    let o = sequence_value c.args.names.now c.args.world.now.0 (arguments_of (map object_of c.args.items.now)) in
-    refused_seen c.args.wanted c.in-Err.error c.evaluate_for.new.world.0 o
-    (also_refused c.in-Err.error c.evaluate_for.new.world.0 c.loop-i.wrote o (sequence_value c.args.names.now c.loop-i.world.0 (list_of (map object_of (drop c.loop-i.i c.args.items.now)))) c.loop-i.invariant.same
+    refused_after c.args.wanted c.in-Err.error c.evaluate_for.new.world.0 c.loop-i.wrote _ _ c.loop-i.invariant.same
     (sequence_stops c.args.names.now c.loop-i.world.0 c.evaluate_for.new.world.0 c.evaluate_for.new.world.0 c.args.items.now c.loop-i.i c.index-items-i.result c.in-Err.error (omega (arith, c.loop-i-test.true)) c.index-items-i.is
-    (refused_so Nothing c.in-Err.error c.evaluate_for.new.world.0 c.evaluate_for.new.world.0 (value c.args.names.now c.loop-i.world.0 (object_of c.index-items-i.result)) c.in-Err.ensures.gives)))
+    (refused_so Nothing c.in-Err.error c.evaluate_for.new.world.0 c.evaluate_for.new.world.0 (value c.args.names.now c.loop-i.world.0 (object_of c.index-items-i.result)) c.in-Err.ensures.gives))
 
 pub sequence-loop-i-preserved : goal.sequence-loop-i-preserved
 sequence-loop-i-preserved t c =
     let so = evaluated_so Nothing (value c.args.names.now c.loop-i.world.0 (object_of c.index-items-i.result)) (done c.in-Ok.evaluated c.evaluate_for.new.world.0) c.in-Ok.ensures.gives in
-    let next = sequence_value c.args.names.now c.evaluate_for.new.world.0 (list_of (map object_of (drop (c.loop-i.i + 1) c.args.items.now))) in
     record {
-      same = c.loop-i.invariant.same
-          ∙ ap (also c.loop-i.wrote) (sequence_step c.args.names.now c.loop-i.world.0 c.evaluate_for.new.world.0 c.args.items.now c.loop-i.i c.index-items-i.result so.0 c.in-Ok.evaluated.wrote (omega (arith, c.loop-i-test.true)) c.index-items-i.is so.1)
-          ∙ also_also c.loop-i.wrote c.in-Ok.evaluated.wrote next
-          ∙ ap (λ w. also w next) (sym c.either-wrote.ensures);
+      same = step_after c.loop-i.wrote c.in-Ok.evaluated.wrote c.either-wrote.result _ _ _ c.loop-i.invariant.same
+          (sequence_step c.args.names.now c.loop-i.world.0 c.evaluate_for.new.world.0 c.args.items.now c.loop-i.i c.index-items-i.result so.0 c.in-Ok.evaluated.wrote (omega (arith, c.loop-i-test.true)) c.index-items-i.is so.1) c.either-wrote.ensures;
       forms = λ k d h. c.in-Ok.ensures.kept _ (c.loop-i.invariant.forms k d h);
       marked = c.in-Ok.ensures.marked ∙ c.loop-i.invariant.marked;
     }
 
 pub sequence-returns-clause-gives : goal.sequence-returns-clause-gives
 sequence-returns-clause-gives t c =
-    let names = c.args.names.now in
-    let s = c.loop-i.world.0 in
-    let items = c.args.items.now in
-    let last = value names s (object_of c.index-items-last.result) in
-    let end : c.loop-i.i ≡ length items - 1 = omega arith in
-    subst (Answers done c.after.result c.evaluate_for-2.new.world.0)
-    (sym (ap (seen c.args.wanted) (c.loop-i.invariant.same
-    ∙ ap (λ n. also c.loop-i.wrote (sequence_value names s (list_of (map object_of (drop n items))))) end
-    ∙ ap (also c.loop-i.wrote) (sequence_last names s items (length items - 1) c.index-items-last.result (omega (arith, c.requires.counted)) c.index-items-last.is))
-    ∙ seen_also c.args.wanted c.loop-i.wrote last))
+    let last = value c.args.names.now c.loop-i.world.0 (object_of c.index-items-last.result) in
+    answered c.args.wanted c.loop-i.wrote _ _ last c.after.result c.evaluate_for-2.new.world.0 c.loop-i.invariant.same
+    (sequence_last c.args.names.now c.loop-i.world.0 c.args.items.now c.loop-i.i c.index-items-last.result (omega (arith, c.requires.counted)) (same_last c.args.items.now c.loop-i.i c.index-items-last.result (omega (arith, c.requires.counted)) c.index-items-last.is))
     (c.after.ensures.gives c.evaluate_for-2.new.world.0 (seen c.args.wanted last) c.evaluate_for-2.ensures.gives)
 
 pub ordinary-returns-in-Ok-gathered-clause-gives : goal.ordinary-returns-in-Ok-gathered-clause-gives
@@ -281,10 +235,7 @@ listed-loop-i-preserved t c =
       listed = (
         so.0 ++ given.0 ∷ [],
         held_so so.0 given.0 (object_of c.in-Ok.evaluated.value) c.loop-i.values c.in_ok-values.values (subst (λ w. stand_in w given.0 ≡ object_of c.in-Ok.evaluated.value) c.wanted_for-wanted.ensures given.2) so.1 (c.in_ok-values.ensures so.0 so.1),
-        so.2
-            ∙ followed_step c.args.names.now so.0 c.loop-i.wrote c.loop-i.world.0 c.args.items.now c.loop-i.i c.index-items-i.result given.0 c.evaluate_for.new.world.0 c.in-Ok.evaluated.wrote
-            c.loop-i-test.true c.index-items-i.is given.1
-            ∙ ap (λ w. followed c.args.names.now (so.0 ++ given.0 ∷ []) w c.evaluate_for.new.world.0 (list_of (map object_of (drop (c.loop-i.i + 1) c.args.items.now)))) (sym c.either-wrote.ensures),
+        followed_both c.args.names.now so.0 c.loop-i.wrote c.in-Ok.evaluated.wrote c.either-wrote.result c.loop-i.world.0 c.evaluate_for.new.world.0 c.args.items.now c.loop-i.i c.index-items-i.result given.0 _ so.2 c.loop-i-test.true c.index-items-i.is given.1 c.either-wrote.ensures,
       );
       forms = λ k d h. c.in-Ok.ensures.kept _ (c.loop-i.invariant.forms k d h);
       marked = c.in-Ok.ensures.marked ∙ c.loop-i.invariant.marked;
@@ -310,129 +261,74 @@ deciding::sought-returns-then-last-eq0-clause-gives t c =
 
 pub deciding::sought-returns-in-Err-clause-gives : goal.deciding::sought-returns-in-Err-clause-gives
 deciding::sought-returns-in-Err-clause-gives t c =
-    let s = c.loop-i.world.0 in
-    let u = c.evaluate_for.new.world.0 in
-    let o = sought c.args.names.now c.args.truth c.args.world.now.0 (arguments_of (map object_of c.args.items.now)) in
-    refused_seen c.args.wanted c.in-Err.error u o
-    (also_refused c.in-Err.error u c.loop-i.wrote o (sought c.args.names.now c.args.truth s (list_of (map object_of (drop c.loop-i.i c.args.items.now)))) c.loop-i.invariant.same
-    (sought_stops c.args.names.now c.args.truth s u c.args.items.now c.loop-i.i c.index-items-i.result (omega (arith, c.loop-i-test.true)) c.index-items-i.is c.wanted_of_test-asked.result c.in-Err.error u c.in-Err.ensures.gives))
+    refused_after c.args.wanted c.in-Err.error c.evaluate_for.new.world.0 c.loop-i.wrote _ _ c.loop-i.invariant.same
+    (sought_stops c.args.names.now c.args.truth c.loop-i.world.0 c.evaluate_for.new.world.0 c.args.items.now c.loop-i.i c.index-items-i.result (omega (arith, c.loop-i-test.true)) c.index-items-i.is c.wanted_of_test-asked.result c.in-Err.error c.evaluate_for.new.world.0 c.in-Err.ensures.gives)
 
 pub deciding::sought-returns-then-has_truth-clause-gives : goal.deciding::sought-returns-then-has_truth-clause-gives
 deciding::sought-returns-then-has_truth-clause-gives t c =
-    let s = c.loop-i.world.0 in
     let u = c.evaluate_for.new.world.0 in
-    let o = sought c.args.names.now c.args.truth s (list_of (map object_of (drop c.loop-i.i c.args.items.now))) in
-    let here = sought_here c.args.names.now c.args.truth s u c.args.items.now c.loop-i.i c.index-items-i.result (omega (arith, c.loop-i-test.true)) c.index-items-i.is
-    c.wanted_of_test-asked.result c.in-Ok.test c.wanted_of_test-asked.ensures.truth c.wanted_of_test-asked.ensures.kept c.in-Ok.ensures.gives (sym c.has_truth.ensures ∙ c.if-has_truth.true) in
-    subst (Answers done c.after.result u)
-    (sym (ap (seen c.args.wanted) c.loop-i.invariant.same ∙ seen_also c.args.wanted c.loop-i.wrote o))
-    (c.after.ensures.gives u (seen c.args.wanted o) (c.seen-then-has_truth.ensures.gives u o here))
+    let o = Ok (done c.in-Ok.test u) in
+    answered c.args.wanted c.loop-i.wrote _ _ o c.after.result u c.loop-i.invariant.same
+    (sought_here c.args.names.now c.args.truth c.loop-i.world.0 c.evaluate_for.new.world.0 c.args.items.now c.loop-i.i c.index-items-i.result (omega (arith, c.loop-i-test.true)) c.index-items-i.is c.wanted_of_test-asked.result c.in-Ok.test c.wanted_of_test-asked.ensures.truth c.wanted_of_test-asked.ensures.kept c.in-Ok.ensures.gives (sym c.has_truth.ensures ∙ c.if-has_truth.true))
+    (c.after.ensures.gives u (seen c.args.wanted o) (c.seen-then-has_truth.ensures.gives u o refl))
 
 pub deciding::sought-loop-i-preserved : goal.deciding::sought-loop-i-preserved
 deciding::sought-loop-i-preserved t c =
-    let next = sought c.args.names.now c.args.truth c.evaluate_for.new.world.0 (list_of (map object_of (drop (c.loop-i.i + 1) c.args.items.now))) in
     record {
-      same = c.loop-i.invariant.same
-          ∙ ap (also c.loop-i.wrote) (sought_next c.args.names.now c.args.truth c.loop-i.world.0 c.evaluate_for.new.world.0 c.args.items.now c.loop-i.i c.index-items-i.result (omega (arith, c.loop-i-test.true)) c.index-items-i.is
-          c.wanted_of_test-asked.result c.in-Ok.test c.wanted_of_test-asked.ensures.truth (omega (arith, c.loop-i-test.true)) c.in-Ok.ensures.gives (sym c.has_truth.ensures ∙ c.if-has_truth.false))
-          ∙ also_also c.loop-i.wrote c.in-Ok.test.wrote next
-          ∙ ap (λ w. also w next) (sym c.either-wrote.ensures);
+      same = step_after c.loop-i.wrote c.in-Ok.test.wrote c.either-wrote.result _ _ _ c.loop-i.invariant.same
+          (sought_next c.args.names.now c.args.truth c.loop-i.world.0 c.evaluate_for.new.world.0 c.args.items.now c.loop-i.i c.index-items-i.result (omega (arith, c.loop-i-test.true)) c.index-items-i.is c.wanted_of_test-asked.result c.in-Ok.test c.wanted_of_test-asked.ensures.truth (omega (arith, c.loop-i-test.true)) c.in-Ok.ensures.gives (sym c.has_truth.ensures ∙ c.if-has_truth.false)) c.either-wrote.ensures;
       forms = λ k d h. c.in-Ok.ensures.kept _ (c.loop-i.invariant.forms k d h);
       marked = c.in-Ok.ensures.marked ∙ c.loop-i.invariant.marked;
     }
 
 pub deciding::sought-returns-clause-gives : goal.deciding::sought-returns-clause-gives
 deciding::sought-returns-clause-gives t c =
-    let names = c.args.names.now in
-    let s = c.loop-i.world.0 in
-    let items = c.args.items.now in
-    let last = value names s (object_of c.index-items-last.result) in
-    let end : c.loop-i.i ≡ length items - 1 = omega arith in
-    subst (Answers done c.after-2.result c.evaluate_for-2.new.world.0)
-    (sym (ap (seen c.args.wanted) (c.loop-i.invariant.same
-    ∙ ap (λ n. also c.loop-i.wrote (sought names c.args.truth s (list_of (map object_of (drop n items))))) end
-    ∙ ap (also c.loop-i.wrote) (sought_last names c.args.truth s s items (length items - 1) c.index-items-last.result (omega (arith, c.requires.counted)) c.index-items-last.is (omega (arith, c.requires.counted))))
-    ∙ seen_also c.args.wanted c.loop-i.wrote last))
+    let last = value c.args.names.now c.loop-i.world.0 (object_of c.index-items-last.result) in
+    answered c.args.wanted c.loop-i.wrote _ _ last c.after-2.result c.evaluate_for-2.new.world.0 c.loop-i.invariant.same
+    (sought_last c.args.names.now c.args.truth c.loop-i.world.0 c.loop-i.world.0 c.args.items.now c.loop-i.i c.index-items-last.result (omega (arith, c.requires.counted)) (same_last c.args.items.now c.loop-i.i c.index-items-last.result (omega (arith, c.requires.counted)) c.index-items-last.is) (omega (arith, c.requires.counted)))
     (c.after-2.ensures.gives c.evaluate_for-2.new.world.0 (seen c.args.wanted last) c.evaluate_for-2.ensures.gives)
 
 pub deciding::selected-returns-then-not-are_clauses-clause-gives : goal.deciding::selected-returns-then-not-are_clauses-clause-gives
 deciding::selected-returns-then-not-are_clauses-clause-gives t c =
-    let args = arguments_of (map object_of c.args.items.now) in
-    ap (λ b. seen c.args.wanted (cond b (selected c.args.names.now c.args.world.now.0 args) (Err ARGUMENT_KIND))) (sym c.are_clauses.ensures ∙ c.if-not-are_clauses.true)
+    ap (λ b. seen c.args.wanted (cond b (selected c.args.names.now c.args.world.now.0 (arguments_of (map object_of c.args.items.now))) (Err ARGUMENT_KIND))) (sym c.are_clauses.ensures ∙ c.if-not-are_clauses.true)
 
 pub deciding::selected-returns-in-Err-clause-gives : goal.deciding::selected-returns-in-Err-clause-gives
 deciding::selected-returns-in-Err-clause-gives t c =
-    let names = c.args.names.now in
-    let items = c.args.items.now in
-    let s = c.loop-i.world.0 in
-    let u = c.evaluate_for.new.world.0 in
-    let args = arguments_of (map object_of items) in
-    let o = selected names c.args.world.now.0 args in
-    let stops = also_refused c.in-Err.error u c.loop-i.wrote o (selected names s (list_of (map object_of (drop c.loop-i.i items)))) c.loop-i.invariant.same
-    (selected_stops names s u items c.in-Some.clause.now c.loop-i.i c.index-items-i.result c.index-clause-0.result (omega (arith, c.loop-i-test.true)) c.index-items-i.is (ap object_of c.in-Some.ensures.0 ∙ object_of-List c.in-Some.clause.now) c.in-Some.ensures.1 c.index-clause-0.is
-    c.wanted_of_test-asked.result c.in-Err.error u c.in-Err.ensures.gives) in
-    subst (λ b. Answers done (Err c.in-Err.error) u (seen c.args.wanted (cond b o (Err ARGUMENT_KIND)))) (sym (sym c.are_clauses.ensures ∙ c.if-not-are_clauses.false))
-    (refused_seen c.args.wanted c.in-Err.error u o stops)
+    refused_after c.args.wanted c.in-Err.error c.evaluate_for.new.world.0 c.loop-i.wrote _ _ (conditional_is c.args.names.now c.args.world.now.0 (arguments_of (map object_of c.args.items.now)) (sym c.are_clauses.ensures ∙ c.if-not-are_clauses.false) ∙ c.loop-i.invariant.same)
+    (selected_stops c.args.names.now c.loop-i.world.0 c.evaluate_for.new.world.0 c.args.items.now c.in-Some.clause.now c.loop-i.i c.index-items-i.result c.index-clause-0.result (omega (arith, c.loop-i-test.true)) c.index-items-i.is (ap object_of c.in-Some.ensures.0 ∙ object_of-List c.in-Some.clause.now) c.in-Some.ensures.1 c.index-clause-0.is c.wanted_of_test-asked.result c.in-Err.error c.evaluate_for.new.world.0 c.in-Err.ensures.gives)
 
 pub deciding::selected-returns-then-clause-eq1-clause-gives : goal.deciding::selected-returns-then-clause-eq1-clause-gives
 deciding::selected-returns-then-clause-eq1-clause-gives t c =
-    let names = c.args.names.now in
-    let items = c.args.items.now in
-    let s = c.loop-i.world.0 in
     let u = c.evaluate_for.new.world.0 in
-    let args = arguments_of (map object_of items) in
-    let o = selected names s (list_of (map object_of (drop c.loop-i.i items))) in
-    let here = selected_test names s u items c.in-Some.clause.now c.loop-i.i c.index-items-i.result c.index-clause-0.result (omega (arith, c.loop-i-test.true)) c.index-items-i.is (ap object_of c.in-Some.ensures.0 ∙ object_of-List c.in-Some.clause.now) c.in-Some.ensures.1 c.index-clause-0.is
-    c.wanted_of_test-asked.result c.in-Ok.test c.wanted_of_test-asked.ensures.truth (λ z h. c.wanted_of_test-asked.ensures.kept z (subst (λ n. has_truth (n == 1) z ≡ true) (sym c.if-clause-eq1.true) h)) c.if-clause-eq1.true c.in-Ok.ensures.gives (sym c.is_true.ensures ∙ c.if-is_true.true) in
-    subst (Answers done c.after.result u)
-    (sym (ap (λ b. seen c.args.wanted (cond b (selected names c.args.world.now.0 args) (Err ARGUMENT_KIND))) (sym c.are_clauses.ensures ∙ c.if-not-are_clauses.false)
-    ∙ ap (seen c.args.wanted) c.loop-i.invariant.same ∙ seen_also c.args.wanted c.loop-i.wrote o))
-    (c.after.ensures.gives u (seen c.args.wanted o) (c.seen.ensures.gives u o here))
+    let o = Ok (done c.in-Ok.test u) in
+    answered c.args.wanted c.loop-i.wrote _ _ o c.after.result u (conditional_is c.args.names.now c.args.world.now.0 (arguments_of (map object_of c.args.items.now)) (sym c.are_clauses.ensures ∙ c.if-not-are_clauses.false) ∙ c.loop-i.invariant.same)
+    (selected_test c.args.names.now c.loop-i.world.0 c.evaluate_for.new.world.0 c.args.items.now c.in-Some.clause.now c.loop-i.i c.index-items-i.result c.index-clause-0.result (omega (arith, c.loop-i-test.true)) c.index-items-i.is (ap object_of c.in-Some.ensures.0 ∙ object_of-List c.in-Some.clause.now) c.in-Some.ensures.1 c.index-clause-0.is c.wanted_of_test-asked.result c.in-Ok.test c.wanted_of_test-asked.ensures.truth (λ z h. c.wanted_of_test-asked.ensures.kept z (subst (λ n. has_truth (n == 1) z ≡ true) (sym c.if-clause-eq1.true) h))
+    c.if-clause-eq1.true c.in-Ok.ensures.gives (sym c.is_true.ensures ∙ c.if-is_true.true))
+    (c.after.ensures.gives u (seen c.args.wanted o) (c.seen.ensures.gives u o refl))
 
 pub deciding::selected-returns-then-is_true-clause-gives : goal.deciding::selected-returns-then-is_true-clause-gives
 deciding::selected-returns-then-is_true-clause-gives t c =
-    let names = c.args.names.now in
-    let items = c.args.items.now in
-    let s = c.loop-i.world.0 in
-    let u = c.evaluate_for.new.world.0 in
-    let args = arguments_of (map object_of items) in
-    let forms = sequence_value names u (arguments_of (map object_of c.in-Some.clause.now)) in
-    let here = selected_forms names s u items c.in-Some.clause.now c.loop-i.i c.index-items-i.result c.index-clause-0.result (omega (arith, c.loop-i-test.true)) c.index-items-i.is (ap object_of c.in-Some.ensures.0 ∙ object_of-List c.in-Some.clause.now) c.in-Some.ensures.1 c.index-clause-0.is
-    c.wanted_of_test-asked.result c.in-Ok.test c.wanted_of_test-asked.ensures.truth (let some = c.in-Some.ensures.1 in let more = c.if-clause-eq1.false in omega arith) c.in-Ok.ensures.gives (sym c.is_true.ensures ∙ c.if-is_true.true) in
-    subst (Answers done c.after-then-is_true.result c.sequence.new.world.0)
-    (sym (ap (λ b. seen c.args.wanted (cond b (selected names c.args.world.now.0 args) (Err ARGUMENT_KIND))) (sym c.are_clauses.ensures ∙ c.if-not-are_clauses.false)
-    ∙ ap (seen c.args.wanted) (c.loop-i.invariant.same ∙ ap (also c.loop-i.wrote) here ∙ also_also c.loop-i.wrote c.in-Ok.test.wrote forms ∙ ap (λ w. also w forms) (sym c.either-wrote.ensures))
-    ∙ seen_also c.args.wanted c.either-wrote.result forms))
-    (c.after-then-is_true.ensures.gives c.sequence.new.world.0 (seen c.args.wanted forms) c.sequence.ensures.gives)
+    let forms = sequence_value c.args.names.now c.evaluate_for.new.world.0 (arguments_of (map object_of c.in-Some.clause.now)) in
+    answered c.args.wanted c.either-wrote.result _ _ forms c.after-then-is_true.result c.sequence.new.world.0
+    (step_after c.loop-i.wrote c.in-Ok.test.wrote c.either-wrote.result _ _ forms (conditional_is c.args.names.now c.args.world.now.0 (arguments_of (map object_of c.args.items.now)) (sym c.are_clauses.ensures ∙ c.if-not-are_clauses.false) ∙ c.loop-i.invariant.same)
+    (selected_forms c.args.names.now c.loop-i.world.0 c.evaluate_for.new.world.0 c.args.items.now c.in-Some.clause.now c.loop-i.i c.index-items-i.result c.index-clause-0.result (omega (arith, c.loop-i-test.true)) c.index-items-i.is (ap object_of c.in-Some.ensures.0 ∙ object_of-List c.in-Some.clause.now) c.in-Some.ensures.1 c.index-clause-0.is c.wanted_of_test-asked.result c.in-Ok.test c.wanted_of_test-asked.ensures.truth (let some = c.in-Some.ensures.1 in let more = c.if-clause-eq1.false in omega arith) c.in-Ok.ensures.gives (sym c.is_true.ensures ∙ c.if-is_true.true))
+    c.either-wrote.ensures) refl (c.after-then-is_true.ensures.gives c.sequence.new.world.0 (seen c.args.wanted forms) c.sequence.ensures.gives)
 
 pub deciding::selected-loop-i-preserved : goal.deciding::selected-loop-i-preserved
 deciding::selected-loop-i-preserved t c =
-    let names = c.args.names.now in
-    let items = c.args.items.now in
-    let s = c.loop-i.world.0 in
-    let u = c.evaluate_for.new.world.0 in
-    let next = selected names u (list_of (map object_of (drop (c.loop-i.i + 1) items))) in
     record {
-      same = c.loop-i.invariant.same
-          ∙ ap (also c.loop-i.wrote) (selected_next names s u items c.in-Some.clause.now c.loop-i.i c.index-items-i.result c.index-clause-0.result (omega (arith, c.loop-i-test.true)) c.index-items-i.is (ap object_of c.in-Some.ensures.0 ∙ object_of-List c.in-Some.clause.now) c.in-Some.ensures.1 c.index-clause-0.is
-          c.wanted_of_test-asked.result c.in-Ok.test c.wanted_of_test-asked.ensures.truth c.in-Ok.ensures.gives (sym c.is_true.ensures ∙ c.if-is_true.false))
-          ∙ also_also c.loop-i.wrote c.in-Ok.test.wrote next
-          ∙ ap (λ w. also w next) (sym c.either-wrote-in-loop-i.ensures);
-      clauses = (and_parts _ _ (sym (each_clause items c.loop-i.i c.index-items-i.result (omega (arith, c.loop-i-test.true)) c.index-items-i.is) ∙ c.loop-i.invariant.clauses)).1;
+      same = step_after c.loop-i.wrote c.in-Ok.test.wrote c.either-wrote-in-loop-i.result _ _ _ c.loop-i.invariant.same
+          (selected_next c.args.names.now c.loop-i.world.0 c.evaluate_for.new.world.0 c.args.items.now c.in-Some.clause.now c.loop-i.i c.index-items-i.result c.index-clause-0.result (omega (arith, c.loop-i-test.true)) c.index-items-i.is (ap object_of c.in-Some.ensures.0 ∙ object_of-List c.in-Some.clause.now) c.in-Some.ensures.1 c.index-clause-0.is c.wanted_of_test-asked.result c.in-Ok.test c.wanted_of_test-asked.ensures.truth c.in-Ok.ensures.gives (sym c.is_true.ensures ∙ c.if-is_true.false)) c.either-wrote-in-loop-i.ensures;
+      clauses = (and_parts _ _ (sym (each_clause c.args.items.now c.loop-i.i c.index-items-i.result (omega (arith, c.loop-i-test.true)) c.index-items-i.is) ∙ c.loop-i.invariant.clauses)).1;
       forms = λ k d h. c.in-Ok.ensures.kept _ (c.loop-i.invariant.forms k d h);
       marked = c.in-Ok.ensures.marked ∙ c.loop-i.invariant.marked;
     }
 
 pub deciding::selected-returns-clause-gives : goal.deciding::selected-returns-clause-gives
 deciding::selected-returns-clause-gives t c =
-    let names = c.args.names.now in
-    let items = c.args.items.now in
     let s = c.loop-i.world.0 in
-    let args = arguments_of (map object_of items) in
-    subst (Answers done c.after-2.result s)
-    (sym (ap (λ b. seen c.args.wanted (cond b (selected names c.args.world.now.0 args) (Err ARGUMENT_KIND))) (sym c.are_clauses.ensures ∙ c.if-not-are_clauses.false)
-    ∙ ap (seen c.args.wanted) (c.loop-i.invariant.same ∙ ap (also c.loop-i.wrote) (none_selected names s items c.loop-i.i (omega arith)))
-    ∙ seen_also c.args.wanted c.loop-i.wrote (gives nil s)))
+    answered c.args.wanted c.loop-i.wrote _ _ (gives nil s) c.after-2.result s (conditional_is c.args.names.now c.args.world.now.0 (arguments_of (map object_of c.args.items.now)) (sym c.are_clauses.ensures ∙ c.if-not-are_clauses.false) ∙ c.loop-i.invariant.same)
+    (none_selected c.args.names.now s c.args.items.now c.loop-i.i (omega arith))
     (c.after-2.ensures.gives s (seen c.args.wanted (gives nil s)) (c.seen-2.ensures.gives s (gives nil s) (c.nothing.ensures.gives s)))
 
 pub deciding::guarded-returns-in-Err-clause-gives : goal.deciding::guarded-returns-in-Err-clause-gives
@@ -470,14 +366,9 @@ deciding::decided-asserted-requires t c = proper_test c.evaluate_for-test.new.wo
 
 pub deciding::decided-returns-in-Assert-clause-gives : goal.deciding::decided-returns-in-Assert-clause-gives
 deciding::decided-returns-in-Assert-clause-gives t c =
-    let names = c.args.names.now in
-    let s = c.args.world.now.0 in
     let u = c.evaluate_for-test.new.world.0 in
-    let items = c.args.items.now in
-    let test = value names s (object_of c.index-items-1.result) in
-    let some : 2 ≤ length items = (subst (λ d. IsCounted (Decides d) (length items)) c.in-Assert.is c.requires.counted).0 in
-    subst (λ o. Answers done c.seen.result u (seen c.args.wanted o))
-    (sym (ap (λ d. operation_value names (Decides d) (arguments_of (map object_of items)) s) c.in-Assert.is ∙ assert_form names s items c.index-items-1.result some c.index-items-1.is))
+    let test = value c.args.names.now c.args.world.now.0 (object_of c.index-items-1.result) in
+    assert_answers c.args.wanted c.args.names.now c.args.world.now.0 u c.args.items.now c.index-items-1.result c.args.decision c.seen.result c.in-Assert.is c.requires.counted c.index-items-1.is
     (c.seen.ensures.gives u (asserted test) (c.asserted.ensures.gives u test c.evaluate_for-test.ensures.gives))
 
 pub deciding::guarded-sequence-requires : goal.deciding::guarded-sequence-requires
