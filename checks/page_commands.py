@@ -50,11 +50,11 @@ def rows_of_script(command):
     of_name = dict(re.findall('^([A-Z]+)_DOES="([^"]*)"', read(SCRIPT), re.M))
     if command == "run":
         for option, does in (("--operators", of_name["OPERATORS"]), ("--wait SECONDS", of_name["WAIT"])):
-            yield f"| `{option}` | {does}. `./pazturrok` does it, before it starts the program |"
+            yield f"| `{option}` | {does}. The script `./pazturrok` carries this option out, and then starts the program |"
     if command == "show":
-        yield f"| `--html FILE` | {of_name['HTML']}. `./pazturrok` does it, by looks of the program |"
+        yield f"| `--html FILE` | {of_name['HTML']}. The script `./pazturrok` carries this option out, by looks of the program |"
     if command == "check":
-        yield f"| `--run` | {of_name['RUN']}. `./pazturrok` does it, by sessions of the program |"
+        yield f"| `--run` | {of_name['RUN']}. The script `./pazturrok` carries this option out, by sessions of the program |"
 
 
 def rows(usage, known):
