@@ -26,6 +26,19 @@ read_words_of_show() {
     done
     [ -n "$folder" ] || refuse "a folder is missing: show DIR --html FILE"
     [ -n "$page" ] || refuse "a file is missing after --html"
+    look_at_page
+}
+
+# Refuses a place in the folder of the store, and what is there already and no page.
+look_at_page() {
+    case $page in -*) page=./$page ;; esac
+    # shellcheck disable=SC3013 # no standard has -ef, and each shell of Linux does
+    if [ "$(dirname "$page")" -ef "$folder" ]; then
+        refuse "$page is in the folder of the store: name a file elsewhere"
+    fi
+    if [ -s "$page" ] && [ -f "$page" ] && [ "$(head -c 15 "$page")" != '<!DOCTYPE html>' ]; then
+        refuse "$page is there, and is no page: name another file"
+    fi
 }
 
 # What the program tells by these words goes into a file of the room; where it fails this ends as the program did.
@@ -47,7 +60,7 @@ show_html() {
     tell_into world dump "$folder" --existing
     tell_into records log "$folder"
     tail -n "$RECORDS_OF_PAGE" "$room/records" >"$room/log"
-    (cd "$folder" && pwd) >"$room/folder"
+    readlink -f -- "$folder" >"$room/folder"
     echo "As it was at $(date -u '+%Y-%m-%d %H:%M:%S') UTC." >"$room/made"
     [ -n "$is_proved" ] || echo "The program was $NOT_PROVED." >>"$room/made"
     while IFS= read -r line; do

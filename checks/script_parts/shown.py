@@ -36,6 +36,17 @@ def of_a_store(script: str, room: str) -> None:
     check("the store", called(script, "dump", store, "--existing")[1], world)
     called(script, "run", store, stdin=b"(SETF (GET 'A 'B) 2)")
     check("once more", (called(script, "show", f"--html={page}", store)[0], b"(A B 2)" in parts_of(page)["world"]), (0, True))
+    half = os.path.join(store, "half-a")
+    with open(half, "rb") as file:
+        before = file.read()
+    for place in (half, f"{room}/./store of a page/page.html"):
+        is_refused("a file of the store", script, "show", store, "--html", place, says="in the folder of the store")
+    with open(half, "rb") as file:
+        check("the half", (file.read(), sorted(os.listdir(store))), (before, ["half-a", "half-b"]))
+    other = os.path.join(room, "no page")
+    with open(other, "wb") as file:
+        file.write(b"a text")
+    is_refused("a file that is no page", script, "show", store, "--html", other, says="is no page")
 
 
 def check_all(script: str, room: str) -> None:
