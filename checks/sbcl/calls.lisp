@@ -7,6 +7,8 @@
 
 (setf sb-ext:*evaluator-mode* :interpret)
 (defpackage "TRIAL" (:use "COMMON-LISP"))
+; (INCF with a default is written PAZTURROK::INCF)
+(defpackage "PAZTURROK" (:use "COMMON-LISP"))
 
 (defun outcome (text)
   (let ((*package* (find-package "TRIAL")))

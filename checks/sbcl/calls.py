@@ -1,4 +1,4 @@
-"""Random calls of the operators whose value depends on their arguments alone."""
+"""Random calls of the operators whose value depends on their arguments alone, and of those that change a place."""
 
 from __future__ import annotations
 
@@ -22,6 +22,8 @@ TAKES = {
     "VECTOR": "O*", "IF": "OOO", "LIST": "O*", "AND": "O*", "OR": "O*", "COND": "C*", "WHEN": "OO*", "UNLESS": "OO*",
     "PROG1": "OO*", "ASSERT": "O",
 }
+# The operators of PAZTURROK that are called otherwise: those that change a place, and one that looks a symbol up.
+OTHERS = ["DECF", "POP", "FIND-SYMBOL"]
 # What gives an argument of a kind, often enough for calls within calls to meet.
 GIVES = {
     "I": ["+", "-", "*", "FLOOR", "MOD", "MIN", "MAX", "LENGTH"],
@@ -104,6 +106,24 @@ def call(random: Random, name: str, depth: int) -> str:
     return f"({' '.join([name, *(argument(random, mark, depth) for mark in marks)])})"
 
 
+def changed_place(random: Random) -> str:
+    """A property that is set or not, is changed, and is read again."""
+    name = random.choice(["PAZTURROK::INCF", "DECF", "POP"])
+    mark, chance = ("L" if name == "POP" else "I"), random.random
+    first = f"(SETF (GET 'A 'N) {argument(random, mark, 1)})" if chance() < 0.6 else ""
+    default = f" {argument(random, mark, 1)}" if chance() < 0.6 else ""
+    amount = f" {argument(random, mark, 1)}" if mark == "I" and chance() < 0.6 else ""
+    return f"(PROGN (REMPROP 'A 'N) {first} (LIST ({name} (GET 'A 'N{default}){amount}) (GET 'A 'N)))"
+
+
+def looked_up(random: Random) -> str:
+    """A name that has an operator, or none."""
+    return f'(FIND-SYMBOL "{random.choice([*TAKES, *OTHERS, "NOWHERE", "car", ""])}")'
+
+
 def trial(random: Random) -> str:
     """A form."""
-    return call(random, random.choice(list(TAKES)), 2)
+    kind = random.random()
+    if kind < 0.1:
+        return changed_place(random)
+    return looked_up(random) if kind < 0.12 else call(random, random.choice(list(TAKES)), 2)

@@ -52,7 +52,8 @@ OF_TEXTS: list[tuple[str, Holds]] = [
 OF_CALLS: list[tuple[str, Callable[[str, str, str], object]]] = [
     ("an integer past 128 bits on the way", lambda form, mine, theirs: mine.startswith("! 44 ")),
     ("arithmetic of a ratio",
-     lambda form, mine, theirs: mine.startswith("! 33 ") and re.search(r"\((\+|-|\*|FLOOR|MOD) .*[0-9]/[0-9]", form)),
+     lambda form, mine, theirs: mine.startswith("! 33 ") and re.search("[0-9]/[0-9]", form)
+     and re.search(r"\(([-+*]|FLOOR|MOD|DECF|PAZTURROK::INCF) ", form)),
 ]
 
 

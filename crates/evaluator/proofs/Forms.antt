@@ -21,18 +21,20 @@ use Rattle.lisp_operators.specs.declared.error.EvaluationError.TheVariants.{Refu
 use Rattle.lisp_operators.specs.declared.evaluated.Evaluated.{Evaluated}
 use Rattle.evaluator.specs.declared.values.Values.{Values}
 use Rattle.evaluator.specs.declared.operation.Operation.{Operation}
-use Rattle.evaluator.specs.declared.operation.Operation.TheVariants.{Quote, Progn, If, MakeList, Get, Setf, Remprop, SymbolPlist, Incf, Push, MakePackage, InPackage, Export, Import, UsePackage, Intern, CopyReadtable, InReadtable, SetSyntaxFromChar, SetMacroCharacter, GetMacroCharacter, MakeDispatchMacroCharacter, SetDispatchMacroCharacter, GetDispatchMacroCharacter, ReadtableCase, Computes, Decides}
+use Rattle.evaluator.specs.declared.operation.Operation.TheVariants.{Quote, Progn, If, MakeList, Get, Setf, Remprop, SymbolPlist, Incf, Push, MakePackage, InPackage, Export, Import, UsePackage, Intern, CopyReadtable, InReadtable, SetSyntaxFromChar, SetMacroCharacter, GetMacroCharacter, MakeDispatchMacroCharacter, SetDispatchMacroCharacter, GetDispatchMacroCharacter, ReadtableCase, Computes, Decides, LooksUp, Changes}
 use Rattle.lisp_operators.specs.Kinds.{a_symbol, is_pair}
 use Rattle.lisp_operators.specs.Properties.{set}
 use Rattle.lisp_operators.specs.Readtables.{set_case}
 use Rattle.lisp_operators.specs.ReadBase.{set_base}
+use Rattle.lisp_operators.specs.declared.places.PlaceChange.{PlaceChange}
+use Rattle.lisp_operators.specs.Places.{place_changed}
 use Rattle.lisp_operators.specs.Evaluation.{Evaluation, gives, also, and_then}
 use Rattle.evaluator.specs.Operators.{count, first, value_here, computed_value}
 use Rattle.value_functions.specs.declared.functions.ValueFunction.{ValueFunction}
 use Rattle.value_functions.specs.Functions.{most_arguments, function_value, if_listed}
-use Rattle.evaluator.specs.Value.{value, values, values_at_place, values_before_place, symbol_value, action_value, unless, is_base_place, is_case_place, value_over}
-use Rattle.evaluator.specs.declared.place.Place.TheVariants.{Property, Case, ReadBase}
-use Rattle.evaluator.specs.Operations.{action_of, is_ordinary, set_at, function_of}
+use Rattle.evaluator.specs.Value.{value, values, values_at_place, values_before_place, symbol_value, action_value, unless, has_default, is_base_place, is_case_place, value_over}
+use Rattle.evaluator.specs.declared.place.Place.TheVariants.{Property, PropertyOr, Case, ReadBase}
+use Rattle.evaluator.specs.Operations.{action_of, is_ordinary, set_at, has_default_at, function_of}
 use Rattle.lisp_operators.specs.Evaluated.{Answers, done}
 use Rattle.evaluator.specs.Gathered.{all_done}
 use Rattle.evaluator.specs.Gathered.{arguments_of, parts, followed, subforms, gathered, refusal_of_place, list_place, place_of, IsHead}
@@ -104,6 +106,12 @@ bounded : (function : ValueFunction) (m : Option ℕ) → is_some m ≡ true
 bounded function (Some n) e = refl
 bounded function None e = absurd (false≢true e)
 
+-- a place with a default and one without
+changed_at : (operator : PlaceChange) (r : Option ℕ) (o : Evaluation (List Object)) (b : Bool)
+    → unless r (and_then o (place_changed operator b)) ≡ unless r (and_then o (λ xs t. place_changed operator (has_default_at (cond b PropertyOr Property)) xs t))
+changed_at operator r o true = refl
+changed_at operator r o false = refl
+
 pub ordinary_is : (names : List Name) (operation : Operation) (s : WorldState) (arguments : Object) → is_ordinary operation ≡ true → action_value s (action_of names operation) arguments (parts names s arguments)
     ≡ unless (refusal_of_place operation arguments) (and_then (gathered names s operation arguments) (function_of names operation (place_of operation arguments)))
 ordinary_is names Quote s arguments e = absurd (false≢true e)
@@ -132,6 +140,8 @@ ordinary_is names SetDispatchMacroCharacter s arguments e = refl
 ordinary_is names GetDispatchMacroCharacter s arguments e = refl
 ordinary_is names ReadtableCase s arguments e = refl
 ordinary_is names (Decides decision) s arguments e = absurd (false≢true e)
+ordinary_is names (LooksUp operator) s arguments e = refl
+ordinary_is names (Changes operator) s arguments e = changed_at operator (refusal_of_place (Changes operator) arguments) (values_at_place names s arguments) (has_default (first arguments))
 ordinary_is names (Computes function) s arguments e = ap (λ f. and_then (values names s arguments) f) (bounded function (most_arguments function) e)
 
 pub performed : (wanted : Wanted) (names : List Name) (operation : Operation) (place : Place) (s t u : WorldState) (arguments : Object) (v : Values) (r : Result Evaluated EvaluationError) → is_ordinary operation ≡ true
@@ -148,25 +158,26 @@ performed wanted names operation place s t u arguments v r ordinary none at is h
     ∙ seen_also wanted v.wrote (function_of names operation place xs t))) h
 
 -- ---- what operators take
-pub gathered_in_order : (names : List Name) (s : WorldState) (operation : Operation) (arguments : Object) → (operation ≡ Setf → ⊥) → (operation ≡ Incf → ⊥) → (operation ≡ Push → ⊥)
+pub gathered_in_order : (names : List Name) (s : WorldState) (operation : Operation) (arguments : Object) → (operation ≡ Setf → ⊥) → (operation ≡ Incf → ⊥) → (operation ≡ Push → ⊥) → ((operator : PlaceChange) → operation ≡ Changes operator → ⊥)
     → gathered names s operation arguments ≡ values names s arguments
-gathered_in_order names s Setf arguments setf incf push = absurd (setf refl)
-gathered_in_order names s Incf arguments setf incf push = absurd (incf refl)
-gathered_in_order names s Push arguments setf incf push = absurd (push refl)
-gathered_in_order names s _ arguments setf incf push = refl
+gathered_in_order names s Setf arguments setf incf push changes = absurd (setf refl)
+gathered_in_order names s Incf arguments setf incf push changes = absurd (incf refl)
+gathered_in_order names s Push arguments setf incf push changes = absurd (push refl)
+gathered_in_order names s (Changes operator) arguments setf incf push changes = absurd (changes operator refl)
+gathered_in_order names s _ arguments setf incf push changes = refl
 
 pub arguments_from : (xs : List Datum) → arguments_of (map object_of xs) ≡ list_of (map object_of (drop 1 xs))
 arguments_from [] = refl
 arguments_from (x ∷ xs) = refl
 
 -- the values of all arguments, after none
-pub gathered_from_none : (names : List Name) (s t : WorldState) (operation : Operation) (items vs : List Datum) (w : Bool) (r : Result Values EvaluationError) → (operation ≡ Setf → ⊥) → (operation ≡ Incf → ⊥) → (operation ≡ Push → ⊥) → vs ≡ [] → w ≡ false
+pub gathered_from_none : (names : List Name) (s t : WorldState) (operation : Operation) (items vs : List Datum) (w : Bool) (r : Result Values EvaluationError) → (operation ≡ Setf → ⊥) → (operation ≡ Incf → ⊥) → (operation ≡ Push → ⊥) → ((operator : PlaceChange) → operation ≡ Changes operator → ⊥) → vs ≡ [] → w ≡ false
     → Answers all_done r t (followed names (map object_of vs) w s (list_of (map object_of (drop 1 items)))) → Answers all_done r t (gathered names s operation (arguments_of (map object_of items)))
-gathered_from_none names s t operation items vs w r setf incf push none not_written h =
+gathered_from_none names s t operation items vs w r setf incf push changes none not_written h =
     let forms = list_of (map object_of (drop 1 items)) in
     subst (Answers all_done r t)
     (ap (λ l. followed names (map object_of l) w s forms) none ∙ ap (λ b. followed names [] b s forms) not_written ∙ followed_start names s forms
-    ∙ ap (values names s) (sym (arguments_from items)) ∙ sym (gathered_in_order names s operation (arguments_of (map object_of items)) setf incf push)) h
+    ∙ ap (values names s) (sym (arguments_from items)) ∙ sym (gathered_in_order names s operation (arguments_of (map object_of items)) setf incf push changes)) h
 
 -- one value more, after those of data
 pub followed_more : (names : List Name) (xs ys : List Datum) (w both : Bool) (s t : WorldState) (forms : List Datum) (i : ℕ) (f : Datum) (e : Evaluated) (o : Evaluation (List Object)) → o ≡ followed names (map object_of xs) w s (list_of (map object_of (drop i forms)))

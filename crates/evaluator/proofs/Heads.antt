@@ -9,15 +9,19 @@ use Rattle.package_table.specs.Table.{Name, common_lisp}
 use Rattle.lisp_object.specs.Object.{Object, integer, rational, character, text, symbol, uninterned, pair, vector, is_proper_list}
 use Rattle.plist_state.specs.State.{WorldState}
 use Rattle.evaluator.specs.declared.operation.Operation.{Operation}
-use Rattle.evaluator.specs.declared.operation.Operation.TheVariants.{Quote, Progn, If, MakeList, Get, Setf, Remprop, SymbolPlist, Incf, Push, MakePackage, InPackage, Export, Import, UsePackage, Intern, CopyReadtable, InReadtable, SetSyntaxFromChar, SetMacroCharacter, GetMacroCharacter, MakeDispatchMacroCharacter, SetDispatchMacroCharacter, GetDispatchMacroCharacter, ReadtableCase, Computes, Decides}
+use Rattle.evaluator.specs.declared.operation.Operation.TheVariants.{Quote, Progn, If, MakeList, Get, Setf, Remprop, SymbolPlist, Incf, Push, MakePackage, InPackage, Export, Import, UsePackage, Intern, CopyReadtable, InReadtable, SetSyntaxFromChar, SetMacroCharacter, GetMacroCharacter, MakeDispatchMacroCharacter, SetDispatchMacroCharacter, GetDispatchMacroCharacter, ReadtableCase, Computes, Decides, LooksUp, Changes}
 use Rattle.evaluator.specs.declared.decision.Decision.TheVariants.{And, Or, Cond, When, Unless, Prog1, Assert}
 use Rattle.lisp_object.specs.declared.refusal.TheConstants.{NOT_A_FORM, UNKNOWN_OPERATOR, ARGUMENT_COUNT}
 use Rattle.package_table.proofs.Names.{same_some, none_some}
 use Rattle.lisp_operators.specs.Kinds.{a_symbol}
 use Rattle.value_functions.specs.declared.functions.ValueFunction.{ValueFunction}
 use Rattle.value_functions.specs.Functions.{function_named}
-use Rattle.evaluator.specs.Operators.{Operator, operator_named, operator_of, function_operator, pazturrok, pazturrok_operator, is_interned, count, counts}
+use Rattle.evaluator.specs.Operators.{Operator, operator_named, operator_of, function_operator, pazturrok, pazturrok_operator, is_interned, count, counts, look_up_operator, change_operator, world_operator}
 use Rattle.evaluator.specs.Operations.{operator, action_of, among, operators_on_data, operators_on_packages, operators_on_readtables, operators_that_decide}
+use Rattle.lisp_operators.specs.declared.look_ups.LookUp.{LookUp}
+use Rattle.lisp_operators.specs.declared.places.PlaceChange.{PlaceChange}
+use Rattle.lisp_operators.specs.LookUps.{look_up_named}
+use Rattle.lisp_operators.specs.Places.{change_named}
 use Rattle.evaluator.specs.Value.{value, form_value_by, action_value, value_over}
 use Rattle.evaluator.specs.Gathered.{parts}
 
@@ -79,14 +83,33 @@ of_none names h n lisp own is other at neither =
     ap (λ b. cond b (pazturrok_operator n) None) (sym neither ∙ at)
     ∙ ap (λ b. cond b (operator_named names n) (cond (bytes_eq h pazturrok) (pazturrok_operator n) None)) (sym other ∙ is)
 
--- those of PAZTURROK: functions of values, and those that decide
+-- those of PAZTURROK that are functions of values, look up, or change a place
+abbrev pub valued_operator : Option ValueFunction → Option LookUp → Option PlaceChange → Option Operator
+valued_operator function look_up change =
+    option_or (option_map function_operator function) (option_or (option_map look_up_operator look_up) (option_map change_operator change))
+
 pub function_found : (names : List Name) (n : Name) (function : ValueFunction) → Some function ≡ function_named n
-    → option_map (operator names) (Some (Computes function)) ≡ option_map function_operator (function_named n)
-function_found names n function is = ap (option_map function_operator) is
+    → option_map (operator names) (Some (Computes function)) ≡ option_or (option_map function_operator (function_named n)) (world_operator n)
+function_found names n function is = ap (λ o. valued_operator o (look_up_named n) (change_named n)) is
 
-pub function_missing : (names : List Name) (n : Name) → None ≡ function_named n → option_map (operator names) None ≡ option_map function_operator (function_named n)
-function_missing names n is = ap (option_map function_operator) is
+pub look_up_found : (names : List Name) (n : Name) (look_up : LookUp) → None ≡ function_named n → Some look_up ≡ look_up_named n
+    → option_map (operator names) (Some (LooksUp look_up)) ≡ option_or (option_map function_operator (function_named n)) (world_operator n)
+look_up_found names n look_up none is =
+    ap (λ o. valued_operator None o (change_named n)) is ∙ ap (λ o. valued_operator o (look_up_named n) (change_named n)) none
 
+pub change_found : (names : List Name) (n : Name) (change : PlaceChange) → None ≡ function_named n → None ≡ look_up_named n → Some change ≡ change_named n
+    → option_map (operator names) (Some (Changes change)) ≡ option_or (option_map function_operator (function_named n)) (world_operator n)
+change_found names n change none neither is =
+    ap (λ o. valued_operator None None o) is ∙ ap (λ o. valued_operator None o (change_named n)) neither
+    ∙ ap (λ o. valued_operator o (look_up_named n) (change_named n)) none
+
+pub none_found : (names : List Name) (n : Name) → None ≡ function_named n → None ≡ look_up_named n → None ≡ change_named n
+    → option_map (operator names) None ≡ option_or (option_map function_operator (function_named n)) (world_operator n)
+none_found names n none neither nor =
+    ap (λ o. valued_operator None None o) nor ∙ ap (λ o. valued_operator None o (change_named n)) neither
+    ∙ ap (λ o. valued_operator o (look_up_named n) (change_named n)) none
+
+-- and those that decide
 module _ (names : List Name) (name : Name) where
   -- this operator, or another one
   abbrev operator_or : Option Operator → Option Operation → Option Operator
@@ -98,25 +121,25 @@ module _ (names : List Name) (name : Name) where
   pick_or true x other r q e = refl
   pick_or false x other r q e = e
 
-  abbrev functions_named : Option Operator
-  functions_named = option_map function_operator (function_named name)
+  abbrev valued_named : Option Operator
+  valued_named = valued_operator (function_named name) (look_up_named name) (change_named name)
 
-  all_deciding : operator_or functions_named (among operators_that_decide name) ≡ pazturrok_operator name
+  all_deciding : operator_or valued_named (among operators_that_decide name) ≡ pazturrok_operator name
   all_deciding =
-      pick_or (bytes_eq name (codes "AND")) (Decides And) functions_named _ _
-      (pick_or (bytes_eq name (codes "OR")) (Decides Or) functions_named _ _
-      (pick_or (bytes_eq name (codes "COND")) (Decides Cond) functions_named _ _
-      (pick_or (bytes_eq name (codes "WHEN")) (Decides When) functions_named _ _
-      (pick_or (bytes_eq name (codes "UNLESS")) (Decides Unless) functions_named _ _
-      (pick_or (bytes_eq name (codes "PROG1")) (Decides Prog1) functions_named _ _
-      (pick_or (bytes_eq name (codes "ASSERT")) (Decides Assert) functions_named _ _ refl))))))
+      pick_or (bytes_eq name (codes "AND")) (Decides And) valued_named _ _
+      (pick_or (bytes_eq name (codes "OR")) (Decides Or) valued_named _ _
+      (pick_or (bytes_eq name (codes "COND")) (Decides Cond) valued_named _ _
+      (pick_or (bytes_eq name (codes "WHEN")) (Decides When) valued_named _ _
+      (pick_or (bytes_eq name (codes "UNLESS")) (Decides Unless) valued_named _ _
+      (pick_or (bytes_eq name (codes "PROG1")) (Decides Prog1) valued_named _ _
+      (pick_or (bytes_eq name (codes "ASSERT")) (Decides Assert) valued_named _ _ refl))))))
 
   pub decision_found : (operation : Operation) → Some operation ≡ among operators_that_decide name → option_map (operator names) (Some operation) ≡ pazturrok_operator name
-  decision_found operation is = ap (operator_or functions_named) is ∙ all_deciding
+  decision_found operation is = ap (operator_or valued_named) is ∙ all_deciding
 
-  pub decision_missing : (r : Option Operation) → None ≡ among operators_that_decide name → option_map (operator names) r ≡ option_map function_operator (function_named name)
+  pub decision_missing : (r : Option Operation) → None ≡ among operators_that_decide name → option_map (operator names) r ≡ option_or (option_map function_operator (function_named name)) (world_operator name)
       → option_map (operator names) r ≡ pazturrok_operator name
-  decision_missing r none same = same ∙ ap (operator_or functions_named) none ∙ all_deciding
+  decision_missing r none same = same ∙ ap (operator_or valued_named) none ∙ all_deciding
 
 -- an interned symbol at the head
 pub symbol_of_some : (x : Object) (p : Name × Name) → a_symbol x ≡ Some p → x ≡ symbol p.0 p.1

@@ -2,7 +2,8 @@
 --     Operators      what is asked of the operators
 --     Steps      what is asked of each step
 --     every_value      the value of a form
-use Rattle.std.proofs.Common.{◌≡◌, pos, refl, Bool, true, false, not, ◌&&◌, ◌||◌, ◌==◌, cond, List, [], ◌∷◌, ◌++◌, Option, Some, None, option_map, Err, codes, bytes_eq, arith}
+use Rattle.std.proofs.Common.{◌≡◌, pos, refl, Bool, true, false, not, ◌&&◌, ◌||◌, ◌==◌, cond, List, [], ◌∷◌, ◌++◌, Option, Some, None, option_map, Err, codes, bytes_eq, nat_le, arith}
+use Rattle.std.specs.Option.{option_or}
 use Rattle.std.specs.Prelude.{ℕ}
 use Rattle.std.proofs.lemmas.Bool.{and_parts}
 use Rattle.lisp_object.specs.Object.{Object, integer, rational, character, text, symbol, uninterned, pair, vector, nil, list_of, is_proper_list}
@@ -12,13 +13,17 @@ use Rattle.lisp_operators.specs.Kinds.{is_true, is_pair}
 use Rattle.lisp_operators.specs.Evaluation.{Evaluation, gives, and_then}
 use Rattle.lisp_operators.specs.Properties.{t, list, get, set, remove, symbol_plist, increment, push}
 use Rattle.lisp_operators.specs.Packages.{make, enter, intern, export, import, use_package}
+use Rattle.lisp_operators.specs.declared.look_ups.LookUp.{LookUp}
+use Rattle.lisp_operators.specs.declared.places.PlaceChange.{PlaceChange}
+use Rattle.lisp_operators.specs.LookUps.{look_up_named, looked_up}
+use Rattle.lisp_operators.specs.Places.{change_named, place_changed}
 use Rattle.lisp_operators.specs.ReadBase.{set_base}
 use Rattle.lisp_operators.specs.Readtables.{a_keyword_of, readtable_case, set_case, copy_readtable, enter_readtable, set_syntax, set_macro, get_macro, make_dispatch, set_dispatch, get_dispatch}
 use Rattle.lisp_operators.proofs.Numbered.{IsNumber}
 use Rattle.value_functions.specs.declared.functions.ValueFunction.{ValueFunction as OfValues}
 use Rattle.value_functions.specs.Functions.{function_named}
-use Rattle.evaluator.specs.Operators.{Operator, Action, quotes, sequence, chooses, assigns, increments, pushes, enters_package, calls, seeks, selects, guards, keeps_first, asserts, computed, function_operator, operator_named, pazturrok, pazturrok_operator, operator_of, is_standard, is_interned, count, counts, first}
-use Rattle.evaluator.specs.Value.{value_by, values_by, choice_by, other_value_by, values_at_place_by, values_before_place_by, sought_by, selected_by, guarded_by, symbol_value_by, Parts, action_value_by, form_value_by, unless, last, has_truth, are_clauses, is_base_by, is_case_place, place_refusal_by, case_place_refusal, get_place_refusal, set_place_by, rest, value_over}
+use Rattle.evaluator.specs.Operators.{Operator, Action, quotes, sequence, chooses, assigns, increments, pushes, enters_package, calls, seeks, selects, guards, keeps_first, asserts, computed, function_operator, operator_named, pazturrok, pazturrok_operator, operator_of, is_standard, is_interned, count, counts, first, changes, look_up_operator, change_operator, world_operator}
+use Rattle.evaluator.specs.Value.{value_by, values_by, choice_by, other_value_by, values_at_place_by, values_before_place_by, sought_by, selected_by, guarded_by, symbol_value_by, Parts, action_value_by, form_value_by, unless, last, has_truth, are_clauses, is_base_by, is_case_place, place_refusal_by, case_place_refusal, get_place_refusal, set_place_by, rest, value_over, default_place_refusal, has_default}
 
 -- ---- why an object is no place
 abbrev IsNumbered : Option ℕ → Type 0
@@ -28,6 +33,12 @@ IsNumbered None = Unit {0}
 either_numbered : (b : Bool) (x y : Option ℕ) → IsNumbered x → IsNumbered y → IsNumbered (cond b x y)
 either_numbered true x y first second = first
 either_numbered false x y first second = second
+
+default_place_numbered : (place : Object) → IsNumbered (default_place_refusal place)
+default_place_numbered (pair operator subforms) =
+    either_numbered (not (is_standard (codes "GET") operator && is_proper_list subforms)) _ _ (omega arith, omega arith)
+    (either_numbered (nat_le 2 (count subforms) && nat_le (count subforms) 3) _ _ tt (omega arith, omega arith))
+default_place_numbered _ = (omega arith, omega arith)
 
 get_place_numbered : (place : Object) → IsNumbered (get_place_refusal place)
 get_place_numbered (pair operator subforms) =
@@ -72,6 +83,8 @@ module _ (based : Bool) (names : List Name) (Asks : WorldState → Object → Ty
     pub gets_dispatch : Function get_dispatch
     pub sets_base : based ≡ true → Function set_base
     pub computes : (function : OfValues) → Function (computed function)
+    pub looks_up : (operator : LookUp) → Function (looked_up operator)
+    pub changes_place : (operator : PlaceChange) (has_default : Bool) → Function (place_changed operator has_default)
 
   -- what is asked of a form stays so from the first state to the second
   abbrev pub Later : WorldState → WorldState → Type 0
@@ -106,6 +119,7 @@ module _ (based : Bool) (names : List Name) (Asks : WorldState → Object → Ty
     -- ---- the operators
     abbrev ActionHolds : Action → Type 0
     ActionHolds (calls function) = Function function
+    ActionHolds (changes function) = (has_default : Bool) → Function (function has_default)
     ActionHolds _ = Unit {0}
 
     abbrev OperatorHolds : Option Operator → Type 0
@@ -144,9 +158,14 @@ module _ (based : Bool) (names : List Name) (Asks : WorldState → Object → Ty
         (either (bytes_eq name (codes "GET-DISPATCH-MACRO-CHARACTER")) _ _ steps.operators.gets_dispatch
         (either (bytes_eq name (codes "READTABLE-CASE")) _ _ steps.operators.cases tt))))))))))))))))))))))))
 
-    of_function : (function : Option OfValues) → OperatorHolds (option_map function_operator function)
-    of_function (Some function) = steps.operators.computes function
-    of_function None = tt
+    of_world : (look_up : Option LookUp) (change : Option PlaceChange) → OperatorHolds (option_or (option_map look_up_operator look_up) (option_map change_operator change))
+    of_world (Some operator) change = steps.operators.looks_up operator
+    of_world None (Some operator) = steps.operators.changes_place operator
+    of_world None None = tt
+
+    of_function : (function : Option OfValues) (other : Option Operator) → OperatorHolds other → OperatorHolds (option_or (option_map function_operator function) other)
+    of_function (Some function) other holds = steps.operators.computes function
+    of_function None other holds = holds
 
     of_pazturrok : (name : Name) → OperatorHolds (pazturrok_operator name)
     of_pazturrok name =
@@ -156,7 +175,8 @@ module _ (based : Bool) (names : List Name) (Asks : WorldState → Object → Ty
         (either (bytes_eq name (codes "WHEN")) _ _ tt
         (either (bytes_eq name (codes "UNLESS")) _ _ tt
         (either (bytes_eq name (codes "PROG1")) _ _ tt
-        (either (bytes_eq name (codes "ASSERT")) _ _ tt (of_function (function_named name))))))))
+        (either (bytes_eq name (codes "ASSERT")) _ _ tt
+        (of_function (function_named name) (world_operator name) (of_world (look_up_named name) (change_named name)))))))))
 
     of_head : (head : Object) → OperatorHolds (operator_of names head)
     of_head (symbol home name) =
@@ -230,6 +250,9 @@ module _ (based : Bool) (names : List Name) (Asks : WorldState → Object → Ty
     of_action s keeps_first arguments parts asks holds all = steps.of_values s parts.in_order (λ xs later. gives (first (list_of xs)) later) all.in_order steps.first_one
     of_action s asserts arguments parts asks holds all =
         steps.then_one s parts.first_one _ all.first_one (λ y t still _. if_one t (is_true y) _ _ (steps.nothing t arguments (still arguments asks)) (steps.refused t _ (omega arith, omega arith)))
+    of_action s (changes function) arguments parts asks holds all =
+        unless_one s (default_place_refusal (first arguments)) _ (default_place_numbered (first arguments))
+        (steps.of_values s parts.at_place (function (has_default (first arguments))) all.at_place (holds (has_default (first arguments))))
 
     of_form : (s : WorldState) (operator : Option Operator) (arguments : Object) (parts : Parts) → Asks s arguments → OperatorHolds operator → PartsHold s parts → One s (form_value_by based s operator arguments parts)
     of_form s None arguments parts asks holds all = steps.refused s _ (omega arith, omega arith)

@@ -10,6 +10,8 @@ use Rattle.lisp_operators.proofs.Keeping as keeping
 use Rattle.lisp_operators.proofs.Keeping.{keeps_then}
 use Rattle.lisp_operators.proofs.KeepingOperators as family
 use Rattle.lisp_operators.proofs.KeepingOperators.{Changes, list_keeps, get_keeps, set_keeps, remove_keeps, symbol_plist_keeps, increment_keeps, push_keeps, make_keeps, enter_keeps, intern_keeps, export_keeps, import_keeps, use_keeps, case_keeps, set_case_keeps, copy_keeps, enter_readtable_keeps, set_syntax_keeps, set_macro_keeps, get_macro_keeps, make_dispatch_keeps, set_dispatch_keeps, get_dispatch_keeps, set_base_keeps}
+use Rattle.lisp_operators.proofs.LookUpLaws.{look_up_keeps}
+use Rattle.lisp_operators.proofs.PlaceLaws.{change_keeps}
 use Rattle.evaluator.specs.Value.{value_by}
 use Rattle.evaluator.proofs.FunctionLaws.{computed_keeps}
 use Rattle.evaluator.proofs.Induction.{Operators, Steps, every_value}
@@ -51,6 +53,8 @@ module _ (based : Bool) (names : List Name) (Kept : WorldState → WorldState �
     gets_dispatch = get_dispatch_keeps names Kept changes;
     sets_base = λ known. set_base_keeps names Kept changes (base known);
     computes = λ function xs s. computed_keeps Kept function xs s (changes.none s);
+    looks_up = look_up_keeps Kept changes.none;
+    changes_place = change_keeps Kept (λ s x i v. changes.properties s _);
   }
 
   steps : Steps based names Asks Keeps Keeps IsKeeping

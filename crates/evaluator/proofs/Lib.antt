@@ -13,6 +13,7 @@ pub mod QuotedKeys
 pub mod RowForms
 pub mod Rows
 pub mod WorldRows
+pub mod OwnRows
 pub mod FunctionLaws
 pub mod ListValues
 pub mod Induction

@@ -7,6 +7,8 @@ use Rattle.plist_state.specs.State.{WorldState}
 use Rattle.lisp_operators.specs.Evaluation.{Evaluation}
 use Rattle.lisp_operators.proofs.Numbered.{Numbered, numbered_then}
 use Rattle.lisp_operators.proofs.NumberedOperators.{IsNumberedFunction, list_numbered, get_numbered, set_numbered, remove_numbered, symbol_plist_numbered, increment_numbered, push_numbered, make_numbered, enter_numbered, intern_numbered, export_numbered, import_numbered, use_numbered, case_numbered, set_case_numbered, copy_numbered, enter_readtable_numbered, set_syntax_numbered, set_macro_numbered, get_macro_numbered, make_dispatch_numbered, set_dispatch_numbered, get_dispatch_numbered, set_base_numbered}
+use Rattle.lisp_operators.proofs.LookUpLaws.{look_up_numbered}
+use Rattle.lisp_operators.proofs.PlaceLaws.{change_numbered}
 use Rattle.evaluator.specs.Value.{value}
 use Rattle.evaluator.proofs.FunctionLaws.{computed_numbered}
 use Rattle.evaluator.proofs.Induction.{Operators, Steps, every_value}
@@ -44,6 +46,8 @@ module _ (names : List Name) where
     gets_dispatch = get_dispatch_numbered;
     sets_base = λ _. set_base_numbered;
     computes = computed_numbered;
+    looks_up = look_up_numbered;
+    changes_place = change_numbered;
   }
 
   steps : Steps true names Asks Of Of IsNumberedFunction

@@ -15,7 +15,7 @@ use Rattle.std.proofs.lemmas.Bool.{false≢true, and_parts}
 use Rattle.std.proofs.Math.Bool.{and-false}
 use Rattle.std.proofs.lemmas.List.{length-map}
 use Rattle.lisp_object.specs.declared.refusal.TheConstants.{ARGUMENT_KIND}
-use Rattle.evaluator.specs.Value.{get_place_refusal, case_place_refusal, list_place_refusal}
+use Rattle.evaluator.specs.Value.{get_place_refusal, default_place_refusal, case_place_refusal, list_place_refusal}
 use Rattle.lisp_object.proofs.ProperLists.{items_of_proper, proper_pairs}
 use Rattle.package_table.specs.Table.{common_lisp}
 use Rattle.lisp_operators.specs.Kinds.{a_symbol}
@@ -62,17 +62,24 @@ first_proper d items (y ∷ ys) tail x is proper same first =
     let all : list_all is_proper (y ∷ ys) ≡ true = ap (list_all is_proper) same ∙ (items_of_proper items tail (ap is_proper (sym is) ∙ proper)).1 in
     ap is_proper first ∙ (and_parts (is_proper y) (list_all is_proper ys) all).0
 
-improper_place : (a b : Object) → is_proper_list b ≡ false → (get_place_refusal (pair a b) ≡ Some ARGUMENT_KIND) × (list_place_refusal (pair a b) ≡ Some ARGUMENT_KIND)
-improper_place a b e = (get_refused, elim (is_standard (codes "READTABLE-CASE") a) as (λ c. is_standard (codes "READTABLE-CASE") a ≡ c → cond c (case_place_refusal (pair a b)) (get_place_refusal (pair a b)) ≡ Some ARGUMENT_KIND) [ true ↦ λ _. case_refused | false ↦ λ _. get_refused ] refl)
+-- no place of any kind
+abbrev pub IsNoPlace : Object → Type 0
+IsNoPlace x = (get_place_refusal x ≡ Some ARGUMENT_KIND) × (list_place_refusal x ≡ Some ARGUMENT_KIND) × (default_place_refusal x ≡ Some ARGUMENT_KIND)
+
+improper_place : (a b : Object) → is_proper_list b ≡ false → IsNoPlace (pair a b)
+improper_place a b e = (get_refused, elim (is_standard (codes "READTABLE-CASE") a) as (λ c. is_standard (codes "READTABLE-CASE") a ≡ c → cond c (case_place_refusal (pair a b)) (get_place_refusal (pair a b)) ≡ Some ARGUMENT_KIND) [ true ↦ λ _. case_refused | false ↦ λ _. get_refused ] refl, default_refused)
   where
     get_refused : get_place_refusal (pair a b) ≡ Some ARGUMENT_KIND
     get_refused = rw (e, and-false) refl
+
+    default_refused : default_place_refusal (pair a b) ≡ Some ARGUMENT_KIND
+    default_refused = rw (e, and-false) refl
 
     case_refused : case_place_refusal (pair a b) ≡ Some ARGUMENT_KIND
     case_refused = rw (e, and-false) refl
 
 pub dotted_place : (d : Datum) (items : List Datum) (tail : Option Datum) → d ≡ Datum.List items tail → is_proper d ≡ true → is_some tail ≡ true
-    → (get_place_refusal (object_of d) ≡ Some ARGUMENT_KIND) × (list_place_refusal (object_of d) ≡ Some ARGUMENT_KIND)
+    → IsNoPlace (object_of d)
 dotted_place d items tail is proper some =
     let shape = dotted_pair d items tail is proper some in
-    subst (λ x. (get_place_refusal x ≡ Some ARGUMENT_KIND) × (list_place_refusal x ≡ Some ARGUMENT_KIND)) (sym shape.2) (improper_place shape.0 shape.1 shape.3)
+    subst IsNoPlace (sym shape.2) (improper_place shape.0 shape.1 shape.3)

@@ -20,6 +20,10 @@ standard name = symbol (codes "COMMON-LISP") name
 abbrev pub call : Name → List Object → Object
 call operator arguments = list_of (standard operator ∷ arguments)
 
+-- a call of an operator of PAZTURROK
+abbrev pub own_call : Name → List Object → Object
+own_call operator arguments = list_of (symbol (codes "PAZTURROK") operator ∷ arguments)
+
 abbrev pub quoted : Object → Object
 quoted x = call (codes "QUOTE") (x ∷ [])
 
@@ -41,6 +45,10 @@ b = quoted (own (codes "B"))
 -- the place of A's property B
 abbrev pub place : Object
 place = call (codes "GET") (a ∷ b ∷ [])
+
+-- the same with a default
+abbrev pub place_or : Object → Object
+place_or x = call (codes "GET") (a ∷ b ∷ x ∷ [])
 
 abbrev pub base : Object
 base = standard (codes "*READ-BASE*")

@@ -6,6 +6,8 @@ use Rattle.package_table.specs.Table.{Name}
 use Rattle.plist_state.specs.State.{WorldState}
 use Rattle.lisp_operators.proofs.Silence.{Keeps, keeps_then}
 use Rattle.lisp_operators.proofs.SilentOperators.{IsSilent, list_silent, get_silent, set_silent, remove_silent, symbol_plist_silent, increment_silent, push_silent, make_silent, enter_silent, intern_silent, export_silent, import_silent, use_silent, case_silent, set_case_silent, copy_silent, enter_readtable_silent, set_syntax_silent, set_macro_silent, get_macro_silent, make_dispatch_silent, set_dispatch_silent, get_dispatch_silent, set_base_silent}
+use Rattle.lisp_operators.proofs.LookUpLaws.{look_up_silent}
+use Rattle.lisp_operators.proofs.PlaceLaws.{change_silent}
 use Rattle.evaluator.specs.Value.{value}
 use Rattle.evaluator.proofs.FunctionLaws.{computed_silent}
 use Rattle.evaluator.proofs.Induction.{Operators, Steps, every_value}
@@ -40,6 +42,8 @@ module _ (names : List Name) where
     gets_dispatch = get_dispatch_silent;
     sets_base = λ _. set_base_silent;
     computes = computed_silent;
+    looks_up = look_up_silent;
+    changes_place = change_silent;
   }
 
   steps : Steps true names Asks Keeps Keeps IsSilent

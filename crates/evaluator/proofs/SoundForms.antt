@@ -18,6 +18,8 @@ use Rattle.lisp_operators.proofs.SoundReadtables.{case_safe, set_case_safe, copy
 use Rattle.lisp_operators.proofs.SoundBase.{set_base_safe, base_value}
 use Rattle.lisp_operators.specs.Properties.{t}
 use Rattle.evaluator.specs.Operators.{first}
+use Rattle.lisp_operators.proofs.LookUpLaws.{look_up_safe}
+use Rattle.lisp_operators.proofs.PlaceLaws.{change_safe}
 use Rattle.evaluator.specs.Value.{value, last}
 use Rattle.evaluator.proofs.FunctionLaws.{computed_safe}
 use Rattle.evaluator.proofs.Induction.{Operators, Steps, every_value}
@@ -74,6 +76,8 @@ module _ (names : List Name) (all : AreFunctionNames names) where
     gets_dispatch = get_dispatch_safe;
     sets_base = λ _. set_base_safe;
     computes = computed_safe;
+    looks_up = look_up_safe;
+    changes_place = change_safe;
   }
 
   steps : Steps true names Asks (Goods IsValue) (Goods AreValues) IsSafe

@@ -14,8 +14,8 @@ use Rattle.lisp_operators.specs.Kinds.{is_true, is_pair}
 use Rattle.lisp_operators.specs.Evaluation.{Done, Evaluation, gives, also, and_then}
 use Rattle.lisp_operators.specs.Properties.{increment, push}
 use Rattle.lisp_operators.specs.Packages.{enter}
-use Rattle.evaluator.specs.Operators.{Operator, OperatorTable, AreOperatorsAmong, operator_named, operator_of, pazturrok, pazturrok_operator, standard_operator_of, Action, quotes, sequence, chooses, assigns, increments, pushes, enters_package, calls, seeks, selects, guards, keeps_first, asserts, is_interned, count, counts, first}
-use Rattle.evaluator.specs.Value.{value_over, values_over, choice_over, other_value_over, values_at_place_over, values_before_place_over, sought_over, selected_over, guarded_over, symbol_value_by, Parts, action_value_by, form_value_by, unless, last, has_truth, are_clauses, place_refusal_by, set_place_by, get_place_refusal, rest}
+use Rattle.evaluator.specs.Operators.{Operator, OperatorTable, AreOperatorsAmong, operator_named, operator_of, pazturrok, pazturrok_operator, standard_operator_of, Action, quotes, sequence, chooses, assigns, increments, pushes, enters_package, calls, seeks, selects, guards, keeps_first, asserts, is_interned, count, counts, first, changes}
+use Rattle.evaluator.specs.Value.{value_over, values_over, choice_over, other_value_over, values_at_place_over, values_before_place_over, sought_over, selected_over, guarded_over, symbol_value_by, Parts, action_value_by, form_value_by, unless, last, has_truth, are_clauses, place_refusal_by, set_place_by, get_place_refusal, rest, default_place_refusal, has_default}
 
 abbrev pub GivesToo : {A : Type 0} → Evaluation A → Evaluation A → Type 0
 GivesToo (Ok d) p = p ≡ Ok d
@@ -77,6 +77,9 @@ module _ (based : Bool) where
   widens_action s (guards truth) arguments o p all = all.guarded truth
   widens_action s keeps_first arguments o p all = widens_then o.in_order p.in_order _ _ all.in_order (λ xs t. widens_same (gives (first (list_of xs)) t))
   widens_action s asserts arguments o p all = widens_then o.first_one p.first_one _ _ all.first_one (λ y t. widens_same (cond (is_true y) (gives nil t) (Err ASSERTION_FAILED)))
+  widens_action s (changes function) arguments o p all =
+      let changed = function (has_default (first arguments)) in
+      widens_unless (default_place_refusal (first arguments)) _ _ (widens_then o.at_place p.at_place changed changed all.at_place (λ xs t. widens_same (changed xs t)))
 
 -- where it is known whether *READ-BASE* is a variable, in the first evaluation and in the second
 module _ (based also_based : Bool) where

@@ -14,8 +14,8 @@ use Rattle.lisp_operators.specs.Readtables.{set_case}
 use Rattle.lisp_operators.specs.ReadBase.{set_base}
 use Rattle.lisp_operators.proofs.Keeping.{Keeps}
 use Rattle.lisp_operators.proofs.SameBase.{SameBase, same_base}
-use Rattle.evaluator.specs.Operators.{Operator, Action, quotes, sequence, chooses, assigns, increments, pushes, enters_package, calls, seeks, selects, guards, keeps_first, asserts, operator_of, is_standard, count, counts, first}
-use Rattle.evaluator.specs.Value.{value_by, symbol_value_by, Parts, action_value_by, form_value_by, unless, last, are_clauses, is_base_by, is_case_place, list_place_refusal, get_place_refusal, rest}
+use Rattle.evaluator.specs.Operators.{Operator, Action, quotes, sequence, chooses, assigns, increments, pushes, enters_package, calls, seeks, selects, guards, keeps_first, asserts, operator_of, is_standard, count, counts, first, changes}
+use Rattle.evaluator.specs.Value.{value_by, symbol_value_by, Parts, action_value_by, form_value_by, unless, last, are_clauses, is_base_by, is_case_place, list_place_refusal, get_place_refusal, rest, default_place_refusal, has_default}
 use Rattle.evaluator.proofs.KeepingForms.{value_keeps}
 use Rattle.evaluator.proofs.Widening.{Widens, PartsWiden, OperatorWidens, widens_same, widens_if, widens_then, widens_unless, widens_value}
 
@@ -55,6 +55,9 @@ widens_action s (guards truth) arguments o p all = all.guarded truth
 widens_action s keeps_first arguments o p all = widens_then o.in_order p.in_order _ _ all.in_order (λ xs t. widens_same (gives (first (list_of xs)) t))
 widens_action s asserts arguments o p all = widens_then o.first_one p.first_one _ _ all.first_one (λ y t. widens_same (cond (is_true y) (gives nil t) (Err ASSERTION_FAILED)))
 widens_action s (calls function) arguments o p all = widens_then o.in_order p.in_order function function all.in_order (λ xs t. widens_same (function xs t))
+widens_action s (changes function) arguments o p all =
+    let changed = function (has_default (first arguments)) in
+    widens_unless (default_place_refusal (first arguments)) _ _ (widens_then o.at_place p.at_place changed changed all.at_place (λ xs t. widens_same (changed xs t)))
 
 widens_form : (s : WorldState) (operator : Option Operator) (arguments : Object) (o p : Parts) → PartsWiden o p → Widens (form_value_by false s operator arguments o) (form_value_by true s operator arguments p)
 widens_form s None arguments o p all = record { same = tt }

@@ -15,9 +15,9 @@ use Rattle.lisp_operators.specs.Evaluated.{Answers, done, objects}
 use Rattle.lisp_operators.specs.Evaluation.{Done}
 use Rattle.evaluator.specs.declared.values.Values.{Values}
 use Rattle.evaluator.specs.declared.operation.Operation.{Operation}
-use Rattle.evaluator.specs.declared.operation.Operation.TheVariants.{Setf, Incf, Push}
+use Rattle.evaluator.specs.declared.operation.Operation.TheVariants.{Setf, Incf, Push, Changes}
 use Rattle.evaluator.specs.declared.place.Place.{Place}
-use Rattle.evaluator.specs.declared.place.Place.TheVariants.{Property, Case, ReadBase}
+use Rattle.evaluator.specs.declared.place.Place.TheVariants.{Property, PropertyOr, Case, ReadBase}
 use Rattle.lisp_operators.specs.Evaluation.{Evaluation, gives, also, and_then}
 use Rattle.lisp_operators.specs.Kinds.{is_true}
 use Rattle.lisp_operators.specs.Properties.{list}
@@ -26,7 +26,7 @@ use Rattle.evaluator.specs.declared.wanted.Task.{Task}
 use Rattle.evaluator.specs.Wanted.{seen}
 use Rattle.evaluator.specs.Operators.{count, first}
 use Rattle.evaluator.specs.Operations.{action_of}
-use Rattle.evaluator.specs.Value.{Parts, is_clause, are_clauses, last, value, values, choice, other_value, sought, selected, guarded, values_at_place, values_before_place, action_value, place_refusal, get_place_refusal, is_base_place, is_case_place, rest}
+use Rattle.evaluator.specs.Value.{Parts, is_clause, are_clauses, last, value, values, choice, other_value, sought, selected, guarded, values_at_place, values_before_place, action_value, place_refusal, get_place_refusal, is_base_place, is_case_place, rest, default_place_refusal, has_default}
 
 -- values that leave this state
 abbrev pub all_done : Values → WorldState → Done (List Object)
@@ -108,6 +108,7 @@ abbrev pub gathered : List Name → WorldState → Operation → Object → Eval
 gathered names s Setf arguments = values_at_place names s arguments
 gathered names s Incf arguments = values_at_place names s arguments
 gathered names s Push arguments = values_before_place names s arguments
+gathered names s (Changes operator) arguments = values_at_place names s arguments
 gathered names s _ arguments = values names s arguments
 
 -- why the place of an operator is none
@@ -115,6 +116,7 @@ abbrev pub refusal_of_place : Operation → Object → Option ℕ
 refusal_of_place Setf arguments = place_refusal (first arguments)
 refusal_of_place Incf arguments = get_place_refusal (first arguments)
 refusal_of_place Push arguments = get_place_refusal (first (rest arguments))
+refusal_of_place (Changes operator) arguments = default_place_refusal (first arguments)
 refusal_of_place _ arguments = None
 
 -- what a list names that is a place for SETF, and what any place names
@@ -124,9 +126,14 @@ list_place place = if is_case_place place then Case else Property
 abbrev pub setf_place : Object → Place
 setf_place place = if is_base_place place then ReadBase else list_place place
 
+-- a property, with a default or without
+abbrev pub property_place : Object → Place
+property_place place = if has_default place then PropertyOr else Property
+
 -- What an operator puts a value into. All but SETF know properties alone.
 abbrev pub place_of : Operation → Object → Place
 place_of Setf arguments = setf_place (first arguments)
+place_of (Changes operator) arguments = property_place (first arguments)
 place_of _ arguments = Property
 
 -- nothing is refused, or this is the number of the refusal

@@ -5,16 +5,18 @@ use Rattle.lisp_object.specs.declared.refusal.TheConstants.{ARGUMENT_KIND}
 use Rattle.plist_state.specs.State.{WorldState}
 use Rattle.package_table.specs.Table.{Name}
 use Rattle.evaluator.specs.declared.operation.Operation.{Operation}
-use Rattle.evaluator.specs.declared.operation.Operation.TheVariants.{Quote, Progn, If, MakeList, Get, Setf, Remprop, SymbolPlist, Incf, Push, MakePackage, InPackage, Export, Import, UsePackage, Intern, CopyReadtable, InReadtable, SetSyntaxFromChar, SetMacroCharacter, GetMacroCharacter, MakeDispatchMacroCharacter, SetDispatchMacroCharacter, GetDispatchMacroCharacter, ReadtableCase, Computes, Decides}
+use Rattle.evaluator.specs.declared.operation.Operation.TheVariants.{Quote, Progn, If, MakeList, Get, Setf, Remprop, SymbolPlist, Incf, Push, MakePackage, InPackage, Export, Import, UsePackage, Intern, CopyReadtable, InReadtable, SetSyntaxFromChar, SetMacroCharacter, GetMacroCharacter, MakeDispatchMacroCharacter, SetDispatchMacroCharacter, GetDispatchMacroCharacter, ReadtableCase, Computes, Decides, LooksUp, Changes}
 use Rattle.evaluator.specs.declared.decision.Decision.TheVariants.{And, Or, Cond, When, Unless, Prog1, Assert}
 use Rattle.evaluator.specs.declared.place.Place.{Place}
-use Rattle.evaluator.specs.declared.place.Place.TheVariants.{Property, Case, ReadBase}
+use Rattle.evaluator.specs.declared.place.Place.TheVariants.{Property, PropertyOr, Case, ReadBase}
 use Rattle.lisp_operators.specs.Evaluation.{Evaluation}
 use Rattle.lisp_operators.specs.Properties.{list, get, set, remove, symbol_plist, increment, push}
 use Rattle.lisp_operators.specs.Packages.{make, intern, export, import, use_package}
 use Rattle.lisp_operators.specs.Readtables.{readtable_case, set_case, copy_readtable, enter_readtable, set_syntax, set_macro, get_macro, make_dispatch, set_dispatch, get_dispatch}
 use Rattle.lisp_operators.specs.ReadBase.{set_base}
-use Rattle.evaluator.specs.Operators.{Operator, Action, quotes, sequence, chooses, assigns, increments, pushes, enters_package, calls, seeks, selects, guards, keeps_first, asserts, computed, computed_value}
+use Rattle.evaluator.specs.Operators.{Operator, Action, quotes, sequence, chooses, assigns, increments, pushes, enters_package, calls, seeks, selects, guards, keeps_first, asserts, computed, computed_value, changes}
+use Rattle.lisp_operators.specs.LookUps.{least_of_look_up, most_of_look_up, looked_up}
+use Rattle.lisp_operators.specs.Places.{most_of_change, place_changed}
 use Rattle.value_functions.specs.Functions as functions
 
 abbrev pub least : Operation → ℕ
@@ -51,6 +53,8 @@ least (Decides When) = 1
 least (Decides Unless) = 1
 least (Decides Prog1) = 1
 least (Decides Assert) = 1
+least (LooksUp operator) = least_of_look_up operator
+least (Changes operator) = 1
 
 abbrev pub most : Operation → Option ℕ
 most Quote = Some 1
@@ -81,6 +85,8 @@ most ReadtableCase = Some 1
 most (Computes function) = functions.most_arguments function
 most (Decides Assert) = Some 2
 most (Decides _) = None
+most (LooksUp operator) = Some (most_of_look_up operator)
+most (Changes operator) = Some (most_of_change operator)
 
 -- what it does, where these are the names of macro functions
 abbrev pub action_of : List Name → Operation → Action
@@ -117,6 +123,8 @@ action_of names (Decides When) = guards true
 action_of names (Decides Unless) = guards false
 action_of names (Decides Prog1) = keeps_first
 action_of names (Decides Assert) = asserts
+action_of names (LooksUp operator) = calls (looked_up operator)
+action_of names (Changes operator) = changes (place_changed operator)
 
 abbrev pub operator : List Name → Operation → Operator
 operator names operation = record { least = least operation; most = most operation; action = action_of names operation }
@@ -143,8 +151,14 @@ of_values _ xs s = Err ARGUMENT_KIND
 
 abbrev pub set_at : Place → List Object → WorldState → Evaluation Object
 set_at Property xs s = set xs s
+set_at PropertyOr xs s = set xs s
 set_at Case xs s = set_case xs s
 set_at ReadBase xs s = set_base xs s
+
+-- whether a property has a default there
+abbrev pub has_default_at : Place → Bool
+has_default_at PropertyOr = true
+has_default_at _ = false
 
 abbrev pub function_of : List Name → Operation → Place → List Object → WorldState → Evaluation Object
 function_of names Setf place xs s = set_at place xs s
@@ -153,6 +167,7 @@ function_of names Push place xs s = push xs s
 function_of names MakeList place xs s = Err ARGUMENT_KIND
 function_of names (Computes function) place xs s = computed_value function xs s
 function_of names (Decides decision) place xs s = Err ARGUMENT_KIND
+function_of names (Changes operator) place xs s = place_changed operator (has_default_at place) xs s
 function_of names operation place xs s = of_values (action_of names operation) xs s
 
 -- the operators of control and on data, by their names

@@ -2,13 +2,17 @@
 -- at home in COMMON-LISP; or in PAZTURROK, a package like others, which a form makes.
 use Rattle.std.specs.Prelude.{◌≡◌, ℕ, ◌+◌, Bool, true, false, ◌&&◌, nat_le, if◌then◌else◌, List, Option, Some, None, option_map, Result, Ok, Err, codes}
 use Rattle.std.specs.Str.{bytes_eq}
-use Rattle.std.specs.Option.{option_map_or}
+use Rattle.std.specs.Option.{option_map_or, option_or}
 use Rattle.lisp_object.specs.Object.{Object, symbol, pair, nil}
 use Rattle.package_table.specs.Table.{Name, common_lisp}
 use Rattle.plist_state.specs.State.{WorldState}
 use Rattle.lisp_operators.specs.Evaluation.{Evaluation, gives}
 use Rattle.lisp_operators.specs.Properties.{list, get, remove, symbol_plist}
 use Rattle.lisp_operators.specs.Packages.{make, intern, export, import, use_package}
+use Rattle.lisp_operators.specs.declared.look_ups.LookUp.{LookUp}
+use Rattle.lisp_operators.specs.declared.places.PlaceChange.{PlaceChange}
+use Rattle.lisp_operators.specs.LookUps.{look_up_named, least_of_look_up, most_of_look_up, looked_up}
+use Rattle.lisp_operators.specs.Places.{change_named, most_of_change, place_changed}
 use Rattle.lisp_operators.specs.Readtables.{readtable_case, copy_readtable, enter_readtable, set_syntax, set_macro, get_macro, make_dispatch, set_dispatch, get_dispatch}
 use Rattle.value_functions.specs.declared.functions.ValueFunction.{ValueFunction}
 use Rattle.value_functions.specs.Functions as functions
@@ -31,6 +35,8 @@ pub data Action : Type 0 where
   -- the first value of all; nothing, where the first form is true
   keeps_first : Action
   asserts : Action
+  -- a place that GET names, of which it is known whether it has a default, and the forms after it
+  changes : (Bool → List Object → WorldState → Evaluation Object) → Action
 
 pub record Operator : Type 0 where
   -- how many arguments at least, and how many at most
@@ -104,9 +110,19 @@ pazturrok = codes "PAZTURROK"
 abbrev pub function_operator : ValueFunction → Operator
 function_operator function = record { least = functions.fewest_arguments function; most = functions.most_arguments function; action = calls (computed function) }
 
--- the operator of PAZTURROK of this name
-abbrev pub pazturrok_operator : Name → Option Operator
-pazturrok_operator name =
+abbrev pub look_up_operator : LookUp → Operator
+look_up_operator operator = record { least = least_of_look_up operator; most = Some (most_of_look_up operator); action = calls (looked_up operator) }
+
+abbrev pub change_operator : PlaceChange → Operator
+change_operator operator = record { least = 1; most = Some (most_of_change operator); action = changes (place_changed operator) }
+
+-- an operator of the world by its name: it looks up, or changes a place
+abbrev pub world_operator : Name → Option Operator
+world_operator name = option_or (option_map look_up_operator (look_up_named name)) (option_map change_operator (change_named name))
+
+-- the operator of this name that decides, or another one
+abbrev pub deciding_operator_or : Option Operator → Name → Option Operator
+deciding_operator_or other name =
     if bytes_eq name (codes "AND") then takes_any (seeks false)
     else (if bytes_eq name (codes "OR") then takes_any (seeks true)
     else (if bytes_eq name (codes "COND") then takes_any selects
@@ -114,7 +130,11 @@ pazturrok_operator name =
     else (if bytes_eq name (codes "UNLESS") then takes_one_or_more (guards false)
     else (if bytes_eq name (codes "PROG1") then takes_one_or_more keeps_first
     else (if bytes_eq name (codes "ASSERT") then takes 1 2 asserts
-    else option_map function_operator (function_named name)))))))
+    else other))))))
+
+-- the operator of PAZTURROK of this name
+abbrev pub pazturrok_operator : Name → Option Operator
+pazturrok_operator name = deciding_operator_or (option_or (option_map function_operator (function_named name)) (world_operator name)) name
 
 -- the operator of a symbol
 abbrev pub operator_of : List Name → OperatorTable

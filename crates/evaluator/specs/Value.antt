@@ -2,7 +2,7 @@
 --
 -- The language of the first version had no read base: there *READ-BASE* has no value, and is no place. So the definitions have
 -- one test in front, whether the variable is known (`value_by`); `value` and the names after it are those in which it is.
-use Rattle.std.specs.Prelude.{ℕ, Bool, true, ◌&&◌, ◌||◌, ◌==◌, not, if◌then◌else◌, List, [], ◌∷◌, ◌++◌, pos, Option, Some, None, Err, codes}
+use Rattle.std.specs.Prelude.{ℕ, Bool, true, ◌&&◌, ◌||◌, ◌==◌, not, nat_le, if◌then◌else◌, List, [], ◌∷◌, ◌++◌, pos, Option, Some, None, Err, codes}
 use Rattle.std.specs.Str.{bytes_eq}
 use Rattle.lisp_object.specs.Object.{Object, integer, text, symbol, uninterned, pair, nil, list_of, is_proper_list}
 use Rattle.lisp_object.specs.declared.refusal.TheConstants.{NOT_A_FORM, UNKNOWN_OPERATOR, ARGUMENT_COUNT, ARGUMENT_KIND, ASSERTION_FAILED}
@@ -14,7 +14,7 @@ use Rattle.lisp_operators.specs.Properties.{t, set, increment, push}
 use Rattle.lisp_operators.specs.Packages.{enter}
 use Rattle.lisp_operators.specs.Readtables.{a_keyword_of, set_case}
 use Rattle.lisp_operators.specs.ReadBase.{set_base}
-use Rattle.evaluator.specs.Operators.{Operator, Action, quotes, sequence, chooses, assigns, increments, pushes, enters_package, calls, seeks, selects, guards, keeps_first, asserts, OperatorTable, operator_of, is_standard, is_interned, count, counts, first}
+use Rattle.evaluator.specs.Operators.{Operator, Action, quotes, sequence, chooses, assigns, increments, pushes, enters_package, calls, seeks, selects, guards, keeps_first, asserts, OperatorTable, operator_of, is_standard, is_interned, count, counts, first, changes}
 
 -- the values of a sequence are those of its last form (standard 5.3, progn); NIL where there is none
 abbrev pub last : List Object → Object
@@ -29,6 +29,13 @@ get_place_refusal (pair operator subforms) =
     else (if count subforms == 2 then None else Some ARGUMENT_COUNT)
 get_place_refusal _ = Some ARGUMENT_KIND
 
+-- the same, where the place may have a default
+abbrev pub default_place_refusal : Object → Option ℕ
+default_place_refusal (pair operator subforms) =
+    if not (is_standard (codes "GET") operator && is_proper_list subforms) then Some ARGUMENT_KIND
+    else (if nat_le 2 (count subforms) && nat_le (count subforms) 3 then None else Some ARGUMENT_COUNT)
+default_place_refusal _ = Some ARGUMENT_KIND
+
 -- why it is no place that READTABLE-CASE names
 abbrev pub case_place_refusal : Object → Option ℕ
 case_place_refusal (pair operator subforms) =
@@ -40,6 +47,10 @@ case_place_refusal _ = Some ARGUMENT_KIND
 abbrev pub rest : Object → Object
 rest (pair x xs) = xs
 rest _ = nil
+
+-- whether a place that GET names has a default
+abbrev pub has_default : Object → Bool
+has_default place = count (rest place) == 3
 
 -- the place that READTABLE-CASE names
 abbrev pub is_case_place : Object → Bool
@@ -126,6 +137,8 @@ module _ (based : Bool) where
   action_value_by s keeps_first arguments parts = and_then parts.in_order (λ xs later. gives (first (list_of xs)) later)
   action_value_by s asserts arguments parts =
       and_then parts.first_one (λ x later. if is_true x then gives nil later else Err ASSERTION_FAILED)
+  action_value_by s (changes function) arguments parts =
+      unless (default_place_refusal (first arguments)) (and_then parts.at_place (function (has_default (first arguments))))
 
   -- of an operator and its arguments: the operator is looked at first, then their number
   abbrev pub form_value_by : WorldState → Option Operator → Object → Parts → Evaluation Object

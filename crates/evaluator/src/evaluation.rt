@@ -188,6 +188,7 @@ fn gathered(
     match operation {
         Operation::Setf => at_place(alloc, world, names, items),
         Operation::Incf => at_place(alloc, world, names, items),
+        Operation::Changes(_) => at_place(alloc, world, names, items),
         Operation::Push => before_place(alloc, world, names, items),
         _ => extended(alloc, world, names, Values::none(alloc), items, 1),
     }

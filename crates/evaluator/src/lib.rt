@@ -13,8 +13,8 @@
 //!   those of COND
 //! - `direct`: GET of two quoted symbols, and SETF of such a property to a literal, from the form as it stands; `apply` moves the
 //!   literal. `trimmed`: a datum that is to be kept
-//! - `operation`: what is at its head; `place`: the places of SETF, INCF and PUSH; `control`: the operators of control, and
-//!   atoms; `perform`, `effects`: what an operator makes of the values of its arguments; `computed`: a function of values
+//! - `operation`: what is at its head; `place`: the places of SETF, INCF, DECF, PUSH and POP; `control`: the operators of control,
+//!   and atoms; `perform`, `effects`: what an operator makes of the values of its arguments; `computed`: a function of values
 //!   alone; `values`: these values
 //!
 //! # Laws for the crates above

@@ -1,9 +1,10 @@
 //! The operators, by their names.
 ghost use Rattle.std.specs.Prelude.{◌≡◌, ◌+◌, true, bytes_eq, List, option_map, IfOk};
+ghost use Rattle.std.specs.Option.{option_or};
 ghost use Rattle.lisp_object.specs.Datum.{object_of};
 ghost use Rattle.lisp_object.specs.Object.{symbol};
 ghost use Rattle.package_table.specs.Table.{Name};
-ghost use Rattle.evaluator.specs.Operators.{operator_named, operator_of, function_operator, pazturrok_operator, counts};
+ghost use Rattle.evaluator.specs.Operators.{operator_named, operator_of, function_operator, pazturrok_operator, counts, world_operator};
 ghost use Rattle.evaluator.specs.Operations.{least, most, operator, IsCounted, among, operators_on_data, operators_on_packages, operators_on_readtables, operators_that_decide};
 ghost use Rattle.evaluator.specs.Gathered.{IsHead};
 ghost use Rattle.value_functions.specs.Functions.{function_named};
@@ -13,6 +14,8 @@ use crate::decision::Decision;
 use lisp_object::Datum;
 use lisp_object::refusal::{ARGUMENT_COUNT, NOT_A_FORM, UNKNOWN_OPERATOR};
 use lisp_operators::EvaluationError::Refused;
+use lisp_operators::look_ups::LookUp;
+use lisp_operators::places::PlaceChange;
 use lisp_operators::{EvaluationError, kinds};
 use package_table::standardized::COMMON_LISP;
 use value_functions::ValueFunction;
@@ -20,9 +23,9 @@ use value_functions::ValueFunction;
 // The package of the operators that COMMON-LISP does not have.
 const PAZTURROK: &[u8] = b"PAZTURROK";
 
-/// An operator: a symbol that may be at the head of a form (standard 3.1.2.1.2). `Computes` are those of PAZTURROK that are a
-/// function of the values of their arguments alone, `Decides` those that decide which of their forms are evaluated. All others
-/// are at home in COMMON-LISP.
+/// An operator: a symbol that may be at the head of a form (standard 3.1.2.1.2). Of those of PAZTURROK `Computes` are a function
+/// of the values of their arguments alone, `Decides` decide which of their forms are evaluated, `LooksUp` look symbols and
+/// packages up, and `Changes` change a place. All others are at home in COMMON-LISP.
 #[derive(Clone, Copy, Debug, PartialEq, Eq)]
 pub(crate) enum Operation {
     Quote,
@@ -52,6 +55,8 @@ pub(crate) enum Operation {
     ReadtableCase,
     Computes(ValueFunction),
     Decides(Decision),
+    LooksUp(LookUp),
+    Changes(PlaceChange),
 }
 
 impl Operation {
@@ -70,14 +75,21 @@ impl Operation {
         }
     }
 
-    /// The function of values of this name.
-    #[tactic(auto, using(crate::proofs::Heads::function_found, crate::proofs::Heads::function_missing))]
+    /// The operator of PAZTURROK of this name that is a function of values, looks up, or changes a place.
+    #[tactic(auto, using(crate::proofs::Heads::function_found, crate::proofs::Heads::look_up_found, crate::proofs::Heads::change_found, crate::proofs::Heads::none_found))]
     fn of_values(name: &[u8]) -> Option<Operation>
         ensures { (names : List Name)
-            → option_map (operator names) result ≡ option_map function_operator (function_named name.now) }
+            → option_map (operator names) result
+            ≡ option_or (option_map function_operator (function_named name.now)) (world_operator name.now) }
     {
-        match ValueFunction::named(name) {
-            Some(function) => Some(Operation::Computes(function)),
+        if let Some(function) = ValueFunction::named(name) {
+            return Some(Operation::Computes(function));
+        }
+        if let Some(operator) = LookUp::named(name) {
+            return Some(Operation::LooksUp(operator));
+        }
+        match PlaceChange::named(name) {
+            Some(operator) => Some(Operation::Changes(operator)),
             None => None,
         }
     }
@@ -143,6 +155,8 @@ impl Operation {
             | Operation::Decides(Decision::Or)
             | Operation::Decides(Decision::Cond) => 0,
             Operation::Decides(_) => 1,
+            Operation::LooksUp(operator) => operator.least(),
+            Operation::Changes(_) => 1,
         }
     }
 
@@ -178,6 +192,8 @@ impl Operation {
             Operation::Computes(function) => function.most(),
             Operation::Decides(Decision::Assert) => Some(2),
             Operation::Decides(_) => None,
+            Operation::LooksUp(operator) => Some(operator.most()),
+            Operation::Changes(operator) => Some(operator.most()),
         }
     }
 

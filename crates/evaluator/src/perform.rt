@@ -2,7 +2,7 @@
 ghost use Rattle.std.specs.Prelude.{◌≡◌, IfOk};
 ghost use Rattle.lisp_operators.specs.Readtables.{AreFunctionNames};
 ghost use Rattle.lisp_operators.specs.Evaluation.{also};
-ghost use Rattle.evaluator.specs.Operations.{function_of, set_at};
+ghost use Rattle.evaluator.specs.Operations.{function_of, set_at, has_default_at};
 ghost use Rattle.evaluator.specs.Wanted.{seen};
 ghost use Rattle.lisp_operators.specs.Evaluated.{Answers, done, IsProperValue, AreArgumentsOf, CarriesOut, objects};
 
@@ -16,6 +16,8 @@ use crate::wanted::{Task, Wanted, seen};
 use lisp_object::Datum;
 use lisp_object::refusal::ARGUMENT_KIND;
 use lisp_operators::EvaluationError::Refused;
+use lisp_operators::look_ups::look_up;
+use lisp_operators::places::change;
 use lisp_operators::read_base::set_base;
 use lisp_operators::readtables::{get_dispatch, make_dispatch, set_dispatch, set_macro};
 use lisp_operators::{Evaluated, EvaluationError, package_lists, packages, properties, readtables};
@@ -98,12 +100,26 @@ pub(crate) fn carry_out(
         Operation::GetDispatchMacroCharacter => get_dispatch(alloc, world, values.as_slice()),
         Operation::ReadtableCase => readtables::readtable_case(alloc, world, values.as_slice()),
         Operation::Computes(function) => computed(alloc, function, values),
+        Operation::LooksUp(operator) => look_up(alloc, world, operator, values.as_slice()),
+        Operation::Changes(operator) => change(alloc, world, operator, has_default(place), values),
         Operation::Quote => Err(Refused(ARGUMENT_KIND)),
         Operation::Progn => Err(Refused(ARGUMENT_KIND)),
         Operation::If => Err(Refused(ARGUMENT_KIND)),
         Operation::MakeList => Err(Refused(ARGUMENT_KIND)),
         Operation::InPackage => Err(Refused(ARGUMENT_KIND)),
         Operation::Decides(_) => Err(Refused(ARGUMENT_KIND)),
+    }
+}
+
+// Whether a property has a default there.
+fn has_default(place: Place) -> bool
+    ensures { result ≡ has_default_at place }
+{
+    match place {
+        Place::PropertyOr => true,
+        Place::Property => false,
+        Place::Case => false,
+        Place::ReadBase => false,
     }
 }
 
@@ -120,7 +136,7 @@ fn put(
     ensures marked { world.new.1 ≡ world.old.1 }
 {
     match place {
-        Place::Property => properties::set(alloc, world, values),
+        Place::Property | Place::PropertyOr => properties::set(alloc, world, values),
         Place::Case => readtables::set_case(alloc, world, values.as_slice()),
         Place::ReadBase => set_base(world, values.as_slice()),
     }

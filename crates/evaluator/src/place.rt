@@ -1,12 +1,12 @@
-//! The places that SETF, INCF and PUSH take (standard 5.1).
+//! The places that SETF, INCF, DECF, PUSH and POP take (standard 5.1).
 ghost use Rattle.std.specs.Prelude.{◌≡◌, true, Some, None, length, IfOk, MatchOption};
 ghost use Rattle.lisp_object.specs.Object.{Object, pair, is_proper_list};
 ghost use Rattle.lisp_object.specs.Datum.{object_of, is_proper};
 ghost use Rattle.lisp_object.specs.declared.refusal.TheConstants.{ARGUMENT_KIND as WRONG_KIND};
 ghost use Rattle.evaluator.specs.Operators.{is_standard, count};
-ghost use Rattle.evaluator.specs.Value.{get_place_refusal, list_place_refusal, place_refusal};
+ghost use Rattle.evaluator.specs.Value.{get_place_refusal, default_place_refusal, list_place_refusal, place_refusal};
 ghost use Rattle.evaluator.specs.Operations.{IsCounted};
-ghost use Rattle.evaluator.specs.Gathered.{refusal_of_place, list_place, setf_place, place_of, IsRefusal, arguments_in};
+ghost use Rattle.evaluator.specs.Gathered.{refusal_of_place, property_place, list_place, setf_place, place_of, IsRefusal, arguments_in};
 ghost use Rattle.lisp_operators.specs.Evaluated.{IsProper, AreProper};
 
 use crate::operation::Operation;
@@ -21,6 +21,8 @@ use package_table::standardized::COMMON_LISP;
 pub(crate) enum Place {
     /// A property, which GET names.
     Property,
+    /// The same, where GET has a default.
+    PropertyOr,
     /// The case of a readtable, which READTABLE-CASE names.
     Case,
     /// The base in which numbers are read, `*READ-BASE*`.
@@ -31,7 +33,7 @@ pub(crate) enum Place {
 fn accessor(place: &Datum) -> Option<(&Datum, usize)>
     requires { IsProper place.now }
     ensures value { MatchOption result
-        ((get_place_refusal (object_of place.now) ≡ Some WRONG_KIND) × (list_place_refusal (object_of place.now) ≡ Some WRONG_KIND))
+        ((get_place_refusal (object_of place.now) ≡ Some WRONG_KIND) × (list_place_refusal (object_of place.now) ≡ Some WRONG_KIND) × (default_place_refusal (object_of place.now) ≡ Some WRONG_KIND))
         (λ p. (subforms : Object) × (object_of place.now ≡ pair (object_of p.0.now) subforms) × (is_proper_list subforms ≡ true) × (count subforms ≡ p.1)) }
     ensures proper { MatchOption result (Unit {0}) (λ p. is_proper p.0.now ≡ true) }
 {
@@ -83,6 +85,27 @@ fn check_property(place: &Datum) -> Result<Place, EvaluationError>
     Ok(Place::Property)
 }
 
+// That it is a place that GET names, with a default or without.
+fn check_with_default(place: &Datum) -> Result<Place, EvaluationError>
+    requires { IsProper place.now }
+    ensures refusal { IsRefusal (default_place_refusal (object_of place.now)) result }
+    ensures value { IfOk result (λ p. p ≡ property_place (object_of place.now)) }
+{
+    let Some((name, number)) = accessor(place) else {
+        return Err(Refused(ARGUMENT_KIND));
+    };
+    if !is_standard(name, b"GET") {
+        return Err(Refused(ARGUMENT_KIND));
+    }
+    if number < 2 || number > 3 {
+        return Err(Refused(ARGUMENT_COUNT));
+    }
+    if number == 3 {
+        return Ok(Place::PropertyOr);
+    }
+    Ok(Place::Property)
+}
+
 // That it is a list that is a place for SETF, and what it names.
 fn check_list(place: &Datum) -> Result<Place, EvaluationError>
     requires { IsProper place.now }
@@ -125,6 +148,7 @@ pub(crate) fn check_place(operation: Operation, items: &[Datum]) -> Result<Place
         Operation::Setf => check_setf(&items[1]),
         Operation::Incf => check_property(&items[1]),
         Operation::Push => check_property(&items[2]),
+        Operation::Changes(_) => check_with_default(&items[1]),
         _ => Ok(Place::Property),
     }
 }

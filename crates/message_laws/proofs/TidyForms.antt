@@ -4,6 +4,8 @@ use Rattle.std.proofs.Common.{ℕ, ◌==◌, Bool, true, false, if◌then◌else
 use Rattle.lisp_object.specs.Object.{Object}
 use Rattle.lisp_operators.specs.Evaluation.{Evaluation}
 use Rattle.lisp_operators.proofs.Keeping.{keeps_also, keeps_then}
+use Rattle.lisp_operators.proofs.LookUpLaws.{look_up_keeps}
+use Rattle.lisp_operators.proofs.PlaceLaws.{change_keeps}
 use Rattle.lisp_reading.specs.Reading.{Outcome as Reading, form, empty, refused}
 use Rattle.package_table.specs.declared.error.PackageError.{PackageError}
 use Rattle.package_table.specs.Symbols.{symbols}
@@ -19,6 +21,7 @@ use Rattle.prevalence_store.specs.calls.ExecuteAll.{left_by}
 use Rattle.prevalence_store.specs.meaning.Acceptance.{Acceptance, acceptance_of, accepted_of, accepts, between, read_in}
 use Rattle.user_macros.specs.Functions.{Functions}
 use Rattle.message_laws.specs.Near.{IsTidy}
+use Rattle.message_laws.proofs.Tidy.{tidy_put}
 use Rattle.message_laws.proofs.TidyOperators.{Kept, Keeps, IsKeeping, list_keeps, get_keeps, set_keeps, remove_keeps, symbol_plist_keeps, increment_keeps, push_keeps, make_keeps, enter_keeps, intern_keeps, export_keeps, import_keeps, use_keeps, case_keeps, set_case_keeps, copy_keeps, enter_readtable_keeps, set_syntax_keeps, set_macro_keeps, get_macro_keeps, make_dispatch_keeps, set_dispatch_keeps, get_dispatch_keeps, set_base_keeps}
 
 both : (s t u : WorldState) → Kept s t → Kept t u → Kept s u
@@ -54,6 +57,8 @@ module _ (names : List Name) where
     gets_dispatch = get_dispatch_keeps;
     sets_base = λ _. set_base_keeps;
     computes = λ function xs s. computed_keeps Kept function xs s (λ tidy. tidy);
+    looks_up = look_up_keeps Kept (λ s tidy. tidy);
+    changes_place = change_keeps Kept tidy_put;
   }
 
   steps : Steps true names Asks Keeps Keeps IsKeeping

@@ -57,7 +57,7 @@ pub gathered-returns-in_default : goal.gathered-returns-in_default
 gathered-returns-in_default t c =
     record {
       gives = gathered_from_none c.args.names.now c.args.world.now.0 c.extended.new.world.0 c.args.operation c.args.items.now c.none.result.values.items c.none.result.wrote c.extended.result
-          c.in_default.not-Setf c.in_default.not-Incf c.in_default.not-Push c.none.ensures.values c.none.ensures.wrote c.extended.ensures.gives;
+          c.in_default.not-Setf c.in_default.not-Incf c.in_default.not-Push c.in_default.not-Changes c.none.ensures.values c.none.ensures.wrote c.extended.ensures.gives;
       values = c.extended.ensures.values;
       marked = c.extended.ensures.marked;
     }
