@@ -1,7 +1,7 @@
 -- What is at the head of a form.
 --     operator_named_among      the operators by their names
 --     of_lisp, of_own, of_none      the operator of a symbol
---     function_found, function_missing, decision_found, decision_missing      those of PAZTURROK by their names
+--     function_found, look_up_found, change_found, none_found, decision_found, decision_missing      those of PAZTURROK by their names
 --     head_value      a form by its operator
 use Rattle.std.proofs.Common.{◌≡◌, ℕ, Bool, true, false, cond, not, List, [], ◌∷◌, ◌++◌, Option, Some, None, Err, option_map, bytes_eq, codes, refl, sym, ap, subst, ◌∙◌}
 use Rattle.std.specs.Option.{option_or}

@@ -2,7 +2,7 @@
 --     Operators      what is asked of the operators
 --     Steps      what is asked of each step
 --     every_value      the value of a form
-use Rattle.std.proofs.Common.{◌≡◌, pos, refl, Bool, true, false, not, ◌&&◌, ◌||◌, ◌==◌, cond, List, [], ◌∷◌, ◌++◌, Option, Some, None, option_map, Err, codes, bytes_eq, nat_le, arith}
+use Rattle.std.proofs.Common.{◌≡◌, pos, refl, Bool, true, false, not, ◌&&◌, ◌||◌, ◌==◌, cond, List, [], ◌∷◌, ◌++◌, Option, Some, None, option_map, Err, codes, bytes_eq, arith}
 use Rattle.std.specs.Option.{option_or}
 use Rattle.std.specs.Prelude.{ℕ}
 use Rattle.std.proofs.lemmas.Bool.{and_parts}
@@ -37,7 +37,7 @@ either_numbered false x y first second = second
 default_place_numbered : (place : Object) → IsNumbered (default_place_refusal place)
 default_place_numbered (pair operator subforms) =
     either_numbered (not (is_standard (codes "GET") operator && is_proper_list subforms)) _ _ (omega arith, omega arith)
-    (either_numbered (nat_le 2 (count subforms) && nat_le (count subforms) 3) _ _ tt (omega arith, omega arith))
+    (either_numbered (count subforms == 3 || count subforms == 2) _ _ tt (omega arith, omega arith))
 default_place_numbered _ = (omega arith, omega arith)
 
 get_place_numbered : (place : Object) → IsNumbered (get_place_refusal place)

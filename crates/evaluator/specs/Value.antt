@@ -2,7 +2,7 @@
 --
 -- The language of the first version had no read base: there *READ-BASE* has no value, and is no place. So the definitions have
 -- one test in front, whether the variable is known (`value_by`); `value` and the names after it are those in which it is.
-use Rattle.std.specs.Prelude.{ℕ, Bool, true, ◌&&◌, ◌||◌, ◌==◌, not, nat_le, if◌then◌else◌, List, [], ◌∷◌, ◌++◌, pos, Option, Some, None, Err, codes}
+use Rattle.std.specs.Prelude.{ℕ, Bool, true, ◌&&◌, ◌||◌, ◌==◌, not, if◌then◌else◌, List, [], ◌∷◌, ◌++◌, pos, Option, Some, None, Err, codes}
 use Rattle.std.specs.Str.{bytes_eq}
 use Rattle.lisp_object.specs.Object.{Object, integer, text, symbol, uninterned, pair, nil, list_of, is_proper_list}
 use Rattle.lisp_object.specs.declared.refusal.TheConstants.{NOT_A_FORM, UNKNOWN_OPERATOR, ARGUMENT_COUNT, ARGUMENT_KIND, ASSERTION_FAILED}
@@ -33,7 +33,7 @@ get_place_refusal _ = Some ARGUMENT_KIND
 abbrev pub default_place_refusal : Object → Option ℕ
 default_place_refusal (pair operator subforms) =
     if not (is_standard (codes "GET") operator && is_proper_list subforms) then Some ARGUMENT_KIND
-    else (if nat_le 2 (count subforms) && nat_le (count subforms) 3 then None else Some ARGUMENT_COUNT)
+    else (if count subforms == 3 || count subforms == 2 then None else Some ARGUMENT_COUNT)
 default_place_refusal _ = Some ARGUMENT_KIND
 
 -- why it is no place that READTABLE-CASE names

@@ -97,13 +97,13 @@ fn check_with_default(place: &Datum) -> Result<Place, EvaluationError>
     if !is_standard(name, b"GET") {
         return Err(Refused(ARGUMENT_KIND));
     }
-    if number < 2 || number > 3 {
-        return Err(Refused(ARGUMENT_COUNT));
-    }
     if number == 3 {
         return Ok(Place::PropertyOr);
     }
-    Ok(Place::Property)
+    if number == 2 {
+        return Ok(Place::Property);
+    }
+    Err(Refused(ARGUMENT_COUNT))
 }
 
 // That it is a list that is a place for SETF, and what it names.
