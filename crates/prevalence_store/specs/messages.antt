@@ -5,3 +5,4 @@ pub mod Rounds
 pub mod Calls
 pub mod Fronts
 pub mod Refusals
+pub mod Turn

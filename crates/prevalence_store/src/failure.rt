@@ -1,6 +1,6 @@
 // Why a form was not accepted, inside the crate.
 ghost use Rattle.std.specs.Prelude.{◌≡◌};
-ghost use Rattle.prevalence_store.specs.steps.Failure.{failure_number};
+ghost use Rattle.prevalence_store.specs.steps.Failure.{failure_number, of_unlogged};
 
 use lisp_object::refusal::{DEVICE, LOG_FULL, NO_MEMORY};
 
@@ -24,31 +24,15 @@ pub(crate) enum Unlogged {
     OutOfMemory,
 }
 
-impl From<Unadded> for Failure {
-    ghost use Rattle.std.specs.Prelude.{◌≡◌};
-    ghost use Rattle.prevalence_store.specs.steps.Failure.{of_unadded};
-
-    ghost from_gives = { λ cause failure. failure ≡ of_unadded cause };
-
-    fn from(cause: Unadded) -> Failure {
-        match cause {
-            Unadded::Refused(number) => Failure::Refused(number),
-            Unadded::OutOfMemory => Failure::OutOfMemory,
-        }
-    }
-}
-
-impl From<Unlogged> for Failure {
-    ghost use Rattle.std.specs.Prelude.{◌≡◌};
-    ghost use Rattle.prevalence_store.specs.steps.Failure.{of_unlogged};
-
-    ghost from_gives = { λ cause failure. failure ≡ of_unlogged cause };
-
-    fn from(cause: Unlogged) -> Failure {
-        match cause {
-            Unlogged::Full => Failure::Full,
-            Unlogged::DeviceFault => Failure::DeviceFault,
-            Unlogged::OutOfMemory => Failure::OutOfMemory,
+impl Unlogged {
+    /// The number of the refusal.
+    pub(crate) fn number(self) -> u16
+        ensures { result ≡ failure_number (of_unlogged self) }
+    {
+        match self {
+            Unlogged::Full => LOG_FULL,
+            Unlogged::DeviceFault => DEVICE,
+            Unlogged::OutOfMemory => NO_MEMORY,
         }
     }
 }
@@ -64,18 +48,4 @@ pub(crate) enum Failure {
     DeviceFault,
     /// There was no memory.
     OutOfMemory,
-}
-
-impl Failure {
-    /// The number of the refusal.
-    pub(crate) fn number(self) -> u16
-        ensures { result ≡ failure_number self }
-    {
-        match self {
-            Failure::Refused(number) => number,
-            Failure::Full => LOG_FULL,
-            Failure::DeviceFault => DEVICE,
-            Failure::OutOfMemory => NO_MEMORY,
-        }
-    }
 }

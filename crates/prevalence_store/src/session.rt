@@ -9,3 +9,4 @@ pub(crate) mod output;
 pub(crate) mod schedule;
 mod serve;
 mod together;
+pub(crate) mod whole_forms;

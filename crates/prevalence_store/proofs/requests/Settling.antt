@@ -1,118 +1,138 @@
--- What became of requests, by what logging their records did to the store.
---     round_taken      a message wrote
---     round_untouched      nothing was logged: of requests of which none wrote, or for a cause that is no fault
-use Rattle.std.proofs.Common.{◌≡◌, ◌+◌, ◌<◌, ◌≤◌, Bool, true, false, List, [], length, map, Some, Err, refl, sym, subst, inl, arith}
-use Rattle.std.specs.List.{flat_map}
-use Rattle.std.proofs.lemmas.List.{append-nil}
-use Rattle.disk_trait.specs.Disk.{State, IsHonest, IsSound}
-use Rattle.disk_trait.specs.Half.{opposite_of}
-use Rattle.gate_log.specs.Layout.{LogRecord, open_record}
+-- What became of requests as a turn.
+--     replies_again      their records make the world that they left, and fit the log
+--     replied_written, replied_silent      what is made of them
+--     replies_logged      they were answered, or a form of the store's own was refused
+--     replies_unlogged      what they needed was not logged
+use Rattle.std.proofs.Common.{◌≡◌, ℕ, ◌+◌, ◌<◌, ◌≤◌, Bool, true, false, List, [], length, map, Some, Result, Ok, Err, IfErr, refl, sym, ap, subst, ◌∙◌, arith}
+use Rattle.std.specs.Global.{Vec}
+use Rattle.std.specs.List.{AllByRecursion, flat_map}
+use Rattle.disk_trait.specs.Disk.{State}
+use Rattle.gate_log.specs.Layout.{IsLogRecord, LogRecord, open_record}
 use Rattle.plist_state.specs.State.{WorldState}
-use Rattle.prevalence_store.specs.declared.failure.Failure.{Failure}
-use Rattle.prevalence_store.specs.declared.failure.Failure.TheVariants as failure
+use Rattle.prevalence_store.specs.declared.batch.Batch.{Batch}
+use Rattle.prevalence_store.specs.declared.failure.Failure.TheVariants.{Refused}
 use Rattle.prevalence_store.specs.declared.failure.Unlogged.{Unlogged}
+use Rattle.prevalence_store.specs.declared.failure.Unlogged.TheVariants.{DeviceFault, Full, OutOfMemory}
+use Rattle.prevalence_store.specs.declared.messages.first_requests.FirstRequests.{FirstRequests}
+use Rattle.prevalence_store.specs.declared.messages.request.Answer.{Answer}
 use Rattle.prevalence_store.specs.declared.messages.request.Replies.{Replies}
-use Rattle.prevalence_store.specs.calls.Execute.{SurvivesAs}
-use Rattle.prevalence_store.specs.calls.ExecuteAll.{AllOrNone, LogsAll, MeansAllOrNone}
-use Rattle.prevalence_store.specs.calls.Store.{Describes, StoreView}
+use Rattle.prevalence_store.specs.declared.messages.round.Round.{Round as Held}
+use Rattle.prevalence_store.specs.calls.Store.{StoreView}
 use Rattle.prevalence_store.specs.meaning.Acceptance.{after}
-use Rattle.prevalence_store.specs.messages.Answers.{Round}
-use Rattle.prevalence_store.specs.messages.Calls.{AreAnswered, AreLeft, entries_by, left_after}
-use Rattle.prevalence_store.specs.messages.Rounds.{told_in}
-use Rattle.prevalence_store.specs.steps.Batch.{StoresBatch, TakesBatch}
-use Rattle.prevalence_store.specs.steps.Failure.{is_device, of_unlogged}
-use Rattle.prevalence_store.proofs.calls.LeftAlone.{alone_still}
-use Rattle.prevalence_store.proofs.Surviving.{still, unchanged_survives}
-use Rattle.prevalence_store.proofs.steps.Taking.{full_unlogged}
+use Rattle.prevalence_store.specs.messages.Answers.{Round, begun}
+use Rattle.prevalence_store.specs.messages.Calls.{AnswersRequests, AreLeft, Fail, entries_by, left_after}
+use Rattle.prevalence_store.specs.messages.Rounds.{IsMade as IsMadeBy, round_in, told_in}
+use Rattle.prevalence_store.specs.messages.Turn.{AreReplied, MakesReplies, front, round_of}
+use Rattle.prevalence_store.specs.steps.Batch.{FailsBatch, StoresBatch, entries_in, entries_of}
+use Rattle.prevalence_store.specs.steps.Failure.{failure_number, of_unlogged}
+use Rattle.prevalence_store.specs.steps.Together.{IsMade, IsNotMade}
+use Rattle.prevalence_store.proofs.requests.Owned.{unlogged_refused}
 use Rattle.user_macros.specs.Functions.{Functions}
 
-module _ (functions : Functions) {D R : Type 0} (state : D → State) (sound : (d : D) → IsHonest (state d) → IsSound (state d)) where
-  -- ---- nothing was logged
+module _ (functions : Functions) (turn : FirstRequests) (w : WorldState) where
+  abbrev round : Round
+  round = round_of functions turn w
 
-  module _ (s : StoreView D R) (w : WorldState) (known : s.world ≡ Some w) where
-    logs_none : LogsAll state s s [] w
-    logs_none = record {
-      left = known;
-      half = refl;
-      version = refl;
-      generation = refl;
-      record_count = omega arith;
-      size = omega arith;
-      first_size = refl;
-      fits = λ some. absurd (omega (arith, some));
-      limit = refl;
-      macros = refl;
-      nothing = λ _. refl;
-      described = λ k honest told. subst (λ (entries : List LogRecord). Describes s (record k { entries = entries }) (state s.disk).reads) (sym (append-nil k.entries)) told;
-      other = λ honest. alone_still (opposite_of s.half) (state s.disk) (sound s.disk honest);
-      failures = refl;
-    }
+  -- ---- before they are logged
 
-    none_of_none : AllOrNone functions state s s w []
-    none_of_none there honest keeps = still (state s.disk) (MeansAllOrNone functions w []) (sound s.disk honest) (λ i left. inl (keeps i left))
+  by_wrote : (b : Bool) → after functions w round.entries ≡ Some round.left → AllByRecursion IsLogRecord round.entries
+      → (after functions w (entries_by b round.entries) ≡ Some (left_after b w round.left)) × AllByRecursion IsLogRecord (entries_by b round.entries)
+  by_wrote true again fit = (again, fit)
+  by_wrote false again fit = (refl, tt)
 
-    stores_none : StoresBatch functions state s s w w []
-    stores_none = record {
-      logs = logs_none;
-      survives = unchanged_survives functions state sound s s w refl;
-      all_or_none = none_of_none;
-    }
+  pub replies_again : (v : WorldState) (records : List LogRecord) (made : Result Replies ℕ) → MakesReplies functions turn w v records made
+      → (after functions w records ≡ Some v) × AllByRecursion IsLogRecord records
+  replies_again v records (Ok replies) is =
+      let of = by_wrote round.wrote is.made.again is.made.fit in (
+        ap (after functions w) is.records_are ∙ of.0 ∙ ap (λ s. Some s) (sym is.left_is),
+        subst (λ (es : List LogRecord). AllByRecursion IsLogRecord es) (sym is.records_are) of.1,
+      )
+  replies_again v records (Err number) is =
+      (ap (after functions w) is.2 ∙ ap (λ s. Some s) (sym is.1), subst (λ (es : List LogRecord). AllByRecursion IsLogRecord es) (sym is.2) tt)
 
-  pub none_stored : (old new : StoreView D R) (w : WorldState) → old.world ≡ Some w → new ≡ old → StoresBatch functions state old new w w []
-  none_stored old new w known same = subst (λ (s : StoreView D R). StoresBatch functions state old s w w []) (sym same) (stores_none old w known)
+  -- ---- as they are held in memory, where so many were answered
 
-  -- ---- requests
-  module _ (old new : StoreView D R) (w : WorldState) (known : old.world ≡ Some w) where
-    -- what is said of the records of requests, by whether a message wrote
-    abbrev of_records : (List LogRecord → WorldState → Type 0) → Round → Bool → Type 0
-    of_records said round b = said (entries_by b round.entries) (left_after b w round.left)
-
+  module _ (held : Held) (v : WorldState) (turned : round_in held v ≡ round) (made : IsMadeBy functions w (round_in held v)) (replies : Replies) (answers : replies.answers ≡ held.answers) (last : replies.last ≡ held.last) (batch : Batch) where
     -- a message wrote
-    pub round_stored : (round : Round) (replies : Replies) → round.wrote ≡ true → map told_in replies.answers.items ≡ round.told → replies.last ≡ round.last
-        → StoresBatch functions state old new w round.left round.entries → AreAnswered functions state old new w round replies
-    round_stored round replies wrote told last stores = record {
-      told = told;
-      last = last;
-      logs = subst (of_records (LogsAll state old new) round) (sym wrote) stores.logs;
-      survives = subst (of_records (λ es v. SurvivesAs functions state old new w es (length es)) round) (sym wrote) stores.survives;
-      all_or_none = subst (of_records (λ es v. AllOrNone functions state old new w es) round) (sym wrote) stores.all_or_none;
-    }
+    pub replied_written : held.wrote ≡ true → batch ≡ held.batch → AreReplied functions w round v (entries_in batch) replies
+    replied_written wrote same =
+        subst (λ (r : Round). AreReplied functions w r v (entries_in batch) replies) turned (record {
+          told = ap (λ (a : Vec Answer). map told_in a.items) answers;
+          last = last;
+          made = made;
+          left_is = sym (ap (λ b. left_after b w v) wrote);
+          records_are = ap entries_in same ∙ sym (ap (λ b. entries_by b (entries_in held.batch)) wrote);
+        })
 
     -- none did
-    pub round_silent : (round : Round) (replies : Replies) → round.wrote ≡ false → map told_in replies.answers.items ≡ round.told → replies.last ≡ round.last → new ≡ old
-        → AreAnswered functions state old new w round replies
-    round_silent round replies none told last same =
-        let stores = none_stored old new w known same in
-        record {
-          told = told;
+    pub replied_silent : (left : WorldState) → held.wrote ≡ false → left ≡ w → batch.records.items ≡ [] → AreReplied functions w round left (entries_in batch) replies
+    replied_silent left wrote back none =
+        subst (λ (r : Round). AreReplied functions w r left (entries_in batch) replies) turned (record {
+          told = ap (λ (a : Vec Answer). map told_in a.items) answers;
           last = last;
-          logs = subst (of_records (LogsAll state old new) round) (sym none) stores.logs;
-          survives = subst (of_records (λ es v. SurvivesAs functions state old new w es (length es)) round) (sym none) stores.survives;
-          all_or_none = subst (of_records (λ es v. AllOrNone functions state old new w es) round) (sym none) stores.all_or_none;
+          made = made;
+          left_is = back ∙ sym (ap (λ b. left_after b w v) wrote);
+          records_are = ap entries_of none ∙ sym (ap (λ b. entries_by b (entries_in held.batch)) wrote);
+        })
+
+  -- ---- they were logged, or they were not
+
+  module _ {D R : Type 0} (state : D → State) (old new : StoreView D R) where
+    abbrev needed : List LogRecord
+    needed = entries_by round.wrote round.entries
+
+    pub replies_logged : (made : Result Replies ℕ) → IsMade functions state old new w (λ left records. MakesReplies functions turn w left records made)
+        → AnswersRequests functions state old new w turn.last (front functions turn w) made
+    replies_logged (Ok replies) logged =
+        let is = logged.makes in
+        let stores : StoresBatch functions state old new w (left_after round.wrote w round.left) needed =
+        subst (λ (v : WorldState). StoresBatch functions state old new w v needed) is.left_is
+        (subst (λ (es : List LogRecord). StoresBatch functions state old new w logged.left es) is.records_are logged.stores) in
+        record { told = is.told; last = is.last; logs = stores.logs; survives = stores.survives; all_or_none = stores.all_or_none }
+    replies_logged (Err number) logged =
+        let is = logged.makes in (
+          Refused number,
+          refl,
+          record { unchanged = λ _. logged.stores.logs.nothing (ap length is.2); full = λ full. absurd (cc); stopped = λ device. absurd (cc) },
+          is.0,
+        )
+
+    pub refused_unchanged : (made : Result Replies ℕ) → IsMade functions state old new w (λ left records. MakesReplies functions turn w left records made) → IfErr made (λ number. new ≡ old)
+    refused_unchanged (Ok replies) logged = tt
+    refused_unchanged (Err number) logged = logged.stores.logs.nothing (ap length logged.makes.2)
+
+    no_room : (left : WorldState) (records : List LogRecord) (made : Result Replies ℕ) → MakesReplies functions turn w left records made → 0 < length records → old.limit < old.size + length (flat_map open_record records)
+        → (0 < length needed) × (old.limit < old.size + length (flat_map open_record needed))
+    no_room left records (Ok replies) is some over = subst (λ (es : List LogRecord). (0 < length es) × (old.limit < old.size + length (flat_map open_record es))) is.records_are (some, over)
+    no_room left records (Err number) is some over = absurd (omega (arith, some, ap length is.2))
+
+    made_again : (b : Bool) → 0 < length (entries_by b round.entries) → after functions w round.entries ≡ Some round.left → after functions w (entries_by b round.entries) ≡ Some round.left
+    made_again true some again = again
+    made_again false some again = absurd (omega (arith, some))
+
+    failed_in : (left : WorldState) (records : List LogRecord) (made : Result Replies ℕ) → MakesReplies functions turn w left records made → FailsBatch functions state old new w left records → Fail functions state old new w round
+    failed_in left records (Ok replies) is fails =
+        let moved : FailsBatch functions state old new w left needed = subst (λ (es : List LogRecord). FailsBatch functions state old new w left es) is.records_are fails in
+        record {
+          again = made_again round.wrote moved.some is.made.again;
+          some = moved.some;
+          fits = moved.fits;
+          failed = moved.failed;
+          survives = moved.survives;
+          all_or_none = moved.all_or_none;
         }
+    failed_in left records (Err number) is fails = absurd (omega (arith, fails.some, ap length is.2))
 
-    -- they were not logged
-    pub round_left : (round : Round) (cause : Unlogged) → round.wrote ≡ true → after functions w round.entries ≡ Some round.left → {T : Type 0} → TakesBatch functions state old new w round.left round.entries {T = T} (Err cause)
+    left_by : (cause : Unlogged) → IsNotMade functions state old new w (λ left records. (made : Result Replies ℕ) × MakesReplies functions turn w left records made) cause
         → AreLeft functions state old new w round (of_unlogged cause)
-    round_left round cause wrote again took = record {
-      unchanged = took.unchanged;
-      full = λ full. subst (of_records (λ es v. (0 < length es) × (old.limit < old.size + length (flat_map open_record es))) round) (sym wrote) (took.full (full_unlogged cause full));
-      stopped = λ device.
-          let stopped = took.stopped device in
-          record {
-            again = subst (of_records (λ es v. after functions w es ≡ Some round.left) round) (sym wrote) again;
-            some = subst (of_records (λ es v. 0 < length es) round) (sym wrote) stopped.some;
-            fits = subst (of_records (λ es v. old.size + length (flat_map open_record es) ≤ old.limit) round) (sym wrote) stopped.fits;
-            failed = stopped.failed;
-            survives = subst (of_records (λ es v. SurvivesAs functions state old new w es 0) round) (sym wrote) stopped.survives;
-            all_or_none = subst (of_records (λ es v. AllOrNone functions state old new w es) round) (sym wrote) stopped.all_or_none;
-          };
-    }
+    left_by OutOfMemory unmade = record { unchanged = unmade.unchanged; full = λ full. absurd (cc); stopped = λ device. absurd (cc) }
+    left_by Full unmade =
+        let room = unmade.full refl in
+        record { unchanged = unmade.unchanged; full = λ _. no_room room.left room.records room.makes.0 room.makes.1 room.some room.over; stopped = λ device. absurd (cc) }
+    left_by DeviceFault unmade =
+        let stopped = unmade.stopped refl in
+        record { unchanged = λ calm. absurd (cc); full = λ full. absurd (cc); stopped = λ _. failed_in stopped.left stopped.records stopped.makes.0 stopped.makes.1 stopped.fails }
 
-    -- not for want of room, and the device did not fail
-    pub round_untouched : (round : Round) (cause : Failure) → is_device cause ≡ false → (cause ≡ failure.Full → ⊥) → new ≡ old → AreLeft functions state old new w round cause
-    round_untouched round cause calm room same = record {
-      unchanged = λ _. same;
-      full = λ full. absurd (room full);
-      stopped = λ device. absurd (cc);
-    }
+    pub replies_unlogged : (cause : Unlogged) → IsNotMade functions state old new w (λ left records. (made : Result Replies ℕ) × MakesReplies functions turn w left records made) cause
+        → AnswersRequests functions state old new w turn.last (front functions turn w) (Err (failure_number (of_unlogged cause)))
+    replies_unlogged cause unmade = (of_unlogged cause, refl, left_by cause unmade, unlogged_refused functions (begun turn.last w) (front functions turn w) cause)

@@ -24,6 +24,7 @@ use Rattle.prevalence_store.specs.calls.Pace.{Paces, fill_of}
 use Rattle.prevalence_store.specs.calls.Serve.{IsAfter, room_of}
 use Rattle.prevalence_store.specs.calls.Store.{StoreView}
 use Rattle.prevalence_store.specs.calls.Streams.{Writes, WritesPart}
+use Rattle.prevalence_store.specs.steps.Batch.{StoresBatch}
 use Rattle.prevalence_store.specs.steps.Course.{Course}
 use Rattle.prevalence_store.specs.steps.Gather.{AnswersGroup, FailsForms, IsGathered, TakesForms}
 use Rattle.prevalence_store.specs.steps.Schedule.{CountsAll, IsBeforeDue, IsBeforeGrown}
@@ -32,8 +33,8 @@ use Rattle.prevalence_store.proofs.calls.Progressing.{step_back}
 use Rattle.prevalence_store.proofs.steps.Counting.{all_paced, before_grown, counted_all, room_is}
 use Rattle.prevalence_store.proofs.steps.Endings.{after_none, part_of, writes_nothing}
 use Rattle.prevalence_store.proofs.steps.FormAnswers.{some_first, some_last}
-use Rattle.prevalence_store.proofs.steps.Gathering.{count_entries}
 use Rattle.prevalence_store.proofs.steps.Pieces.{longer, stays_longer}
+use Rattle.prevalence_store.proofs.steps.Turning.{far_failed, far_stored}
 use Rattle.prevalence_store.proofs.Surviving.{fewer_survive}
 use Rattle.user_macros.specs.Functions.{Functions}
 
@@ -184,24 +185,25 @@ module _ (functions : Functions) where
       (held written : Option (List ℕ)) (known : old.world ≡ Some w) where
     -- the forms were answered
     pub group_answered : (gathered : Gathered) (next count : ℕ) → TakesForms functions wanted state old new w text gathered → Writes held written gathered.lines.items → drop next text ≡ rest
-        → gathered.bytes ≡ next + count → CountsAll (length gathered.batch.records.items) course.pace later.pace → (room : ℕ) → IsBeforeGrown course.pace.ratio (fill_of old) room → gathered.record_bytes ≤ room → later.forms ≡ course.forms + gathered.forms → later.bytes ≡ course.bytes + gathered.bytes
+        → gathered.bytes ≡ next + count → CountsAll gathered.records course.pace later.pace → (room : ℕ) → IsBeforeGrown course.pace.ratio (fill_of old) room → gathered.record_bytes ≤ room → later.forms ≡ course.forms + gathered.forms → later.bytes ≡ course.bytes + gathered.bytes
         → AnswersGroup functions wanted state course later old new w text rest held written (grouped.Answered count)
     group_answered gathered next count took writes left many counts room before within forms bytes pending none =
-        let is = took.gathers in
+        let is = took.makes in
         let far : Progress = is.far in
+        let stores = far_stored functions wanted state old new w text gathered took in
         let far_is : after_forms functions gathered.forms w wanted.mode text ≡ Some far =
         ap (after_forms functions gathered.forms w wanted.mode) (sym (append-nil text)) ∙ is.stays [] ∙ ap (λ t. Some (record far { rest = t })) (append-nil far.rest) in
-        let entries : length gathered.batch.records.items ≡ length far.taken = sym (count_entries gathered) ∙ ap length is.taken in
+        let entries : gathered.records ≡ length far.taken = is.counted ∙ ap length is.taken in
         record {
           forms = gathered.forms;
           far = far;
           advances = record {
             far_is = far_is;
             lines = subst (Writes held written) is.lines writes;
-            after = all_after state old new w far took.logs is.again;
-            survives = took.survives;
+            after = all_after state old new w far stores.logs is.again;
+            survives = stores.survives;
           };
-          paced = all_in_pace state old new w far took.logs is.again course later (subst (λ n. CountsAll n course.pace later.pace) entries counts)
+          paced = all_in_pace state old new w far stores.logs is.again course later (subst (λ n. CountsAll n course.pace later.pace) entries counts)
               room before (omega (arith, is.record_bytes, within));
           comes = record {
             forms_are = omega (arith, forms);
@@ -218,11 +220,13 @@ module _ (functions : Functions) where
     pub group_stopped : wanted.group ≡ true → FailsForms functions wanted state old new w text → written ≡ held
         → AnswersGroup functions wanted state course later old new w text rest held written (grouped.Ended (ways.Store DEVICE))
     group_stopped grouped fault quiet more =
-        let is = fault.gathers in
-        let far : Progress = is.far in (
+        let gathered : Gathered = fault.makes.0 in
+        let is = fault.makes.2 in
+        let far : Progress = is.far in
+        let fails = far_failed functions wanted state old new w text fault in (
           record {
             serves = record {
-              forms = fault.gathered.forms;
+              forms = gathered.forms;
               far = longer far more;
               far_is = is.stays more;
               lines = 0;
@@ -232,39 +236,42 @@ module _ (functions : Functions) where
               in_turn = λ none. absurd (cc);
               part = [];
               output = writes_nothing held written quiet;
-              survives = fault.survives;
+              survives = fails.survives;
               ends = inl (record {
                 device = refl;
-                some_open = fault.some_forms;
+                some_open = fault.makes.1;
                 no_part = refl;
                 mid = old;
                 before = after_none functions state sound old old w wanted.mode (text ++ more) held held known (text ++ more) [] [] refl;
                 entries = far.taken;
-                some = fault.some;
+                some = fails.some;
                 one_open = λ none. absurd (cc);
                 were_accepted = refl;
-                fits = omega (arith, fault.fits, room_is far.taken);
-                failed = fault.failed;
-                all_or_none = fault.all_or_none;
+                fits = omega (arith, fails.fits, room_is far.taken);
+                failed = fails.failed;
+                all_or_none = fails.all_or_none;
               });
             };
             paced = inr (inr (inr (record {
               device = refl;
-              some_open = fault.some_forms;
-              before = inl (course.pace, (refl, λ i. record { generation = fault.failed.generation i; record_count = fault.failed.record_count i; size = fault.failed.size i; first_size = fault.failed.first_size i }));
+              some_open = fault.makes.1;
+              before = inl (course.pace, (refl, λ i. record { generation = fails.failed.generation i; record_count = fails.failed.record_count i; size = fails.failed.size i; first_size = fails.failed.first_size i }));
             })));
-            stays = (λ output. absurd (omega arith), stays_longer functions fault.gathered.forms w wanted.mode text more far is.stays);
+            stays = (λ output. absurd (omega arith), stays_longer functions gathered.forms w wanted.mode text more far is.stays);
           },
           λ strict. (refl, λ _. is.accepted strict),
         )
 
     -- the writer failed in their lines
     pub group_unwritten : wanted.group ≡ true → (gathered : Gathered) → 0 < gathered.forms → TakesForms functions wanted state old new w text gathered → WritesPart held written gathered.lines.items
-        → IsBeforeDue course.pace (length gathered.batch.records.items) → (room : ℕ) → IsBeforeGrown course.pace.ratio (fill_of old) room → gathered.record_bytes ≤ room
+        → IsBeforeDue course.pace gathered.records → (room : ℕ) → IsBeforeGrown course.pace.ratio (fill_of old) room → gathered.record_bytes ≤ room
         → AnswersGroup functions wanted state course later old new w text rest held written (grouped.Ended (ways.Store OUTPUT))
     group_unwritten grouped gathered some took writes before room small within more = by_part (part_of held written far.lines (some_lines gathered.forms some far_is) (subst (WritesPart held written) is.lines writes)) where
-      is : IsGathered functions wanted w text took.left gathered
-      is = took.gathers
+      is : IsGathered functions wanted w text took.left took.records gathered
+      is = took.makes
+
+      stores : StoresBatch functions state old new w is.far.world is.far.taken
+      stores = far_stored functions wanted state old new w text gathered took
 
       far : Progress
       far = longer is.far more
@@ -286,7 +293,7 @@ module _ (functions : Functions) where
       by_part (front, unwritten, parts, some_left, wrote) =
           let at = broken gathered.forms w wanted.mode (text ++ more) far front unwritten far_is parts some_left in
           let last : List ℕ = last_line (read_in functions far.world wanted.mode far.rest) in
-          let counted = counted_all (length far.taken) course.pace (subst (IsBeforeDue course.pace) (sym (count_entries gathered) ∙ ap length is.taken) before) in (
+          let counted = counted_all (length far.taken) course.pace (subst (IsBeforeDue course.pace) (is.counted ∙ ap length is.taken) before) in (
             record {
               serves = record {
                 forms = gathered.forms;
@@ -300,20 +307,20 @@ module _ (functions : Functions) where
                 part = at.part;
                 output = subst (Writes held written) at.front_is wrote;
                 survives = λ here claims keeps.
-                    fewer_survive functions (state old.disk) (state new.disk) w far.taken (length far.taken) (length at.answered.taken) new.world (took.survives here claims keeps) at.taken;
+                    fewer_survive functions (state old.disk) (state new.disk) w far.taken (length far.taken) (length at.answered.taken) new.world (stores.survives here claims keeps) at.taken;
                 ends = inr (inr (inr (inr (inr (inl (record {
                   output = refl;
                   unwritten = unwritten ++ last;
                   some_left = some_first unwritten last some_left;
                   front = ap (λ t. t ++ last) (parts ∙ ap (λ t. t ++ unwritten) at.front_is) ∙ append_assoc (at.answered.lines ++ at.part) unwritten last;
                   in_form = λ fewer. (at.next, at.next_is, (at.rest, at.some, at.next_lines));
-                  after = all_after state old new w far took.logs is.again;
+                  after = all_after state old new w far stores.logs is.again;
                 }))))));
               };
               paced = inl (record {
                 paced = (
                   counted.0,
-                  all_in_pace state old new w far took.logs is.again course (record course { pace = counted.0 }) counted.1
+                  all_in_pace state old new w far stores.logs is.again course (record course { pace = counted.0 }) counted.1
                       room small (omega (arith, is.record_bytes, within)),
                 );
                 other = λ full. absurd (omega arith);

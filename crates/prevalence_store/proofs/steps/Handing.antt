@@ -34,6 +34,7 @@ use Rattle.prevalence_store.specs.steps.Standing.{AcknowledgesNone, Follows, Han
 use Rattle.prevalence_store.proofs.Surviving.{all_or_none_of_one, both_survive, none_taken, unchanged_survives}
 use Rattle.prevalence_store.proofs.calls.Progressing.{forms_onward}
 use Rattle.prevalence_store.proofs.steps.Pieces.{longer, stays_longer}
+use Rattle.prevalence_store.proofs.steps.Turning.{far_failed, far_stored}
 use Rattle.user_macros.specs.Functions.{Functions}
 
 -- a writer that held nothing and got this line
@@ -99,8 +100,7 @@ module _ (functions : Functions) {D R : Type 0} (state : D → State) (sound : (
   due_leaves old new w pace known (inr (due, inl large)) = unchanged_leaves old new w known large.1
   due_leaves old new w pace known (inr (due, inr taken)) = (taken.survives, taken.renews.left)
 
-  renewal_leaves : (old new : StoreView D R) (w : WorldState) (wrote : Bool) (pace later : Pace) → old.world ≡ Some w → RenewsAfterForm functions state old new w wrote pace later None
-      → SurvivesAs functions state old new w [] 0 × (new.world ≡ Some w)
+  renewal_leaves : (old new : StoreView D R) (w : WorldState) (wrote : Bool) (pace later : Pace) → old.world ≡ Some w → RenewsAfterForm functions state old new w wrote pace later None → SurvivesAs functions state old new w [] 0 × (new.world ≡ Some w)
   renewal_leaves old new w wrote pace later known (inl still) = unchanged_leaves old new w known still.2
   renewal_leaves old new w wrote pace later known (inr due) = due_leaves old new w pace known due.2
 
@@ -325,7 +325,7 @@ module _ (functions : Functions) {D R : Type 0} (state : D → State) (sound : (
   pub none_of_group : (told : Option (Account D)) (old new : StoreView D R) (w : WorldState) (mode : Mode) (bytes text : List ℕ) (wanted : Wanted) → old.world ≡ Some w → StandsBefore functions state told old w mode bytes
       → FailsForms functions wanted state old new w text → AcknowledgesNone functions state told new
   none_of_group told old new w mode bytes text wanted known stands fault =
-      acknowledges_none told old new w fault.gathers.far.taken known (λ kept is. (stands kept is).at_rest) fault.survives fault.all_or_none
+      acknowledges_none told old new w fault.makes.2.far.taken known (λ kept is. (stands kept is).at_rest) (far_failed functions wanted state old new w text fault).survives (far_failed functions wanted state old new w text fault).all_or_none
 
   -- a snapshot that was refused
   pub no_renewal : (old new : StoreView D R) (w : WorldState) (number : ℕ) → Renewing functions state old new w (Err number) → SurvivesAs functions state old new w [] 0
@@ -388,9 +388,9 @@ module _ (functions : Functions) {D R : Type 0} (state : D → State) (sound : (
     pub lines_stored : (text more : List ℕ) → bytes ≡ text ++ more → (wanted : Wanted) (gathered : Gathered) → wanted.mode ≡ mode → TakesForms functions wanted state old new w text gathered → lines ≡ gathered.lines.items
         → AreStored functions state kept new lines gathered.forms
     lines_stored text more parts wanted gathered in_mode took are =
-        let is = took.gathers in
-        stored_after gathered.forms (longer is.far more) ((λ i. after_forms functions gathered.forms w (sym in_mode i) (parts i)) ∙ is.stays more)
-        (inl (are ∙ is.lines)) took.logs.left took.survives took.all_or_none
+        let stores = far_stored functions wanted state old new w text gathered took in
+        stored_after gathered.forms (longer took.makes.far more) ((λ i. after_forms functions gathered.forms w (sym in_mode i) (parts i)) ∙ took.makes.stays more)
+        (inl (are ∙ took.makes.lines)) stores.logs.left stores.survives stores.all_or_none
 
     -- the line of a refusal
     pub refusal_stored : (number at : ℕ) → read_in functions w mode bytes ≡ refused number at → lines ≡ refusal_line number → new ≡ old → AreStored functions state kept new lines 0

@@ -1,4 +1,4 @@
--- What became of a form and of the forms of a group, by what logging their records did to the store.
+-- What became of a form, by what logging its record did to the store.
 use Rattle.std.proofs.Common.{◌≡◌, ℕ, ◌+◌, ◌<◌, Bool, true, false, List, [], ◌∷◌, ◌++◌, length, Some, Result, Ok, Err, IfOk, OnOk, OnErr, refl, sym, ap, subst, ◌∙◌, arith}
 use Rattle.std.specs.List.{AllByRecursion, flat_map}
 use Rattle.disk_trait.specs.Disk.{State, IsHonest, IsSound}
@@ -13,23 +13,17 @@ use Rattle.prevalence_store.specs.declared.batch.Batch.{Batch}
 use Rattle.prevalence_store.specs.declared.batch.BatchRecord.{BatchRecord}
 use Rattle.prevalence_store.specs.declared.failure.Failure.{Failure}
 use Rattle.prevalence_store.specs.declared.failure.Failure.TheVariants.{Refused, Full, DeviceFault, OutOfMemory}
-use Rattle.prevalence_store.specs.declared.failure.Unadded.{Unadded}
-use Rattle.prevalence_store.specs.declared.failure.Unadded.TheVariants as unadded
 use Rattle.prevalence_store.specs.declared.failure.Unlogged.{Unlogged}
 use Rattle.prevalence_store.specs.declared.failure.Unlogged.TheVariants as unlogged
 use Rattle.session_words.specs.declared.mode.Mode.{Mode}
-use Rattle.session_words.specs.declared.wanted.Wanted.{Wanted}
 use Rattle.prevalence_store.specs.declared.session.answer.Reply.{Reply}
-use Rattle.prevalence_store.specs.declared.session.gather.Gathered.{Gathered}
-use Rattle.prevalence_store.specs.declared.session.gather.GroupLimit.{GroupLimit}
 use Rattle.prevalence_store.specs.meaning.Acceptance.{after, logged, read_in, records_of}
 use Rattle.prevalence_store.specs.calls.Execute.{Stores, SurvivesAs, taken_in}
 use Rattle.prevalence_store.specs.calls.ExecuteAll.{LogsAll}
 use Rattle.prevalence_store.specs.calls.Store.{StoreView}
 use Rattle.prevalence_store.specs.steps.Answer.{IsLeft, IsReplyTo, TakesReply}
 use Rattle.prevalence_store.specs.steps.Batch.{StoresBatch, TakesBatch, TakesForm, entries_in, entries_of}
-use Rattle.prevalence_store.specs.steps.Failure.{IsCause, is_device, of_unadded, of_unlogged}
-use Rattle.prevalence_store.specs.steps.Gather.{IsCounted, IsGathered, TakesGroup}
+use Rattle.prevalence_store.specs.steps.Failure.{IsCause, is_device, of_unlogged}
 use Rattle.prevalence_store.proofs.steps.Counting.{room_is}
 use Rattle.prevalence_store.proofs.steps.Grouping.{of_value}
 use Rattle.prevalence_store.proofs.Surviving.{unchanged_survives}
@@ -51,26 +45,6 @@ ok_on (Err error) f is = tt
 pub err_on : {T E : Type 0} (result : Result T E) {P Q : Type 0} → (P → Q) → OnErr result P → OnErr result Q
 err_on (Ok value) f is = tt
 err_on (Err error) f is = f is
-
--- forms that were given back
-pub counted_again : (next many : ℕ) (limit : GroupLimit) (gathered : Gathered) {E : Type 0} (result : Result Gathered E) → IfOk result (λ given. given ≡ gathered) → IsCounted next many limit gathered → IfOk result (IsCounted next many limit)
-counted_again next many limit gathered (Ok given) same counts = subst (IsCounted next many limit) (sym same) counts
-counted_again next many limit gathered (Err failure) same counts = tt
-
--- what was not logged had no room
-pub full_unlogged : (cause : Unlogged) → of_unlogged cause ≡ Full → cause ≡ unlogged.Full
-full_unlogged unlogged.Full is = refl
-full_unlogged unlogged.DeviceFault is = absurd (cc)
-full_unlogged unlogged.OutOfMemory is = absurd (cc)
-
--- what was not added was no fault of the device, and had room
-pub unadded_calm : (cause : Unadded) → is_device (of_unadded cause) ≡ false
-unadded_calm (unadded.Refused number) = refl
-unadded_calm unadded.OutOfMemory = refl
-
-pub unadded_room : (cause : Unadded) → of_unadded cause ≡ Full → ⊥
-unadded_room (unadded.Refused number) is = absurd (cc)
-unadded_room unadded.OutOfMemory is = absurd (cc)
 
 module _ (functions : Functions) where
   -- the record of a form makes the world that the form left, and fits the log
@@ -207,42 +181,3 @@ module _ (functions : Functions) where
           reply_left (Err Full) is cause took = absurd is
           reply_left (Err DeviceFault) is cause took = absurd is
           reply_left (Err OutOfMemory) is cause took = absurd is
-
-    -- ---- the forms of a group
-
-    module _ (wanted : Wanted) (w v : WorldState) (text : List ℕ) where
-      pub group_stored : (gathered : Gathered) (is : IsGathered functions wanted w text v gathered) → StoresBatch functions state old new w is.far.world is.far.taken
-          → TakesGroup functions wanted state old new w text (Ok gathered)
-      group_stored gathered is stores = record {
-        together = record { left = v; gathers = is; logs = stores.logs; survives = stores.survives; all_or_none = stores.all_or_none };
-        unchanged = tt;
-        stopped = tt;
-      }
-
-      pub group_left : (gathered : Gathered) (is : IsGathered functions wanted w text v gathered) → 0 < gathered.forms → (cause : Unlogged) {T : Type 0}
-          → TakesBatch functions state old new w is.far.world is.far.taken {T = T} (Err cause) → TakesGroup functions wanted state old new w text (Err (of_unlogged cause))
-      group_left gathered is some cause took = record {
-        together = tt;
-        unchanged = took.unchanged;
-        stopped = λ device.
-            let stopped = took.stopped device in
-            record {
-              left = v;
-              gathered = gathered;
-              some_forms = some;
-              gathers = is;
-              some = stopped.some;
-              fits = stopped.fits;
-              failed = stopped.failed;
-              survives = stopped.survives;
-              all_or_none = stopped.all_or_none;
-            };
-      }
-
-      -- it was given back if it was logged
-      pub group_given : (gathered given : Gathered) (is : IsGathered functions wanted w text v gathered) → given ≡ gathered
-          → StoresBatch functions state old new w is.far.world is.far.taken → TakesGroup functions wanted state old new w text (Ok given)
-      group_given gathered given is same stores = subst (λ (x : Gathered). TakesGroup functions wanted state old new w text (Ok x)) (sym same) (group_stored gathered is stores)
-
-      pub group_untouched : (failure : Failure) → is_device failure ≡ false → new ≡ old → TakesGroup functions wanted state old new w text (Err failure)
-      group_untouched failure calm same = record { together = tt; unchanged = λ _. same; stopped = λ device. absurd (cc) }

@@ -1,5 +1,5 @@
 -- What the calls of a store that carries out messages answer, and what is left after them.
-use Rattle.std.specs.Prelude.{◌≡◌, ◌⊎◌, ℕ, ◌+◌, ◌<◌, ◌≤◌, Bool, true, false, List, [], ◌∷◌, ◌++◌, length, map, Option, None, Some, IsSome, Result, Ok, Err, MatchResult}
+use Rattle.std.specs.Prelude.{◌≡◌, ◌⊎◌, ℕ, ◌+◌, ◌<◌, ◌≤◌, Bool, true, false, List, [], ◌∷◌, ◌++◌, length, map, Option, None, Some, IsSome, Result, Ok, Err}
 use Rattle.std.specs.List.{flat_map}
 use Rattle.disk_trait.specs.Disk.{State}
 use Rattle.disk_trait.specs.Half.{opposite_of}
@@ -129,9 +129,3 @@ module _ (functions : Functions) {D R : Type 0} (state : D → State) (old new :
       ⊎ (((number ≡ NO_MEMORY) × (new ≡ old))
       ⊎ ((position_property world ≡ None) × (is_hidden world ≡ false)
       × Executes functions state old new world Rescue (own_text (Position 0)) (Refused number))))
-
-  -- what a round does, by the failure
-  abbrev pub TakesRound : ℕ → List Request → Result Replies Failure → Type 0
-  TakesRound last requests result =
-      MatchResult result (AreAnswered functions state old new world (answered functions (begun last world) requests))
-      (λ cause. AreLeft functions state old new world (answered functions (begun last world) requests) cause × RefusesOwn functions (begun last world) requests cause)

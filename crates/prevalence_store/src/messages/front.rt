@@ -1,11 +1,11 @@
 // The first of some requests, answered until their answers have so many bytes.
 ghost use Rattle.std.specs.Prelude.{◌≡◌, ℕ, Bool, List, [], ◌∷◌, ◌++◌, false, length, map, IfErr, OnOk};
-ghost use Rattle.plist_state.specs.State.{WorldState};
+ghost use Rattle.plist_state.specs.State.{Worlds};
 ghost use Rattle.prevalence_store.specs.messages.Answers.{answered, closed, each_request};
 ghost use Rattle.prevalence_store.specs.messages.Calls.{IsNotClosed, RefusesOwn};
 ghost use Rattle.prevalence_store.specs.messages.Fronts.{first_of, is_none_left, room_left};
 ghost use Rattle.prevalence_store.specs.messages.Rounds.{StaysMade, round_in, told_in};
-ghost use Rattle.prevalence_store.specs.steps.Batch.{IsMarkedFirst};
+ghost use Rattle.prevalence_store.specs.steps.Batch.{IsMarked};
 ghost use Rattle.prevalence_store.specs.steps.Failure.{of_unadded};
 
 use crate::failure::Unadded;
@@ -33,8 +33,8 @@ impl Round {
         ensures made { OnOk result (StaysMade R.Meaning.functions (round_in self.old world.old.0) (round_in self.new world.new.0)) }
         ensures refused { IfErr result (λ cause.
             RefusesOwn R.Meaning.functions (round_in self.old world.old.0) (first_of R.Meaning.functions most (round_in self.old world.old.0) requests.now) (of_unadded cause)) }
-        ensures marks { (first : WorldState) → IsMarkedFirst first world.old.1
-            → IsMarkedFirst first world.new.1 }
+        ensures marks { (worlds : Worlds) → IsMarked worlds world.old.1
+            → IsMarked worlds world.new.1 }
     {
         match self.answer_each(world, macros, requests, most) {
             Ok(()) => self.close(world, macros),
@@ -57,8 +57,8 @@ impl Round {
         ensures made { OnOk result (StaysMade R.Meaning.functions (round_in self.old world.old.0) (round_in self.new world.new.0)) }
         ensures refused { IfErr result (λ cause.
             RefusesOwn R.Meaning.functions (round_in self.old world.old.0) (first_of R.Meaning.functions most (round_in self.old world.old.0) requests.now) (of_unadded cause)) }
-        ensures marks { (first : WorldState) → IsMarkedFirst first world.old.1
-            → IsMarkedFirst first world.new.1 }
+        ensures marks { (worlds : Worlds) → IsMarked worlds world.old.1
+            → IsMarked worlds world.new.1 }
     {
         let mut room = most;
         for request in requests {
@@ -96,8 +96,8 @@ impl Round {
         ensures made { OnOk result (StaysMade R.Meaning.functions (round_in self.old world.old.0) (round_in self.new world.new.0)) }
         ensures refused { IfErr result (λ cause.
             IsNotClosed R.Meaning.functions (round_in self.old world.old.0) (of_unadded cause)) }
-        ensures marks { (first : WorldState) → IsMarkedFirst first world.old.1
-            → IsMarkedFirst first world.new.1 }
+        ensures marks { (worlds : Worlds) → IsMarked worlds world.old.1
+            → IsMarked worlds world.new.1 }
     {
         if self.wrote {
             self.carry_out_own(world, macros, Own::Position(self.last))

@@ -4,16 +4,16 @@ ghost use Rattle.form_eval.specs.Laws.{MayEvaluate};
 ghost use Rattle.lisp_object.specs.Datum.{object_of};
 ghost use Rattle.lisp_object.specs.declared.refusal.TheConstants.{LOG_FULL};
 ghost use Rattle.lisp_operators.specs.declared.evaluated.Evaluated.{Evaluated};
-ghost use Rattle.plist_state.specs.State.{WorldState};
+ghost use Rattle.plist_state.specs.State.{WorldState, Worlds};
 ghost use Rattle.prevalence_store.specs.declared.failure.Failure.{Failure};
 ghost use Rattle.prevalence_store.specs.steps.Answer.{AnswersFault, AnswersForm, AnswersRead, BeginsWith, FitsForm, IsFormOf, IsReplyTo, TriesForm, refusal_that_ends, was_logged};
-ghost use Rattle.prevalence_store.specs.steps.Batch.{IsMarkedFirst};
+ghost use Rattle.prevalence_store.specs.steps.Batch.{IsMarked};
 ghost use Rattle.prevalence_store.specs.steps.Course.{course_of};
 ghost use Rattle.prevalence_store.specs.steps.Schedule.{pace_of};
 ghost use Rattle.prevalence_store.specs.steps.Standing.{AcknowledgesNone, HandsOn, StandsAtForm, StandsAtRefusal};
 
 use crate::batch::Batch;
-use crate::failure::{Failure, Unadded};
+use crate::failure::Unadded;
 use crate::outcome::{Ended, Ending};
 use crate::recipient::Recipient;
 use crate::session::course::Course;
@@ -233,7 +233,7 @@ impl<D: Disk, R: MacroFunctions> Store<D, R> {
         self.world.soundness();
         let reply = match self.take_reply(mode, form, own) {
             Ok(reply) => reply,
-            Err(failure) => return Err(Failure::from(failure).number()),
+            Err(failure) => return Err(failure.number()),
         };
         self.keeps_its_world();
         // what is answered is stored: a line comes after its record
@@ -256,8 +256,8 @@ pub(crate) fn reply_to<R: MacroFunctions>(
     requires form { MayEvaluate world.old.0.packages form.now }
     ensures replies { IfOk result (λ reply. (answer : Result Evaluated Failure) × IsReplyTo R.Meaning.functions.names mode (object_of form.now.datum)
         own.now world.old.0 world.new.0 batch.old batch.new reply answer) }
-    ensures marks { (first : WorldState) → IsMarkedFirst first world.old.1
-        → IsMarkedFirst first world.new.1 }
+    ensures marks { (worlds : Worlds) → IsMarked worlds world.old.1
+        → IsMarked worlds world.new.1 }
 {
     let alloc = batch.alloc;
     match batch.add(world, macros, mode, form, own) {

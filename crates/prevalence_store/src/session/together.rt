@@ -9,12 +9,13 @@ ghost use Rattle.prevalence_store.specs.steps.Course.{course_of};
 ghost use Rattle.prevalence_store.specs.steps.Gather.{AnswersGroup, BeginsWhole};
 ghost use Rattle.prevalence_store.specs.steps.Standing.{AcknowledgesNone, HandsOn, StandsAtWhole};
 
-use crate::failure::Failure;
+use crate::failure::Unlogged;
 use crate::outcome::Ended;
 use crate::recipient::Recipient;
 use crate::session::course::Course;
 use crate::session::gather::GroupLimit;
 use crate::session::input::PlacedForm;
+use crate::session::whole_forms::WholeForms;
 use crate::store::Store;
 use disk_trait::Disk;
 use lisp_object::refusal::{DEVICE, OUTPUT};
@@ -77,20 +78,30 @@ impl<D: Disk, R: MacroFunctions> Store<D, R> {
         }
         let bytes = self.room_before_grown(course.schedule.ratio);
         let limit = GroupLimit { forms, bytes };
-        let gathered = match self.take_group(wanted, limit, first, rest) {
-            Ok(gathered) => gathered,
-            Err(failure) => {
-                if matches!(failure, Failure::DeviceFault) {
+        let turn = WholeForms {
+            wanted,
+            limit,
+            first,
+            rest,
+        };
+        let made = match self.take_group(&turn) {
+            Ok(made) => made,
+            Err(cause) => {
+                if matches!(cause, Unlogged::DeviceFault) {
                     return Grouped::Ended(Ended::Store(DEVICE));
                 }
                 return Grouped::Left;
             }
         };
+        let gathered = match made {
+            Some(gathered) => gathered,
+            None => return Grouped::Left,
+        };
         self.keeps_its_world();
         // what is answered is stored: the lines come after the records
         match writer.write_lines(self, gathered.lines.as_slice(), gathered.forms) {
             Ok(()) => {
-                course.schedule.pass(gathered.batch.records.len() as u64);
+                course.schedule.pass(gathered.records as u64);
                 course.pass_all(gathered.forms, gathered.bytes);
                 Grouped::Answered(gathered.bytes - first.next)
             }

@@ -4,16 +4,14 @@ ghost use Rattle.std.specs.Option.{option_and_then};
 ghost use Rattle.lisp_object.specs.declared.refusal.TheConstants.{DEVICE as DEVICE_FAULT, REOPEN as NOT_OPEN};
 ghost use Rattle.plist_state.specs.State.{WorldState};
 ghost use Rattle.prevalence_store.specs.messages.Answers.{begun};
-ghost use Rattle.prevalence_store.specs.messages.Calls.{AnswersRequests, BeginsMessages, TakesRound};
+ghost use Rattle.prevalence_store.specs.messages.Calls.{AnswersRequests, BeginsMessages};
 ghost use Rattle.prevalence_store.specs.messages.Fronts.{AnswersFirst, first_of};
 ghost use Rattle.prevalence_store.specs.messages.Position.{is_hidden, position, position_property};
 
-use crate::batch::Batch;
-use crate::failure::Failure;
+use crate::messages::first_requests::FirstRequests;
 use crate::messages::own::Own;
 use crate::messages::place::Place;
 use crate::messages::request::{ANSWER_BYTES, NO_POSITION, Replies, Request};
-use crate::messages::round::Round;
 use crate::outcome::Outcome;
 use crate::store::Store;
 use disk_trait::Disk;
@@ -142,49 +140,14 @@ impl<D: Disk, R: MacroFunctions> Store<D, R> {
         if !self.is_open() {
             return Err(REOPEN);
         }
-        let Ok(place) = Place::new(self.alloc) else {
-            return Err(NO_MEMORY);
+        let turn = FirstRequests {
+            last,
+            requests,
+            most,
         };
-        match self.take_round(place, last, requests, most) {
-            Ok(replies) => Ok(replies),
-            Err(failure) => Err(failure.number()),
-        }
-    }
-
-    // Answers the first of these requests one after the other, and logs what those that wrote need together, with the position. Where
-    // nothing is logged, the store is as it was.
-    fn take_round(
-        &mut self,
-        place: Place,
-        last: u64,
-        requests: &[Request<'_>],
-        most: Option<usize>,
-    ) -> Result<Replies, Failure>
-        requires open { IsSome self.old.world }
-        ensures takes { (world : WorldState) → self.old.world ≡ Some world
-            → TakesRound R.Meaning.functions D.state self.old self.new world last
-            (first_of R.Meaning.functions most (begun last world) requests.now) result }
-        ensures honest { (D.state self.new.disk).honest ≡ (D.state self.old.disk).honest }
-        ensures macros { self.new.macros ≡ self.old.macros }
-    {
-        let Ok(batch) = Batch::begin(self.alloc, &mut self.world) else {
-            return Err(Failure::OutOfMemory);
-        };
-        let mut round = Round::new(batch, place, last, &self.world);
-        match round.answer_up_to(&mut self.world, &self.macros, requests, most) {
-            Ok(()) => {}
-            Err(cause) => {
-                self.world.back_to(0);
-                return Err(Failure::from(cause));
-            }
-        }
-        if !round.wrote {
-            self.world.back_to(0);
-            return Ok(round.into_replies());
-        }
-        match round.batch.log(&mut self.log, &mut self.world) {
-            Ok(()) => Ok(round.into_replies()),
-            Err(cause) => Err(Failure::from(cause)),
+        match self.together(&turn) {
+            Ok(made) => made,
+            Err(cause) => Err(cause.number()),
         }
     }
 }

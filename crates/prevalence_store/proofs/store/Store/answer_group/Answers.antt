@@ -1,23 +1,18 @@
-use Rattle.std.proofs.Common.{◌≡◌, ◌++◌, ◌-◌, Bool, true, false, not, length, refl, sym, ap, subst, ◌∙◌, arith}
-use Rattle.prevalence_store.specs.declared.failure.Failure.{Failure}
-use Rattle.prevalence_store.specs.declared.failure.Failure.TheVariants.{DeviceFault, Full, OutOfMemory, Refused}
+use Rattle.std.proofs.Common.{◌≡◌, ◌++◌, ◌-◌, Bool, true, false, not, Err, refl, sym, ap, subst, ◌∙◌, arith}
+use Rattle.prevalence_store.specs.declared.failure.Unlogged.{Unlogged}
+use Rattle.prevalence_store.specs.declared.failure.Unlogged.TheVariants.{DeviceFault}
 use Rattle.prevalence_store.specs.calls.Pace.{Pace}
 use Rattle.prevalence_store.specs.calls.Streams.{Writes, WritesPart}
 use Rattle.prevalence_store.specs.steps.Course.{Course, course_of}
-use Rattle.prevalence_store.specs.steps.Failure.{is_device}
-use Rattle.prevalence_store.specs.steps.Schedule.{CountsAll, pace_of}
+use Rattle.prevalence_store.specs.steps.Gather.{TakesGroup}
+use Rattle.prevalence_store.specs.steps.Schedule.{CountsAll}
 use Rattle.prevalence_store.proofs.calls.Executing.{known_world}
 use Rattle.prevalence_store.proofs.steps.Counting.{fewer_before_due}
 use Rattle.prevalence_store.proofs.steps.Gathered.{group_answered, group_stopped, group_unwritten}
 use Rattle.prevalence_store.proofs.steps.Handing.{hands_lines, lines_stored, none_handed, none_of_group, rest_of_input}
+use Rattle.prevalence_store.proofs.steps.Turning.{far_stored, group_left}
 use Rattle.prevalence_store.proofs.store.Store.answer_group.Goals as goal
 use Rattle.prevalence_store.proofs.store.Store.answer_group.Goals.{in-DeviceFault, in_default}
-
-no_device : (failure : Failure) → (failure ≡ DeviceFault → ⊥) → is_device failure ≡ false
-no_device (Refused number) other = refl
-no_device Full other = refl
-no_device DeviceFault other = absurd (other refl)
-no_device OutOfMemory other = refl
 
 grouped : (group : Bool) → not group ≡ false → group ≡ true
 grouped true is = refl
@@ -32,34 +27,46 @@ returns-then-matches-clause-answers g c = λ w known text begins pending.
     let functions = g.R.Meaning.Meaning.functions in
     let held = g.W.Recipient.contents c.args.writer.now in
     let course = course_of c.args.course.now in
-    group_stopped functions g.D.Disk.state g.met.D.Disk.sound c.args.wanted course course c.args.self.now c.take_group.new.self w text c.args.rest.now held held known (grouped c.args.wanted.group c.if-not-wanted.false)
-    ((c.in-Err.ensures.takes w known text begins pending).stopped (elim c.match-matches.branch [
-      | in-DeviceFault b ↦ ap is_device b.in-DeviceFault.is
+    let fault : c.in-Err.cause ≡ DeviceFault = elim c.match-matches.branch [
+      | in-DeviceFault b ↦ b.in-DeviceFault.is
       | in_default b ↦ let bad : true ≡ false = sym c.if-matches.true ∙ b.matches-is in absurd (cc)
-    ])) refl
+    ] in
+    group_stopped functions g.D.Disk.state g.met.D.Disk.sound c.args.wanted course course c.args.self.now c.take_group.new.self w text c.args.rest.now held held known (grouped c.args.wanted.group c.if-not-wanted.false)
+    (subst (λ (e : Unlogged). TakesGroup functions c.args.wanted g.D.Disk.state c.args.self.now c.take_group.new.self w text (Err e)) fault (c.in-Err.ensures.takes w known text begins pending)) refl
 
 -- they were left
 pub returns-in-Err-clause-left : goal.returns-in-Err-clause-left
 returns-in-Err-clause-left g c = λ left.
+    let functions = g.R.Meaning.Meaning.functions in
     let here = known_world c.args.self.now.world c.requires.form.is_open in
     let s = c.requires.stands here.0 here.1 in (
-      (c.in-Err.ensures.takes here.0 here.1 s.0 s.1 s.2).unchanged (elim c.match-matches.branch [
+      group_left functions c.args.wanted g.D.Disk.state c.args.self.now c.take_group.new.self here.0 s.0 c.in-Err.cause (elim c.match-matches.branch [
         | in-DeviceFault b ↦ let bad : true ≡ false = sym b.matches-is ∙ c.if-matches.false in absurd (cc)
-        | in_default b ↦ no_device c.in-Err.failure b.in_default.not-DeviceFault
-      ]),
+        | in_default b ↦ b.in_default.not-DeviceFault
+      ]) (c.in-Err.ensures.takes here.0 here.1 s.0 s.1 s.2),
       refl,
       refl,
     )
 
 pub returns-in-Err-clause-answers : goal.returns-in-Err-clause-answers
 returns-in-Err-clause-answers g c = λ w known text begins pending. (
-  (c.in-Err.ensures.takes w known text begins pending).unchanged (elim c.match-matches.branch [
+  group_left g.R.Meaning.Meaning.functions c.args.wanted g.D.Disk.state c.args.self.now c.take_group.new.self w text c.in-Err.cause (elim c.match-matches.branch [
     | in-DeviceFault b ↦ let bad : true ≡ false = sym b.matches-is ∙ c.if-matches.false in absurd (cc)
-    | in_default b ↦ no_device c.in-Err.failure b.in_default.not-DeviceFault
-  ]),
+    | in_default b ↦ b.in_default.not-DeviceFault
+  ]) (c.in-Err.ensures.takes w known text begins pending),
   refl,
   refl,
 )
+
+-- none was taken
+pub returns-in-None-clause-left : goal.returns-in-None-clause-left
+returns-in-None-clause-left g c = λ left.
+    let here = known_world c.args.self.now.world c.requires.form.is_open in
+    let s = c.requires.stands here.0 here.1 in
+    (rw c.in-None.is at c.in-Ok.ensures.takes here.0 here.1 s.0 s.1 s.2, refl, refl)
+
+pub returns-in-None-clause-answers : goal.returns-in-None-clause-answers
+returns-in-None-clause-answers g c = λ w known text begins pending. (rw c.in-None.is at c.in-Ok.ensures.takes w known text begins pending, refl, refl)
 
 -- their lines may be handed on
 pub write_lines-requires : goal.write_lines-requires
@@ -69,7 +76,7 @@ write_lines-requires g c = record {
       let s = c.requires.stands here.0 here.1 in
       let rest = rest_of_input g.R.Meaning.Meaning.functions g.D.Disk.state g.met.D.Disk.sound (g.W.Recipient.account c.args.writer.now) c.args.self.now here.0 c.args.wanted.mode s.0 s.3 in
       lines_stored g.R.Meaning.Meaning.functions g.D.Disk.state g.met.D.Disk.sound kept c.args.self.now c.take_group.new.self here.0 c.args.wanted.mode (s.0 ++ rest.0) _ (rest.1 kept is) here.1
-      s.0 rest.0 refl c.args.wanted c.in-Ok.gathered refl (c.in-Ok.ensures.takes here.0 here.1 s.0 s.1 s.2).together c.as_slice.ensures.value;
+      s.0 rest.0 refl c.args.wanted c.in-Some.gathered refl (rw c.in-Some.is at c.in-Ok.ensures.takes here.0 here.1 s.0 s.1 s.2) c.as_slice.ensures.value;
 }
 
 -- they were answered
@@ -80,21 +87,22 @@ returns-in-Ok-write_lines-clause-answers g c = λ w known text begins pending.
     let written = g.W.Recipient.contents c.write_lines.new.self in
     let course = course_of c.args.course.now in
     let later = course_of c.pass_all.new.self in
-    let gathered = c.in-Ok.gathered in
+    let gathered = c.in-Some.gathered in
     let next = c.args.first.now.next in
+    let counts = rw c.in-Some.is at c.in-Ok.ensures.counts in
     let passed = c.pass_all.ensures in
     group_answered functions g.D.Disk.state g.met.D.Disk.sound c.args.wanted course later c.args.self.now c.take_group.new.self w text c.args.rest.now held written known
-    gathered next (gathered.bytes - next) (c.in-Ok.ensures.takes w known text begins pending).together (subst (Writes held written) c.as_slice.ensures.value c.in-Ok-write_lines.ensures.whole) pending
-    (omega (arith, c.in-Ok.ensures.counts.first))
-    (subst (λ (p : Pace). CountsAll (length gathered.batch.records.items) course.pace p) (sym (ap (λ (k : Course). k.pace) passed))
-    (subst (λ n. CountsAll n course.pace (pace_of c.pass.new.self)) (c.len.ensures ∙ gathered.batch.records.ok.0) c.pass.ensures))
-    c.room_before_grown-bytes.result c.room_before_grown-bytes.ensures.grown c.in-Ok.ensures.counts.record_bytes
+    gathered next (gathered.bytes - next) (rw c.in-Some.is at c.in-Ok.ensures.takes w known text begins pending) (subst (Writes held written) c.as_slice.ensures.value c.in-Ok-write_lines.ensures.whole) pending
+    (omega (arith, counts.first))
+    (subst (λ (p : Pace). CountsAll gathered.records course.pace p) (sym (ap (λ (k : Course). k.pace) passed))
+    c.pass.ensures)
+    c.room_before_grown-bytes.result c.room_before_grown-bytes.ensures.grown counts.record_bytes
     (ap (λ (k : Course). k.forms) passed) (ap (λ (k : Course). k.bytes) passed)
 
 pub returns-in-Ok-write_lines-clause-hands : goal.returns-in-Ok-write_lines-clause-hands
 returns-in-Ok-write_lines-clause-hands g c = λ count is.
     let forms = ap (λ (k : Course). k.forms) c.pass_all.ensures in
-    hands_lines g.R.Meaning.Meaning.functions g.D.Disk.state g.met.D.Disk.sound c.in-Ok.gathered.forms (course_of c.args.course.now).forms (course_of c.pass_all.new.self).forms
+    hands_lines g.R.Meaning.Meaning.functions g.D.Disk.state g.met.D.Disk.sound c.in-Some.gathered.forms (course_of c.args.course.now).forms (course_of c.pass_all.new.self).forms
     (g.W.Recipient.account c.args.writer.now) (g.W.Recipient.account c.write_lines.new.self) c.take_group.new.self c.write_lines.ensures.kept forms c.keeps_its_world.ensures
 
 -- the writer failed in their lines
@@ -104,29 +112,32 @@ returns-clause-answers g c = λ w known text begins pending.
     let held = g.W.Recipient.contents c.args.writer.now in
     let written = g.W.Recipient.contents c.write_lines.new.self in
     let course = course_of c.args.course.now in
-    let gathered = c.in-Ok.gathered in
-    let counts = c.in-Ok.ensures.counts in
+    let gathered = c.in-Some.gathered in
+    let counts = rw c.in-Some.is at c.in-Ok.ensures.counts in
     group_unwritten functions g.D.Disk.state g.met.D.Disk.sound c.args.wanted course course c.args.self.now c.take_group.new.self w text c.args.rest.now held written known
-    (grouped c.args.wanted.group c.if-not-wanted.false) gathered counts.some (c.in-Ok.ensures.takes w known text begins pending).together
+    (grouped c.args.wanted.group c.if-not-wanted.false) gathered counts.some (rw c.in-Some.is at c.in-Ok.ensures.takes w known text begins pending)
     (subst (WritesPart held written) c.as_slice.ensures.value c.in-Err-write_lines.ensures.part)
-    (fewer_before_due course.pace (length gathered.batch.records.items) c.before_due-forms.result counts.records c.before_due-forms.ensures)
+    (fewer_before_due course.pace gathered.records c.before_due-forms.result counts.records c.before_due-forms.ensures)
     c.room_before_grown-bytes.result c.room_before_grown-bytes.ensures.grown counts.record_bytes
 
 pub returns-then-matches-clause-under_way : goal.returns-then-matches-clause-under_way
 returns-then-matches-clause-under_way g c = λ ended is.
+    let functions = g.R.Meaning.Meaning.functions in
     let here = known_world c.args.self.now.world c.requires.form.is_open in
     let s = c.requires.stands here.0 here.1 in
-    none_of_group g.R.Meaning.Meaning.functions g.D.Disk.state g.met.D.Disk.sound (g.W.Recipient.account c.args.writer.now) c.args.self.now c.take_group.new.self here.0 c.args.wanted.mode s.0 s.0 c.args.wanted here.1 s.3
-    ((c.in-Err.ensures.takes here.0 here.1 s.0 s.1 s.2).stopped (elim c.match-matches.branch [
-      | in-DeviceFault b ↦ ap is_device b.in-DeviceFault.is
+    let fault : c.in-Err.cause ≡ DeviceFault = elim c.match-matches.branch [
+      | in-DeviceFault b ↦ b.in-DeviceFault.is
       | in_default b ↦ let bad : true ≡ false = sym c.if-matches.true ∙ b.matches-is in absurd (cc)
-    ]))
+    ] in
+    none_of_group functions g.D.Disk.state g.met.D.Disk.sound (g.W.Recipient.account c.args.writer.now) c.args.self.now c.take_group.new.self here.0 c.args.wanted.mode s.0 s.0 c.args.wanted here.1 s.3
+    (subst (λ (e : Unlogged). TakesGroup functions c.args.wanted g.D.Disk.state c.args.self.now c.take_group.new.self here.0 s.0 (Err e)) fault (c.in-Err.ensures.takes here.0 here.1 s.0 s.1 s.2))
 
 pub returns-clause-under_way : goal.returns-clause-under_way
 returns-clause-under_way g c = λ ended is.
     let here = known_world c.args.self.now.world c.requires.form.is_open in
     let s = c.requires.stands here.0 here.1 in
-    let took = (c.in-Ok.ensures.takes here.0 here.1 s.0 s.1 s.2).together in
-    none_handed g.R.Meaning.Meaning.functions g.D.Disk.state g.met.D.Disk.sound 0 c.in-Ok.gathered.forms (g.W.Recipient.account c.args.writer.now) (g.W.Recipient.account c.write_lines.new.self) c.take_group.new.self took.gathers.far.world took.logs.left
-    (hands_lines g.R.Meaning.Meaning.functions g.D.Disk.state g.met.D.Disk.sound c.in-Ok.gathered.forms 0 c.in-Ok.gathered.forms (g.W.Recipient.account c.args.writer.now) (g.W.Recipient.account c.write_lines.new.self) c.take_group.new.self
+    let took = rw c.in-Some.is at c.in-Ok.ensures.takes here.0 here.1 s.0 s.1 s.2 in
+    let stores = far_stored g.R.Meaning.Meaning.functions c.args.wanted g.D.Disk.state c.args.self.now c.take_group.new.self here.0 s.0 c.in-Some.gathered took in
+    none_handed g.R.Meaning.Meaning.functions g.D.Disk.state g.met.D.Disk.sound 0 c.in-Some.gathered.forms (g.W.Recipient.account c.args.writer.now) (g.W.Recipient.account c.write_lines.new.self) c.take_group.new.self took.makes.far.world stores.logs.left
+    (hands_lines g.R.Meaning.Meaning.functions g.D.Disk.state g.met.D.Disk.sound c.in-Some.gathered.forms 0 c.in-Some.gathered.forms (g.W.Recipient.account c.args.writer.now) (g.W.Recipient.account c.write_lines.new.self) c.take_group.new.self
     c.write_lines.ensures.kept (omega arith) c.keeps_its_world.ensures)

@@ -50,7 +50,7 @@ returns-in-Err-clause-tries g c = λ w known text next begins.
     let functions = g.R.Meaning.Meaning.functions in
     form_stops functions g.D.Disk.state g.met.D.Disk.sound c.args.self.now c.take_reply.new.self w c.args.mode text (g.W.Recipient.contents c.args.writer.now) (g.W.Recipient.contents c.args.writer.now)
     known begins.start begins.stop next (object_of c.args.form.now.datum) begins.reads c.args.own.now begins.is_own c.in-Err.failure _
-    c.in-Err.ensures.left (c.number.ensures ∙ ap failure_number c.from.ensures) refl
+    c.in-Err.ensures.left c.number.ensures refl
 
 pub returns-in-Ok-write_lines-clause-tries : goal.returns-in-Ok-write_lines-clause-tries
 returns-in-Ok-write_lines-clause-tries g c = λ w known text next begins.
@@ -82,7 +82,7 @@ returns-clause-tries g c = λ w known text next begins.
 pub returns-in-Err-clause-unchanged : goal.returns-in-Err-clause-unchanged
 returns-in-Err-clause-unchanged g c =
     let functions = g.R.Meaning.Meaning.functions in
-    full_unchanged functions c.args.self.now c.take_reply.new.self (of_unlogged c.in-Err.failure) _ c.in-Err.ensures.left.unchanged (c.number.ensures ∙ ap failure_number c.from.ensures)
+    full_unchanged functions c.args.self.now c.take_reply.new.self (of_unlogged c.in-Err.failure) _ c.in-Err.ensures.left.unchanged c.number.ensures
 
 pub returns-in-Err-clause-under_way : goal.returns-in-Err-clause-under_way
 returns-in-Err-clause-under_way g c =

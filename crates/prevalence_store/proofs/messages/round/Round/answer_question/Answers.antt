@@ -1,7 +1,7 @@
 use Rattle.std.proofs.Common.{subst, sym, ◌∙◌, ap}
 use Rattle.plist_state.specs.State.{Worlds}
 use Rattle.prevalence_store.specs.messages.Rounds.{IsMade, round_in}
-use Rattle.prevalence_store.specs.steps.Batch.{IsMarkedFirst}
+use Rattle.prevalence_store.specs.steps.Batch.{IsMarked}
 use Rattle.prevalence_store.proofs.requests.Making.{asked_round, told_made}
 use Rattle.prevalence_store.proofs.messages.round.Round.answer_question.Goals as goal
 
@@ -20,13 +20,13 @@ returns-in-Ok-push-clause-made g c = λ first made.
     (ap (λ (s : Worlds). s.0) c.answer_question.ensures.same) (c.in-Ok.ensures.made first made))
 
 pub returns-in-Ok-push-clause-marks : goal.returns-in-Ok-push-clause-marks
-returns-in-Ok-push-clause-marks g c = λ first marked.
-    subst (λ (s : Worlds). IsMarkedFirst first s.1) (sym c.answer_question.ensures.same) (c.clear.ensures.marks first marked)
+returns-in-Ok-push-clause-marks g c = λ worlds marked.
+    subst (λ (s : Worlds). IsMarked worlds s.1) (sym c.answer_question.ensures.same) (c.clear.ensures.marks worlds marked)
 
 pub returns-in-Err-push-clause-marks : goal.returns-in-Err-push-clause-marks
-returns-in-Err-push-clause-marks g c = λ first marked.
-    subst (λ (s : Worlds). IsMarkedFirst first s.1) (sym c.answer_question.ensures.same) (c.clear.ensures.marks first marked)
+returns-in-Err-push-clause-marks g c = λ worlds marked.
+    subst (λ (s : Worlds). IsMarked worlds s.1) (sym c.answer_question.ensures.same) (c.clear.ensures.marks worlds marked)
 
 pub returns-in-Err-answer_question-clause-marks : goal.returns-in-Err-answer_question-clause-marks
-returns-in-Err-answer_question-clause-marks g c = λ first marked.
-    subst (λ (s : Worlds). IsMarkedFirst first s.1) (sym c.answer_question.ensures.same) (c.clear.ensures.marks first marked)
+returns-in-Err-answer_question-clause-marks g c = λ worlds marked.
+    subst (λ (s : Worlds). IsMarked worlds s.1) (sym c.answer_question.ensures.same) (c.clear.ensures.marks worlds marked)
