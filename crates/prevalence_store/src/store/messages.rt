@@ -1,5 +1,5 @@
 // Messages with numbers, and questions, over a store.
-ghost use Rattle.std.specs.Prelude.{◌≡◌, ◌≢◌, ℕ, ◌<◌, ◌≤◌, [], false, length, None, Some, IsSome, IfOk, IfErr, Err};
+ghost use Rattle.std.specs.Prelude.{◌≡◌, ◌≢◌, ◌<◌, ◌≤◌, [], false, length, None, Some, IfOk, IfErr, Err};
 ghost use Rattle.std.specs.Option.{option_and_then};
 ghost use Rattle.lisp_object.specs.declared.refusal.TheConstants.{DEVICE as DEVICE_FAULT, REOPEN as NOT_OPEN};
 ghost use Rattle.plist_state.specs.State.{WorldState};
