@@ -30,7 +30,7 @@ together-requires-clause-needs g c = λ w known.
 
 pub returns-clause-takes : goal.returns-clause-takes
 returns-clause-takes g c = λ w known text begins goes_on.
-    forms_taken g.R.Meaning.Meaning.functions g.D.Disk.state c.args.turn.now c.args.self.now c.together.new.self w text begins goes_on c.together.result (c.together.ensures.made w known) (c.together.ensures.left w known)
+    forms_taken g.R.Meaning.Meaning.functions c.args.turn.now w g.D.Disk.state c.args.self.now c.together.new.self text begins goes_on c.together.result (c.together.ensures.made w known) (c.together.ensures.left w known)
 
 pub returns-clause-counts : goal.returns-clause-counts
 returns-clause-counts g c =

@@ -9,15 +9,15 @@ use Rattle.prevalence_store.proofs.session.whole_forms.WholeForms.gather.Given a
 abbrev pub invariant-forms : goal.invariant-forms
 invariant-forms g l =
     let turn = l.self in
-    let first = turn.first.now in
+    let form = turn.first.now in
     record {
-      gathers : (text : List ℕ) → BeginsWhole g.R.Meaning.Meaning.functions l.fn.world.0 turn.wanted.mode text (object_of first.read.datum) first.own.items first.next → drop first.next text ≡ turn.rest.now
+      gathers : (text : List ℕ) → BeginsWhole g.R.Meaning.Meaning.functions l.fn.world.0 turn.wanted.mode text (object_of form.read.datum) form.own.items form.next → drop form.next text ≡ turn.rest.now
           → IsGathered g.R.Meaning.Meaning.functions turn.wanted l.fn.world.0 text l.world.0 (entries_in l.batch) l.gathered × (drop l.gathered.bytes text ≡ l.rest);
       marks : (worlds : Worlds) → IsMarked worlds l.fn.world.1 → IsMarked worlds l.world.1;
       some : 0 < l.gathered.forms;
       forms : l.gathered.forms ≤ l.gathered.bytes;
-      first : first.next ≤ l.gathered.bytes;
-      bytes : l.gathered.bytes + length l.rest ≡ first.next + length turn.rest.now;
+      first : form.next ≤ l.gathered.bytes;
+      bytes : l.gathered.bytes + length l.rest ≡ form.next + length turn.rest.now;
       counted : l.gathered.records ≡ length l.batch.records.items;
       records : l.gathered.records ≤ turn.limit.forms;
       record_bytes : l.gathered.record_bytes ≤ turn.limit.bytes;
