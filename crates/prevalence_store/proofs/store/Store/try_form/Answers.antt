@@ -1,9 +1,9 @@
-use Rattle.std.proofs.Common.{[], Some, ap, refl, subst, ◌∙◌}
+use Rattle.std.proofs.Common.{[], Some, refl, subst}
 use Rattle.lisp_object.specs.Datum.{object_of}
 use Rattle.plist_state.specs.Sound.{IsSound}
 use Rattle.plist_state.specs.State.{WorldState}
 use Rattle.prevalence_store.specs.calls.Streams.{Writes, WritesPart}
-use Rattle.prevalence_store.specs.steps.Failure.{failure_number, of_unlogged}
+use Rattle.prevalence_store.specs.steps.Failure.{of_unlogged}
 use Rattle.prevalence_store.proofs.calls.Executing.{known_world, world_inside}
 use Rattle.prevalence_store.proofs.steps.Pendings.{begins_whole, may_evaluate}
 use Rattle.prevalence_store.proofs.steps.FormAnswers.{form_answered, form_stops, form_unwritten, full_unchanged, line_known}
