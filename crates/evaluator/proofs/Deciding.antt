@@ -94,7 +94,7 @@ no_more : (items : List Datum) (i : ℕ) → i ≡ length items → list_of (map
 no_more items i end = ap (λ l. list_of (map object_of l)) (ap (λ n. drop n items) end ∙ drop-length items)
 
 -- ---- AND and OR
-sought_of : (names : List Name) (truth : Bool) (s : WorldState) (x xs : Object)
+pub sought_of : (names : List Name) (truth : Bool) (s : WorldState) (x xs : Object)
     → sought names truth s (pair x xs) ≡ and_then (value names s x) (λ y later. cond (has_truth truth y) (gives y later) (cond (is_pair xs) (sought names truth later xs) (gives y later)))
 unfolding value_over
 sought_of names truth s x xs = refl
@@ -163,7 +163,7 @@ no_clauses items i end = ap are_clauses (no_more items i end)
 pub conditional_is : (names : List Name) (s : WorldState) (forms : Object) → are_clauses forms ≡ true → conditional names s forms ≡ selected names s forms
 conditional_is names s forms all = ap (λ b. cond b (selected names s forms) (Err ARGUMENT_KIND)) all
 
-selected_of : (names : List Name) (s : WorldState) (test forms others : Object)
+pub selected_of : (names : List Name) (s : WorldState) (test forms others : Object)
     → selected names s (pair (pair test forms) others) ≡ and_then (value names s test) (λ y later. cond (is_true y) (cond (is_pair forms) (sequence_value names later forms) (gives y later)) (selected names later others))
 unfolding value_over
 selected_of names s test forms others = refl
@@ -220,7 +220,7 @@ module _ (names : List Name) (s t : WorldState) (items clause : List Datum) (i :
       ∙ ap (λ l. also d.wrote (sequence_value names t l)) (sym (arguments_from clause))
 
 -- ---- WHEN and UNLESS
-guarded_of : (names : List Name) (truth : Bool) (s : WorldState) (x forms : Object)
+pub guarded_of : (names : List Name) (truth : Bool) (s : WorldState) (x forms : Object)
     → guarded names truth s (pair x forms) ≡ and_then (value names s x) (λ y later. cond (has_truth truth y) (sequence_value names later forms) (gives nil later))
 unfolding value_over
 guarded_of names truth s x forms = refl

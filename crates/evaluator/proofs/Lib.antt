@@ -18,8 +18,10 @@ pub mod FunctionLaws
 pub mod ListValues
 pub mod Induction
 pub mod SilentForms
+pub mod Decisions
 pub mod SoundForms
 pub mod NumberedForms
 pub mod KeepingForms
 pub mod Widening
+pub mod EarlierOperators
 pub mod WithoutBase

@@ -1,4 +1,6 @@
 pub mod Operators
+pub mod EarlierOperators
+pub mod DecidingForms
 pub mod Value
 pub mod Operations
 pub mod Gathered

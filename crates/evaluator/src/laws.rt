@@ -8,6 +8,7 @@ ghost use Rattle.plist_state.specs.Sound.{IsSound, IsValue};
 ghost use Rattle.lisp_operators.specs.Evaluation.{Done};
 ghost use Rattle.lisp_operators.specs.Readtables.{AreCovered, AreFunctionNames};
 ghost use Rattle.evaluator.specs.Operators.{OperatorTable, AreOperatorsAmong, standard_operator_of};
+ghost use Rattle.evaluator.specs.EarlierOperators.{operators_before_deciding, operators_before_places};
 ghost use Rattle.evaluator.specs.Value.{value, value_by, value_over};
 
 /// The value of a form that writes nothing leaves the state as it was. For proofs: it does nothing.
@@ -39,7 +40,8 @@ pub fn values_are_refused_by_evaluation()
 {}
 
 /// What a form gives with the operators of one table, it gives with those of another that has the same ones and more. So where
-/// a symbol becomes an operator, each form that had a value keeps it. Both with and without the variable `*READ-BASE*`. For
+/// a symbol becomes an operator, each form that had a value keeps it: with the operators of COMMON-LISP alone, with those before
+/// AND and its like, and with those before FIND-SYMBOL, DECF and their like. Both with and without the variable `*READ-BASE*`. For
 /// proofs: it does nothing.
 pub fn more_operators_change_no_value()
     ensures tables { (based : Bool) (fewer more : OperatorTable) (s : WorldState) (x : Object)
@@ -47,4 +49,8 @@ pub fn more_operators_change_no_value()
         → value_over based fewer s x ≡ Ok d → value_over based more s x ≡ Ok d }
     ensures standard { (based : Bool) (names : List Name) (s : WorldState) (x : Object)
         → (d : Done Object) → value_over based (standard_operator_of names) s x ≡ Ok d → value_by based names s x ≡ Ok d }
+    ensures before_deciding { (based : Bool) (names : List Name) (s : WorldState) (x : Object)
+        → (d : Done Object) → value_over based (operators_before_deciding names) s x ≡ Ok d → value_by based names s x ≡ Ok d }
+    ensures before_places { (based : Bool) (names : List Name) (s : WorldState) (x : Object)
+        → (d : Done Object) → value_over based (operators_before_places names) s x ≡ Ok d → value_by based names s x ≡ Ok d }
 {}

@@ -25,6 +25,8 @@
 //! - proofs/NumberedForms.antt: a form is refused under a number of evaluation.
 //! - proofs/FunctionLaws.antt: what these laws ask of an operator, for the functions of values alone.
 //! - proofs/Widening.antt: of two evaluations the second gives what the first gives: one induction for all laws of this kind.
+//! - proofs/EarlierOperators.antt: the operators that earlier programs had are among those there are.
+//! - proofs/Decisions.antt: AND, OR, COND, WHEN and UNLESS have the values of the forms that the standard gives for them.
 //! - proofs/WithoutBase.antt: what a form gives where `*READ-BASE*` is no variable.
 //! - proofs/Induction.antt: one induction over the value of a form, in which what holds of each step holds of it (`every_value`).
 #![tactic(auto)]

@@ -1,11 +1,14 @@
 //! What holds of every form, for proofs.
-ghost use Rattle.std.specs.Prelude.{ℕ, Bool, ◌≡◌, ◌≤◌, true, false, List, Ok, Err};
-ghost use Rattle.lisp_object.specs.Object.{Object};
+ghost use Rattle.std.specs.Prelude.{ℕ, Bool, ◌≡◌, ◌≤◌, true, false, List, [], ◌∷◌, Ok, Err};
+ghost use Rattle.lisp_object.specs.Object.{Object, pair, nil, list_of, is_proper_list};
 ghost use Rattle.package_table.specs.Table.{Name};
 ghost use Rattle.plist_state.specs.State.{WorldState};
 ghost use Rattle.plist_state.specs.Sound.{IsSound};
-ghost use Rattle.lisp_operators.specs.Evaluation.{Done, also};
+ghost use Rattle.lisp_operators.specs.Evaluation.{Done, also, gives};
+ghost use Rattle.lisp_operators.specs.Properties.{t};
 ghost use Rattle.evaluator.specs.Operators.{OperatorTable, AreOperatorsAmong, standard_operator_of};
+ghost use Rattle.evaluator.specs.Value.{value, are_clauses};
+ghost use Rattle.evaluator.specs.DecidingForms.{if_form, progn_form, and_form, or_form, cond_form, when_form, unless_form};
 ghost use Rattle.form_eval.specs.Acceptance.{accept, accept_by, accept_over, asked};
 ghost use Rattle.lisp_operators.specs.Readtables.{AreCovered, AreFunctionNames};
 ghost use Rattle.form_eval.specs.Laws.{IsForm, IsSoundAfter};
@@ -63,4 +66,42 @@ pub fn more_operators_change_no_form()
 pub fn questions_are_answered_as_forms()
     ensures { (names : List Name) (s : WorldState) (x : Object)
         → (new : Bool) × (accept names s x ≡ also new (asked names s x)) }
+{}
+
+/// The forms that decide have the values of those that the standard gives for them (5.3), in the same states, or the same refusals:
+/// WHEN, UNLESS, AND and COND by IF and PROGN; OR by IF where the form that would be evaluated twice writes nothing, and in any
+/// case by COND. For proofs: it does nothing.
+pub fn decisions_are_those_of_if()
+    ensures guarded { (names : List Name) (s : WorldState) (x forms : Object)
+        → is_proper_list forms ≡ true
+        → (value names s (when_form x forms) ≡ value names s (if_form x (progn_form forms) nil))
+        × (value names s (unless_form x forms) ≡ value names s (if_form x nil (progn_form forms))) }
+    ensures none { (names : List Name) (s : WorldState)
+        → (value names s (and_form nil) ≡ gives t s) × (value names s (or_form nil) ≡ gives nil s)
+        × (value names s (cond_form nil) ≡ gives nil s) }
+    ensures one { (names : List Name) (s : WorldState) (x : Object)
+        → (value names s (and_form (pair x nil)) ≡ value names s x)
+        × (value names s (or_form (pair x nil)) ≡ value names s x) }
+    ensures and { (names : List Name) (s : WorldState) (x y others : Object)
+        → is_proper_list others ≡ true
+        → value names s (and_form (pair x (pair y others)))
+        ≡ value names s (if_form x (and_form (pair y others)) nil) }
+    ensures or { (names : List Name) (s : WorldState) (x y others : Object)
+        → is_proper_list others ≡ true
+        → value names s (or_form (pair x (pair y others)))
+        ≡ value names s (cond_form (list_of (pair x nil ∷ list_of (t ∷ or_form (pair y others) ∷ []) ∷ []))) }
+    ensures silent_or { (names : List Name) (s : WorldState) (x y others : Object) (d : Done Object)
+        → is_proper_list others ≡ true
+        → value names s x ≡ Ok d → d.wrote ≡ false
+        → value names s (or_form (pair x (pair y others)))
+        ≡ value names s (if_form x x (or_form (pair y others))) }
+    ensures clause { (names : List Name) (s : WorldState) (x y forms clauses : Object)
+        → is_proper_list forms ≡ true
+        → is_proper_list clauses ≡ true → are_clauses clauses ≡ true
+        → value names s (cond_form (pair (pair x (pair y forms)) clauses))
+        ≡ value names s (if_form x (progn_form (pair y forms)) (cond_form clauses)) }
+    ensures test { (names : List Name) (s : WorldState) (x clauses : Object)
+        → is_proper_list clauses ≡ true → are_clauses clauses ≡ true
+        → value names s (cond_form (pair (pair x nil) clauses))
+        ≡ value names s (or_form (list_of (x ∷ cond_form clauses ∷ []))) }
 {}
