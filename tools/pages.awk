@@ -9,6 +9,7 @@
 BEGIN {
     kinds["Form|Value|Writes|Refusals"] = "operator"
     kinds["Form|Value|Refusals"] = "function"
+    kinds["Form|Value|Does it write|Refusals"] = "function of the world"
     kinds["Form|Answer|"] = "example"
     kinds["In the table|What it is"] = "letter"
     kinds["In the table of functions|What it is"] = "function letter"
@@ -32,12 +33,20 @@ function plain(cell) {
     return cell
 }
 
-# Whether a name is among the words of a form.
+# Whether a name is among the words of a form, by itself or with its package.
 function has_word(form, name,    words, count, at) {
     gsub(/[()\[\]',]/, " ", form)
     count = split(form, words, " ")
     for (at = 1; at <= count; at++)
-        if (words[at] == name)
+        if (words[at] == name || words[at] == "PAZTURROK::" name)
+            return 1
+    return 0
+}
+
+# Whether COMMON-LISP has an operator of the name that is asked for, in the tables so far.
+function is_operator(    at) {
+    for (at = 1; at <= form_count; at++)
+        if (!is_function[at] && has_word(forms[at], asked))
             return 1
     return 0
 }
@@ -98,6 +107,14 @@ kind == "operator" {
     refusals[form_count] = cells[5]
 }
 
+kind == "function of the world" {
+    forms[++form_count] = cells[2]
+    values[form_count] = cells[3]
+    writes[form_count] = cells[4]
+    refusals[form_count] = cells[5]
+    is_function[form_count] = 1
+}
+
 kind == "function" {
     forms[++form_count] = cells[2]
     values[form_count] = cells[3]
@@ -110,7 +127,7 @@ kind == "function" {
 # refused is worth 2, and one that has the name elsewhere 1.
 kind == "example" {
     worth = 0
-    if (index(cells[2] " ", "(" asked " ") == 1 || index(cells[2], "(PAZTURROK::" asked " ") == 1)
+    if (index(cells[2] " ", "(" asked " ") == 1 || index(cells[2], "(" asked ")") == 1 || (index(cells[2], "(PAZTURROK::" asked " ") == 1 && !is_operator()))
         worth = substr(cells[3], 1, 1) == "!" ? 2 : 3
     else if (has_word(cells[2], asked) && substr(cells[3], 1, 1) != "!")
         worth = 1
@@ -190,7 +207,7 @@ function tell_operator(    at, found, text, of_functions) {
     for (at = 1; at <= form_count; at++)
         if (has_word(forms[at], asked)) {
             found = 1
-            of_functions = is_function[at] + 0
+            of_functions = is_function[at] && (text == "" || of_functions)
             print forms[at]
             tell("Value: " values[at], 2)
             tell("Writes: " writes[at], 2)
@@ -218,7 +235,7 @@ function tell_forms(of_functions,    at) {
         if (is_function[at] + 0 != of_functions)
             continue
         print ".TP\n.B \"" escaped(forms[at]) "\""
-        print escaped(values[at] "." (of_functions ? "" : " Writes: " writes[at] "."))
+        print escaped(values[at] "." (writes[at] == "no" && of_functions ? "" : " Writes: " writes[at] "."))
         if (refusals[at] != "")
             print escaped("Refused with: " refusals[at] ".")
     }

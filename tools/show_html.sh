@@ -33,7 +33,7 @@ read_words_of_show() {
 look_at_page() {
     case $page in -*) page=./$page ;; esac
     # shellcheck disable=SC3013 # no standard has -ef, and each shell of Linux does
-    if [ "$(dirname "$page")" -ef "$folder" ]; then
+    if [ "$(dirname "$(readlink -f -- "$page")")" -ef "$folder" ]; then
         refuse "$page is in the folder of the store: name a file elsewhere"
     fi
     if [ -s "$page" ] && [ -f "$page" ] && [ "$(head -c 15 "$page")" != '<!DOCTYPE html>' ]; then
@@ -69,5 +69,7 @@ show_html() {
             *) printf '%s\n' "$line" ;;
         esac
     done <"$parts/world.html" >"$room/page"
+    # it has all that the store holds, so nobody else may read it, as with the files of the store
+    umask 077
     cat "$room/page" >"$page" || exit 3
 }

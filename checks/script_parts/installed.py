@@ -27,7 +27,7 @@ def check_proved(script, room):
         is_refused("words", script, *words, says="takes")
     prefix = os.path.join(room, "prefix")
     done = called(script, "install", prefix)
-    check("install", (done[0], done[1].count(prefix.encode()), done[2]), (0, 9, b""))
+    check("install", (done[0], done[1].count(prefix.encode()), done[2]), (0, 11, b""))
     moved = os.path.join(room, "moved")
     os.rename(prefix, moved)
     there = os.path.join(moved, "bin", "pazturrok")

@@ -7,6 +7,9 @@ from calls import PLAIN, TOP, called, check, is_refused
 
 Told = Tuple[int, bytes, bytes]
 
+# The one operator of PAZTURROK whose plain name another one has.
+OWN_INCREMENT = "PAZTURROK::INCF"
+
 
 def page(name: str) -> str:
     """A page on the use of the language."""
@@ -34,7 +37,7 @@ def operator_told(script: str, operator: str, rows: List[str]) -> None:
 def function_told(script: str, function: str, rows: List[str]) -> None:
     """The help of a function has the forms of its row and what comes of them, says whose function it is, and takes a letter for none of an operator."""
     status, out, err = told(script, function)
-    forms = [" ".join(re.findall(r"`([^`]*)`", row.split("|")[1])) for row in rows if f"`({function} " in row]
+    forms = [" ".join(re.findall(r"`([^`]*)`", row.split("|")[1])) for row in rows if re.match(rf"\| (`[^`]*` )*`\({re.escape(function)}[ )]", row)]
     lines = out.decode().splitlines()
     check(f"help of {function}", (status, err, len(forms), lines[:1], "of the package PAZTURROK" in out.decode()), (0, b"", 1, forms, True))
     check(f"letters of {function}", b"stands for its name\n" in out or b"an n that names" in out, False)
@@ -43,9 +46,9 @@ def function_told(script: str, function: str, rows: List[str]) -> None:
 
 def check_functions(script: str) -> None:
     """The help of each function: those of the page are those that lisp/operators.lisp makes known."""
-    tables = page("operators.md").split("\n| Form | Value | Refusals |\n")[1:]
+    tables = re.split(r"\n\| Form \| Value \| (?:Does it write \| )?Refusals \|\n", page("operators.md"))[1:]
     rows = [row for table in tables for row in table.split("\n\n")[0].splitlines() if row.startswith("| `")]
-    of_page = {name for row in rows for name in re.findall(r"`\(([^ )]+)[^`]*`", row.split("|")[1])}
+    of_page = {name for row in rows for name in re.findall(r"`\(([^ )]+)[^`]*`", row.split("|")[1])} - {OWN_INCREMENT}
     with open(os.path.join(TOP, "lisp", "operators.lisp"), encoding="ascii") as file:
         made_known = set(re.findall(r"PAZTURROK::([^ )\n]+)", file.read()))
     check("functions of the page", (sorted(of_page), len(of_page) > 30), (sorted(made_known), True))
@@ -56,10 +59,19 @@ def check_functions(script: str) -> None:
         check(f"no function {word}", told(script, word)[:2], (2, b""))
 
 
+def check_increment(script: str) -> None:
+    """INCF is an operator of COMMON-LISP, and one with a default is a symbol of PAZTURROK: the help has both."""
+    out = told(script, "INCF")[1].decode()
+    check("both forms", [line for line in out.splitlines() if line.startswith("(")], ["(INCF (GET s i) [x])", f"({OWN_INCREMENT} (GET s i [x]) [k])"])
+    check("with its package", told(script, OWN_INCREMENT), told(script, "INCF"))
+
+
 def check_all(script: str) -> None:
     """Checks all of it."""
     check_functions(script)
-    rows = re.findall(r"^\| `(\([^`]*)` \|.*\| (?:yes|no|if [^|]*) \|.*\|$", page("operators.md"), re.M)
+    check_increment(script)
+    of_operators = page("operators.md").split("| Does it write |")[0]
+    rows = re.findall(r"^\| `(\([^`]*)` \|.*\| (?:yes|no|if [^|]*) \|.*\|$", of_operators, re.M)
     operators = {row[1:].replace(")", " ").split()[0] for row in rows}
     check("rows of the page", (len(rows) >= 27, "GET" in operators), (True, True))
     for operator in sorted(operators):

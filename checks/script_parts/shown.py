@@ -27,6 +27,7 @@ def of_a_store(script: str, room: str) -> None:
     called(script, "run", store, stdin=FORMS)
     world, log = (called(script, *words)[1] for words in (("dump", store, "--existing"), ("log", store)))
     check("no words are written", called(script, "show", store, "--html", page), (0, b"", b""))
+    check("who may read it", oct(os.stat(page).st_mode & 0o777), oct(0o600))
     found = parts_of(page)
     check("the blocks", sorted(found), ["folder", "info", "log", "made", "world"])
     check("the world and the log", (found["world"], found["log"]), (world, log))
@@ -39,7 +40,9 @@ def of_a_store(script: str, room: str) -> None:
     half = os.path.join(store, "half-a")
     with open(half, "rb") as file:
         before = file.read()
-    for place in (half, f"{room}/./store of a page/page.html"):
+    link = os.path.join(room, "link to a half")
+    os.symlink(os.path.join(store, "half-b"), link)
+    for place in (half, link, f"{room}/./store of a page/page.html"):
         is_refused("a file of the store", script, "show", store, "--html", place, says="in the folder of the store")
     with open(half, "rb") as file:
         check("the half", (file.read(), sorted(os.listdir(store))), (before, ["half-a", "half-b"]))
