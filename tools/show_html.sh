@@ -32,6 +32,7 @@ read_words_of_show() {
 # Refuses a place in the folder of the store, and what is there already and no page.
 look_at_page() {
     case $page in -*) page=./$page ;; esac
+    [ -d "$(dirname "$page")" ] || refuse "the folder of $page is not there"
     # shellcheck disable=SC3013 # no standard has -ef, and each shell of Linux does
     if [ "$(dirname "$(readlink -f -- "$page")")" -ef "$folder" ]; then
         refuse "$page is in the folder of the store: name a file elsewhere"

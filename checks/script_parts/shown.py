@@ -58,6 +58,7 @@ def check_all(script: str, room: str) -> None:
     none = os.path.join(room, "none")
     status, out, _ = called(script, "show", none, "--html", none + ".html")
     check("no store", (status, out, os.path.exists(none), os.path.exists(none + ".html")), (3, b"", False, False))
+    is_refused("no place", script, "show", none, "--html", os.path.join(none, "page.html"), says="is not there")
     is_refused("no folder", script, "show", "--html", none, says="a folder is missing")
     is_refused("no file", script, "show", none, "--html", says="a file is missing")
     is_refused("two folders", script, "show", none, none, "--html", none, says="takes one folder")
