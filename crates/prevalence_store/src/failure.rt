@@ -37,9 +37,9 @@ impl Unlogged {
     }
 }
 
-/// Why a form that was read was not accepted.
+/// Why a form that was read was not accepted, as clauses have it: an `Unadded`, or an `Unlogged`.
 #[derive(Clone, Copy)]
-pub(crate) enum Failure {
+pub enum Failure {
     /// Evaluation refused it, with this number.
     Refused(u16),
     /// Its record would pass the half's limit.

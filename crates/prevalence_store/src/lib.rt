@@ -89,7 +89,7 @@ mod turn;
 mod whole_macros;
 
 pub use batch::Batch;
-pub use failure::{Unadded, Unlogged};
+pub use failure::{Failure, Unadded, Unlogged};
 pub use laws::{
     form_numbers, fresh_files, headline, one_world, recoveries, version_1_stays,
     what_is_answered_is_stored,
