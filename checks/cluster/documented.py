@@ -5,6 +5,7 @@ import contextlib
 import json
 import os
 import re
+import shutil
 import signal
 import subprocess
 import time
@@ -17,6 +18,7 @@ from watched import until
 
 TOP = os.path.join(HERE, "..", "..")
 PAGE = os.path.join(TOP, "cluster", "README.md")
+PAGE_OF_REPLACING = os.path.join(TOP, "docs", "run", "machines.md")
 NET = "10.0.0."
 LEFT_OUT = ("apt-get", "scp ")
 """Commands that install packages, or copy to another machine: all places of this check have one folder of certificates."""
@@ -55,11 +57,22 @@ class Machines:
         self.clients = clients if has_tls else without_tls(clients)
         lines = lines if has_tls else without_tls(lines)
         subprocess.run(["bash", "-c", in_room("\n".join(keys), room)], cwd=TOP, check=True, capture_output=True)
-        self.shells = []
+        self.words = [words_of_machine(lines, place, room, program) for place in range(3)]
+        self.shells = {}
         for place in range(3):
-            shell = [*self.net.words(place), "bash", "-c", words_of_machine(lines, place, room, program) + "\nwait"]
-            with open(os.path.join(room, f"shell-{place}"), "wb") as log:
-                self.shells.append(subprocess.Popen(shell, cwd=TOP, stdin=subprocess.DEVNULL, stderr=log, start_new_session=True))
+            self.start(place)
+
+    def start(self, place, etcd="etcd "):
+        """Carries the commands of a machine out, with these words for etcd."""
+        shell = [*self.net.words(place), "bash", "-c", self.words[place].replace("\netcd ", "\n" + etcd) + "\nwait"]
+        with open(os.path.join(self.room, f"shell-{place}"), "wb") as log:
+            self.shells[place] = subprocess.Popen(shell, cwd=TOP, stdin=subprocess.DEVNULL, stderr=log, start_new_session=True)
+
+    def lose(self, place):
+        """A machine dies, and all that it had is gone, but for its certificate."""
+        os.killpg(self.shells[place].pid, signal.SIGKILL)
+        self.shells[place].wait()
+        shutil.rmtree(os.path.join(self.room, "abc"[place]))
 
     def etcd(self, place):
         """The process of etcd on a place."""
@@ -80,7 +93,7 @@ class Machines:
         return told.stdout or told.stderr
 
     def end(self):
-        for shell in self.shells:
+        for shell in self.shells.values():
             os.killpg(shell.pid, signal.SIGKILL)
             shell.wait()
         self.net.end()
@@ -104,6 +117,35 @@ def documented(folder, program):
         told = machines.answer(1, first, look)
         took = time.monotonic() - began
         return faults + ([] if told == "(1 2)\n" and took < LONG / 2 else [f"without its own member a node answers {told!r} after {took:.0f} s"])
+    finally:
+        machines.end()
+
+
+def commands_of_replacing():
+    """Those by which the page on several machines replaces the machine b."""
+    with open(PAGE_OF_REPLACING, encoding="utf-8") as page:
+        told = page.read().partition("### Replacing a machine\n")[2]
+    return [line.strip() for line in re.findall(r"(?m)(?:^    .*\n)+", told)[0].splitlines()]
+
+
+def replaced(folder, program):
+    """A machine loses all that it has: by the commands of the page it comes again, and has what the others have."""
+    if not apart.may() or not shutil.which("etcdctl"):
+        print("cluster: there is no etcdctl here, or no namespaces: the commands by which a machine is replaced were not tried", flush=True)
+        return []
+    machines = Machines(folder, program)
+    try:
+        until(lambda: all("INFO ready" in machines.told(place) for place in range(3)))
+        first, put, look = machines.clients
+        machines.answer(0, first, put)
+        machines.lose(1)
+        keys, *others = commands_of_replacing()
+        for line in others:
+            until(lambda line=line: machines.answer(0, "set -e", keys, line + " && echo done").endswith("done\n"))
+        machines.start(1, "etcd --initial-cluster-state existing ")
+        until(lambda: "INFO ready" in machines.told(1))
+        told = machines.answer(1, first, look)
+        return [] if told == "(1 2)\n" else [f"a machine that was replaced answers {told!r}: {machines.told(1)[-500:]}"]
     finally:
         machines.end()
 
@@ -191,8 +233,8 @@ def leader_of(cluster):
     raise TimeoutError("no member leads")
 
 
-LONG_ONES = ("own member", "stopped leader", "documented without certificates")
+LONG_ONES = ("own member", "stopped leader", "documented without certificates", "replaced")
 PARTS = {
-    "documented": documented, "documented without certificates": without_certificates, "own member": own_member,
+    "documented": documented, "replaced": replaced, "documented without certificates": without_certificates, "own member": own_member,
     "stopped leader": stopped_leader,
 }  # fmt: skip

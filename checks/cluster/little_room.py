@@ -113,6 +113,7 @@ def exceeded(folder, program):
             except OSError:
                 pass
             count += 1
+        until(lambda: "NOSPACE" in str(until_health(path, 503)))
         status, told = until_health(path, 503)
         faults = [] if status == 503 and "NOSPACE" in str(told) else [f"beside a full etcd: {status} {told}"]
         told = Client(cluster.places).request(b"do full", ADD)

@@ -12,17 +12,22 @@ def openssl(*words):
 
 
 class Secrets:
-    """`ca` signs, `certificate` and `key` are of this machine, `both` has the two in one file."""
+    """`ca` signs, `certificate` and `key` are of this machine, `both` has the two in one file. Another one may be the signer; with 0 days they are
+    over at once."""
 
-    def __init__(self, folder, name="pazturrok", places=HERE):
+    def __init__(self, folder, name="pazturrok", places=HERE, signer=None, days=2):
         self.ca, self.key, self.certificate, self.both = (os.path.join(folder, f"{name}.{kind}") for kind in ("ca", "key", "crt", "pem"))
         ca_key, request, uses = (os.path.join(folder, f"{name}.{kind}") for kind in ("ca-key", "csr", "uses"))
         curve = ["-newkey", "ec", "-pkeyopt", "ec_paramgen_curve:prime256v1", "-nodes"]
-        openssl("req", "-x509", *curve, "-days", "2", "-subj", f"/CN={name} signs", "-keyout", ca_key, "-out", self.ca)
+        if signer:
+            self.ca, ca_key = signer.ca, signer.ca_key
+        else:
+            openssl("req", "-x509", *curve, "-days", "2", "-subj", f"/CN={name} signs", "-keyout", ca_key, "-out", self.ca)
+        self.ca_key = ca_key
         openssl("req", *curve, "-subj", f"/O={name}", "-keyout", self.key, "-out", request)
         with open(uses, "w", encoding="ascii") as file:
             file.write(USES.format(places))
-        openssl("x509", "-req", "-in", request, "-CA", self.ca, "-CAkey", ca_key, "-CAcreateserial", "-days", "2", "-extfile", uses,
+        openssl("x509", "-req", "-in", request, "-CA", self.ca, "-CAkey", ca_key, "-CAcreateserial", "-days", str(days), "-extfile", uses,
                 "-out", self.certificate)
         with open(self.both, "w", encoding="ascii") as file:
             for part in (self.certificate, self.key):

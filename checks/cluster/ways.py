@@ -64,12 +64,41 @@ def secure(folder, program):
     try:
         faults = [] if python_client(cluster) == [6, 6] else ["the client for Python has another answer"]
         faults += [f"{told} is heard" for told in heard_strangers(cluster)]
+        faults += seeded(cluster, folder) + over(cluster, Secrets(folder, "over", signer=cluster.secrets, days=0))
         other = Secrets(folder, "other")
         for words in (["--etcd-ca", other.ca, "--etcd-cert", other.both], ["--etcd-ca", cluster.secrets.ca]):
             faults += deaf_node(cluster, folder, words)
         return faults + ([] if value(cluster, 0) == value(cluster, 1) == "6" else ["another value"])
     finally:
         cluster.end()
+
+
+def seeded(cluster, folder):
+    """A new node takes the store of another one with its certificate, and gets nothing without one, or with one that another signed."""
+    other, own, faults = Secrets(folder, "strange"), cluster.secrets, []
+    for words, wanted in (([], 2), (["--cert", other.both, "--client-ca", own.ca], 2), (["--cert", own.both, "--client-ca", own.ca], 0)):
+        store = cluster.store(6)
+        told = subprocess.run(cluster.words(0, "seed", store, "--name", "n6", *words), capture_output=True, text=True, timeout=2 * LONG)
+        if told.returncode != wanted or os.path.exists(os.path.join(store, "half-a")) != (wanted == 0):
+            faults.append(f"seed with {words}: {told.returncode} {told.stderr[-300:]}")
+    return faults
+
+
+def over(cluster, secrets):
+    """A client whose certificate is over is not heard. A node with such a one says so as it starts; and one with a file that is none names it."""
+    time.sleep(2)
+    faults, context = [], ssl.create_default_context(cafile=secrets.ca)
+    context.load_cert_chain(secrets.both)
+    try:
+        Client(cluster.places[:1], patience=5.0, context=context).once(b"do", ADD)
+        faults.append("a client whose certificate is over is heard")
+    except (OSError, ValueError):
+        pass
+    for path, status, why in ((secrets.both, 2, "ends within 30 days, or has ended"), (__file__, 3, f"{__file__}: it is no certificate with its key")):
+        words = cluster.words(0, "seed", cluster.store(5), "--name", "n5", "--cert", path, "--client-ca", secrets.ca)
+        told = subprocess.run(words, capture_output=True, text=True, timeout=2 * LONG)
+        faults += [] if told.returncode == status and why in told.stderr else [f"with {path}: {told.returncode} {told.stderr[-300:]}"]
+    return faults
 
 
 def python_client(cluster):
@@ -114,7 +143,8 @@ WRONG_WORDS = [
     ["--etcd", "10.0.0.1:2379"], ["--etcd", "member"], ["--etcd", "http://127.0.0.1:2379,"], ["--etcd", "unix:///run/etcd"],
     ["--etcd-ca", "ca", "--etcd", "http://127.0.0.1:2379"], ["--etcd-cert", "both"], ["--client-ca", "ca"], ["--name", "a/b"], ["--log", ""],
     ["--listen", "7411"], ["--listen", "localhost:http"], ["--listen", "0.0.0.0:7411"], ["begin"], ["skip", "-1"], [],
-    ["--monitor", "9100"], ["--monitor", "0.0.0.0:9100"], ["--most-clients", "0"],
+    ["--monitor", "9100"], ["--monitor", "0.0.0.0:9100"], ["--most-clients", "0"], ["--advertise", "node-a"], ["--alone", "--advertise", "a:1"],
+    ["seed"], ["nodes", "more"], ["begin", "--again"], ["--again"], ["--from", "10.0.0.1:7411"],
 ]  # fmt: skip
 
 
@@ -122,7 +152,7 @@ def wrong_words(folder, _program):
     """Words that are refused, before anything is asked or opened."""
     faults = []
     for words in WRONG_WORDS:
-        store = [] if not words or words[0] in ("begin", "skip") else [os.path.join(folder, "store")]
+        store = [] if not words or words[0] in ("begin", "skip", "seed", "nodes") else [os.path.join(folder, "store")]
         told = subprocess.run([sys.executable, NODE, *store, *words], capture_output=True, text=True, timeout=LONG)
         if told.returncode != 2 or "error: " not in told.stderr or os.path.exists(os.path.join(folder, "store")):
             faults.append(f"{words}: status {told.returncode}, {told.stderr[-200:]}")

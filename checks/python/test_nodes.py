@@ -5,6 +5,7 @@ from __future__ import annotations
 import os
 import shutil
 import socket
+import subprocess
 import sys
 import threading
 import unittest
@@ -12,6 +13,7 @@ from typing import Any
 from unittest import mock
 
 from pazturrok import ClosedStoreError, LostAnswerError, NodeStore, NoNodeError, RefusedError, UnsendableError
+from lib.places import CLIENT
 from support import StoreTest
 
 CHECKS = os.path.join(os.path.dirname(os.path.abspath(__file__)), "..")
@@ -20,6 +22,7 @@ sys.path.insert(0, os.path.join(CHECKS, "cluster"))
 from fake_nodes import ADD, LOSE, FakeNodes  # noqa: E402
 
 LOOK = "(GET 'COUNTER 'KY)"
+SHELL = {**os.environ, "PYTHONPATH": CLIENT}
 
 
 class Nodes(StoreTest):
@@ -81,6 +84,18 @@ class Nodes(StoreTest):
                 store.do(ADD)
             self.assertLess(raised.exception.seconds, 30)
             nodes.is_silent = [False, False]
+
+    def test_forms_from_a_shell(self) -> None:
+        nodes = self.nodes()
+        places = ",".join(nodes.names)
+        for words, wanted in (
+            ([places, ADD, ADD], (0, "1\n2\n", "")),
+            (["--read", places, LOOK], (0, "2\n", "")),
+            ([places, ")"], (1, "", "pazturrok: 4 STRAY-CLOSE\n")),
+            (["--ca", "/nowhere/ca", places, ADD], (1, "", "pazturrok: [Errno 2] No such file or directory\n")),
+        ):
+            told = subprocess.run([sys.executable, "-B", "-m", "pazturrok", *words], capture_output=True, text=True, env=SHELL)
+            self.assertEqual(wanted, (told.returncode, told.stdout, told.stderr))
 
     def test_a_node_that_refuses_clients(self) -> None:
         nodes = self.nodes()

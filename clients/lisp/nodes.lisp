@@ -181,7 +181,8 @@ so many times at most, and for so many seconds after the first time; a try that 
 
 (defun open-nodes (nodes &key (package *package*) intern (time-limit 120) (patience 10) (unicode t))
   "A feed whose messages go to NODES, a list of HOST:PORT or of paths of sockets. A request goes to one of them, and to
-the next one where that does not answer within PATIENCE seconds; NO-NODE is signalled where none does within TIME-LIMIT.
+the next one where that does not answer within PATIENCE seconds; NO-NODE is signalled where none does within TIME-LIMIT, or
+140 seconds after a message was sent first.
 PACKAGE, INTERN and UNICODE are those of OPEN-STORE."
   (check-type nodes cons)
   (make-node-feed nodes (make-naming :package (find-package package) :interns-p intern :unicode-p unicode) time-limit patience))

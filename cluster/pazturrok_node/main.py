@@ -258,8 +258,8 @@ def tell_ends(asked: argparse.Namespace) -> None:
     """Says which certificates of this node end soon, where openssl can tell."""
     for path in {asked.cert, asked.etcd_cert} - {None}:
         with contextlib.suppress(OSError, subprocess.TimeoutExpired):
-            words = ["openssl", "x509", "-noout", "-checkend", str(SOON), "-in", path]
-            if subprocess.run(words, capture_output=True, timeout=10, check=False).returncode == 1:
+            look = ["openssl", "x509", "-noout", "-checkend", str(SOON), "-in", path]
+            if subprocess.run(look, capture_output=True, timeout=10, check=False).returncode == 1:
                 logger.warning("%s: this certificate ends within 30 days, or has ended", path)
 
 

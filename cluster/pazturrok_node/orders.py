@@ -53,7 +53,7 @@ async def seed(log: EtcdLog, name: str, sources: Sources) -> int:
     if name in await log.names():
         return refused(f"a node with the name {name} runs, or did 15 seconds ago: end it first")
     try:
-        position, place = await sources.take(0)
+        position, place = await sources.take(0, 0.0)
     except NoSeedError as error:
         return refused(f"no other node gives its store ({error})")
     print(f"the store of the node at {place} is here, at {position}. What was here is in the folder `{BEFORE}`")

@@ -25,13 +25,12 @@ class Sources:
     def __init__(self, log: EtcdLog, taker: Taker, name: str, place: str | None = None) -> None:
         self._log, self._taker, self._name, self._place = log, taker, name, place
 
-    async def take(self, needed: int) -> tuple[int, str]:
+    async def take(self, needed: int, patience: float = PATIENCE) -> tuple[int, str]:
         """Takes the store of the first one that gives it and has come as far as is needed; gives its position, and where that
         node is."""
         began = time.monotonic()
         while True:
             reasons: list[str] = []
-            patience = 0.0 if self._place else PATIENCE
             for place in [self._place] if self._place else await self._places():
                 try:
                     return await self._taker.take(place, self._log.token, needed), place

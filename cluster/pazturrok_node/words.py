@@ -64,12 +64,15 @@ def parser_of_words() -> argparse.ArgumentParser:
 def words() -> argparse.Namespace:
     parser = parser_of_words()
     asked = parser.parse_args()
-    if asked.order == ["nodes"]:
-        asked.order.append("")
     if len(asked.order) == 1 and asked.order[0] not in ORDERS:
         asked.order.insert(0, "serve")
-    if len(asked.order) != 2 or asked.order[0] not in ORDERS:
+    if asked.order == ["nodes"]:
+        asked.order.append("")
+    elif len(asked.order) != 2 or asked.order[0] not in ORDERS or asked.order[0] == "nodes":
         parser.error("which folder?")
+    for word, order in (("again", "begin"), ("source", "seed")):
+        if getattr(asked, word) and asked.order[0] != order:
+            parser.error(f"--{'from' if word == 'source' else word} goes with {order}")
     if asked.order[0] == "skip" and not re.fullmatch(r"[1-9][0-9]{0,18}", asked.order[1]):
         parser.error(f"{asked.order[1]!r} is no number of an entry")
     if asked.keys:
