@@ -1,4 +1,5 @@
-"""The parts of a node by themselves: frames, answers, how requests come into a log, the program of a store; journal_units.py has the journal."""
+"""The parts of a node by themselves: frames, answers, how requests come into a log, the program of a store; journal_units.py has the
+journal, and seed_units.py what comes from other nodes and versions."""
 import asyncio
 import contextlib
 import errno
@@ -13,6 +14,7 @@ import unittest
 from unittest import mock
 
 import journal_units
+import seed_units
 
 sys.path.insert(0, os.path.join(os.path.dirname(os.path.abspath(__file__)), "..", "..", "cluster"))
 
@@ -265,7 +267,7 @@ class SocketTest(unittest.TestCase):
 
 def units(_folder, _program):
     load = unittest.defaultTestLoader.loadTestsFromModule
-    tests = unittest.TestSuite([load(sys.modules[__name__]), load(journal_units)])
+    tests = unittest.TestSuite(map(load, (sys.modules[__name__], journal_units, seed_units)))
     logging.disable(logging.CRITICAL)
     try:
         with open(os.devnull, "w", encoding="ascii") as nowhere:
