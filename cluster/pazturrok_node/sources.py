@@ -12,7 +12,7 @@ from .seed import BusyGiverError, NoSeedError, Taker
 PAUSE = 3.0
 """Seconds between two rounds of all nodes."""
 
-PATIENCE = 30.0
+PATIENCE = 15.0
 """So many seconds are waited for a node that gives its store: others may be starting too."""
 
 LONG_PATIENCE = 600.0
