@@ -1,14 +1,14 @@
-"""The sentences of the pages: how long they are."""
+"""The sentences and the paragraphs of the pages: how long they are."""
 import re
 
-from pages import PAGES, without_blocks
+from pages import HISTORY, without_blocks
 
 # The most words of a sentence. What stands between back quotes is one word; a cell of a table, a point of a list and a line are one or
 # more sentences of their own. A colon or a semicolon ends none.
 LONGEST = 40
 
-# The pages that have longer ones. The list only gets shorter: a page that has none any more may not stand here.
-LONGER = "clients/lisp/README.md".split()
+# The most words of a paragraph, outside of tables.
+LONGEST_PARAGRAPH = 120
 
 
 def pieces_of(text):
@@ -24,19 +24,15 @@ def sentences_of(text):
         yield from re.split(r"(?<=[.!?])[\"')*]*\s+", piece)
 
 
-def longer_ones(text):
-    return [sentence for sentence in sentences_of(text) if len(sentence.split()) > LONGEST]
-
-
 def sentences(page, text):
     """Sentences that are too long."""
-    found = longer_ones(text)
-    if page in LONGER and not found:
-        yield f"has no sentence over {LONGEST} words: it may leave the list in checks/page_sentences.py"
-    elif page not in LONGER:
-        yield from (f"a sentence of {len(sentence.split())} words: {sentence[:60]} .." for sentence in found)
+    for sentence in sentences_of(text):
+        if len(sentence.split()) > LONGEST:
+            yield f"a sentence of {len(sentence.split())} words: {sentence[:60]} .."
 
 
-def listed_pages():
-    """The pages of the list are there."""
-    yield from (f"checks/page_sentences.py: there is no {page}" for page in LONGER if page not in PAGES)
+def paragraphs(page, text):
+    """Paragraphs that are too long, but where changes are told: each of them is one paragraph."""
+    for line in without_blocks(text).split("\n") if page not in HISTORY else []:
+        if not line.startswith("|") and len(line.split()) > LONGEST_PARAGRAPH:
+            yield f"a paragraph of {len(line.split())} words: {line[:60]} .."
