@@ -9,7 +9,7 @@ PICTURE = "docs/pictures/crates.svg"
 
 # The crates whose head does not name all modules. The list only gets shorter. To change the head of a low crate is to prove all crates
 # above it anew, so it waits for the next change there.
-HEADLESS = set("""feeding_laws form_check lisp_object lisp_operators log_look message_laws plist_state prevalence_store property_rows
+HEADLESS = set("""feeding_laws form_check lisp_object log_look message_laws prevalence_store property_rows
     store_commands store_laws store_program store_reports""".split())
 
 
@@ -58,15 +58,9 @@ def cited():
     return sorted(files)
 
 
-# Files that the head of their crate does not name yet: it does with the next change of that crate, as a change of a head proves all above it anew.
-UNNAMED = (("lisp_operators", "proofs/LookUpLaws.antt"), ("lisp_operators", "proofs/PlaceLaws.antt"))
-
-
 def heads():
     """The head of a crate names each file of proofs that other crates cite, and each of its modules."""
     for crate, file in cited():
-        if (crate, file) in UNNAMED:
-            continue
         root = f"crates/{crate}/src/lib.rt"
         module = os.path.basename(file).removesuffix(".antt")
         if not re.search(rf"^//!.*(`{module}`|(?<![\w/]){re.escape(file)})", read(root), flags=re.M):

@@ -108,6 +108,7 @@ install_clients() {
     put_all "$prefix/lib/pazturrok/cluster" "$top/cluster/README.md"
     put_all "$prefix/lib/pazturrok/cluster/pazturrok_node" "$top"/cluster/pazturrok_node/*.py
     put "$top/cluster/pazturrok-node" "$prefix/lib/pazturrok/cluster/pazturrok-node" 755
+    put "$top/cluster/certificates" "$prefix/lib/pazturrok/cluster/certificates" 755
     ln -sf ../lib/pazturrok/cluster/pazturrok-node "$prefix/bin/pazturrok-node" || refuse "$prefix/bin/pazturrok-node cannot be made"
     mkdir "$room/units"
     for unit in "$top"/cluster/systemd/*; do

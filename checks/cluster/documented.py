@@ -5,7 +5,6 @@ import contextlib
 import json
 import os
 import re
-import shutil
 import signal
 import subprocess
 import time
@@ -14,56 +13,48 @@ import urllib.request
 import apart
 from cluster import HERE, LONG, Client
 from refusals import ADD, begun, value
-from secrets import Secrets
+from watched import until
 
 TOP = os.path.join(HERE, "..", "..")
 PAGE = os.path.join(TOP, "cluster", "README.md")
-PAGE_OF_TLS = os.path.join(TOP, "docs", "run", "machines.md")
 NET = "10.0.0."
-NETCAT = """nc() { python3 -c '
-import socket, sys
-one = socket.create_connection((sys.argv[2], int(sys.argv[3])))
-one.sendall(sys.stdin.buffer.read())
-one.shutdown(socket.SHUT_WR)
-while piece := one.recv(65536):
-    sys.stdout.buffer.write(piece)' "$@"; }"""
-"""What stands in for `nc -N HOST PORT` where there is none."""
+LEFT_OUT = ("apt-get", "scp ")
+"""Commands that install packages, or copy to another machine: all places of this check have one folder of certificates."""
 
 
 def commands():
-    """The commands of each machine, and those for two clients, as the page has them; without the one that installs packages."""
+    """The commands for the certificates, those of each machine, and those for two clients, as the page has them."""
     with open(PAGE, encoding="utf-8") as page:
         blocks = re.findall(r"(?m)(?:^    .*\n)+", page.read())
-    machine = [line.strip() for line in blocks[0].splitlines() if "apt-get" not in line]
-    return machine, [line.strip() for line in blocks[1].splitlines()]
+    return [[line.strip() for line in block.splitlines() if not line.strip().startswith(LEFT_OUT)] for block in blocks[:3]]
 
 
-def secured(lines, secrets):
-    """The same with certificates, as the page on several machines has it."""
-    with open(PAGE_OF_TLS, encoding="utf-8") as page:
-        further = [line.strip() for line in page if line.startswith(("    MEMBER_TLS=", "    NODE_TLS="))]
-    lines = [line.replace("http:", "https:").replace("etcd --name", "etcd $MEMBER_TLS --name") for line in lines]
-    lines = [line.replace("pazturrok-node ", "pazturrok-node $NODE_TLS ", 1) for line in lines]
-    text = "\n".join([*lines[:2], *further, *lines[2:]])
-    for name, path in (("ca.crt", secrets.ca), ("node.crt", secrets.certificate), ("node.key", secrets.key), ("node.pem", secrets.both)):
-        text = re.sub(rf"(?<=[ ]){re.escape(name)}", path, text)
-    return text.split("\n")
+def without_tls(lines):
+    """The same as the page has it for a network of one's own."""
+    return [line.replace("https:", "http:").replace(" $TLS", "").replace("--keys $KEYS", "--open") for line in lines]
+
+
+def in_room(text, room):
+    """The folders of the page are those of this check."""
+    return text.replace("/etc/pazturrok", f"{room}/keys").replace("/var/lib/pazturrok", f"{room}/$NAME").replace("/var/log", f"{room}/$NAME")
 
 
 def words_of_machine(lines, place, room, program):
-    """What a shell is told on a machine. The folders are those of this check, and so is the program."""
+    """What a shell is told on a machine; the program is that of this check."""
+    lines = sorted(lines, key=lambda line: not line.startswith("NAME="))
     text = "\n".join(lines).replace("NAME=a; IP=10.0.0.1", f"NAME={'abc'[place]}; IP={NET}{place + 1}")
-    text = re.sub(r"PROGRAM=\S+;", f"PROGRAM={program};", text)
-    return text.replace("/var/lib/pazturrok", f"{room}/{place}").replace("/var/log", f"{room}/{place}")
+    return in_room(re.sub(r"PROGRAM=\S+;", f"PROGRAM={program};", text), room)
 
 
 class Machines:
     """Three places on which the commands of the page were carried out."""
 
-    def __init__(self, room, program, secrets=None):
-        self.net = apart.Apart(3, NET)
-        lines, self.clients = commands()
-        lines = secured(lines, secrets) if secrets else lines
+    def __init__(self, room, program, has_tls=True):
+        self.net, self.room = apart.Apart(3, NET), room
+        keys, lines, clients = commands()
+        self.clients = clients if has_tls else without_tls(clients)
+        lines = lines if has_tls else without_tls(lines)
+        subprocess.run(["bash", "-c", in_room("\n".join(keys), room)], cwd=TOP, check=True, capture_output=True)
         self.shells = []
         for place in range(3):
             shell = [*self.net.words(place), "bash", "-c", words_of_machine(lines, place, room, program) + "\nwait"]
@@ -75,12 +66,18 @@ class Machines:
         told = subprocess.run(["pgrep", "-P", str(self.shells[place].pid), "-x", "etcd"], capture_output=True, text=True)
         return int(told.stdout)
 
-    def answer(self, place, command):
-        words = [*self.net.words(place), "bash", "-c", command if shutil.which("nc") else f"{NETCAT}\n{command}"]
-        try:
-            return subprocess.run(words, capture_output=True, text=True, timeout=LONG).stdout
-        except subprocess.TimeoutExpired:
-            return "nothing"
+    def told(self, place):
+        """What the node of a place has written."""
+        with contextlib.suppress(OSError), open(os.path.join(self.room, "abc"[place], "pazturrok-node.log"), encoding="utf-8") as log:
+            return log.read()
+        return ""
+
+    def answer(self, place, *lines):
+        """What commands of a client write on a place."""
+        words = [*self.net.words(place), "bash", "-c", in_room("\n".join(lines), self.room)]
+        environment = {**os.environ, "PYTHONDONTWRITEBYTECODE": "1"}
+        told = subprocess.run(words, cwd=TOP, env=environment, capture_output=True, text=True, timeout=3 * LONG)
+        return told.stdout or told.stderr
 
     def end(self):
         for shell in self.shells:
@@ -96,52 +93,33 @@ def documented(folder, program):
         return []
     machines = Machines(folder, program)
     try:
-        faults = []
-        for place in range(3):
-            started = machines.net.words(place) + ["python3", "-c", AGAIN]
-            faults += [f"machine {place} does not answer"] if subprocess.run(started, capture_output=True, timeout=3 * LONG).returncode else []
-        told = [machines.answer(place, command) for place, command in enumerate(machines.clients)]
-        if not re.fullmatch(r"\d+ 5\n\(1 2\)\n", told[0]) or told[1] != "ask 5\n(1 2)\n":
-            faults.append(f"the commands of the page answer {told}")
-        os.kill(machines.etcd(0), signal.SIGKILL)
+        until(lambda: all("INFO ready" in machines.told(place) for place in range(3)))
+        first, put, look = machines.clients
+        told = [machines.answer(0, first, put), machines.answer(1, first, look)]
+        faults = [] if told == ["(1 2)\n"] * 2 else [f"the commands of the page answer {told}: {[machines.told(place) for place in range(3)]}"]
+        told = machines.answer(2, first, look.replace("$TLS", "--ca /etc/pazturrok/ca.crt"))
+        faults += [] if "no node answered" in told or "certificate" in told else [f"who has no certificate is answered {told}"]
+        os.kill(machines.etcd(1), signal.SIGKILL)
         began = time.monotonic()
-        told = machines.answer(0, machines.clients[1])
+        told = machines.answer(1, first, look)
         took = time.monotonic() - began
-        return faults + ([] if told == "ask 5\n(1 2)\n" and took < LONG / 2 else [f"without its own member a node answers {told!r} after {took:.0f} s"])
+        return faults + ([] if told == "(1 2)\n" and took < LONG / 2 else [f"without its own member a node answers {told!r} after {took:.0f} s"])
     finally:
         machines.end()
 
 
-def secured_too(folder, program):
-    """The commands of the page with certificates: who has one is answered."""
+def without_certificates(folder, program):
+    """The commands of the page without TLS."""
     if not apart.may():
         return []
-    secrets = Secrets(folder, places=",".join(f"IP:{NET}{place + 1}" for place in range(3)))
-    machines = Machines(folder, program, secrets)
+    machines = Machines(folder, program, has_tls=False)
     try:
-        places = [(f"{NET}{place + 1}", 7411) for place in range(3)]
-        told = Client(places, context=secrets.context()).request(b"do", b"(SETF (GET 'A 'B) 7)")[1]
-        seen = [Client([place], context=secrets.context()).request(b"read", b"(GET 'A 'B)")[1] for place in places]
-        return [] if told == "7" and seen == ["7"] * 3 else [f"with certificates the nodes answer {told} {seen}"]
+        until(lambda: all("INFO ready" in machines.told(place) for place in range(3)))
+        first, put, look = machines.clients
+        told = [machines.answer(0, first, put), machines.answer(1, first, look)]
+        return [] if told == ["(1 2)\n"] * 2 else [f"without certificates the nodes answer {told}"]
     finally:
         machines.end()
-
-
-AGAIN = """
-import socket, time
-until = time.monotonic() + 120
-while True:
-    try:
-        one = socket.create_connection(("127.0.0.1", 7411), 3)
-        one.sendall(b"ask 8\\n(LIST 1)\\n")
-        if one.recv(100):
-            break
-    except OSError:
-        pass
-    assert time.monotonic() < until
-    time.sleep(0.2)
-"""
-"""What asks a node until it answers."""
 
 
 def own_member(folder, program):
@@ -213,8 +191,8 @@ def leader_of(cluster):
     raise TimeoutError("no member leads")
 
 
-LONG_ONES = ("own member", "stopped leader", "documented with certificates")
+LONG_ONES = ("own member", "stopped leader", "documented without certificates")
 PARTS = {
-    "documented": documented, "documented with certificates": secured_too, "own member": own_member,
+    "documented": documented, "documented without certificates": without_certificates, "own member": own_member,
     "stopped leader": stopped_leader,
 }  # fmt: skip

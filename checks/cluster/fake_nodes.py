@@ -24,6 +24,8 @@ class FakeNodes:
         self.chance, self.loses, self.lock = random.Random(1), loses, threading.Lock()
         self.value, self.number, self.done, self.heads = 0, 0, {}, []
         self.is_silent = [False] * count
+        self.greetings = [("ask", '(:VERSION 1 :NODE "0.0.0" :NAME "fake")')] * count
+        """What each of them answers to a client's version; after a refusal it ends the connection."""
         self.listeners = [socket.create_server(("127.0.0.1", 0)) for _ in range(count)]
         self.names = [f"127.0.0.1:{one.getsockname()[1]}" for one in self.listeners]
         for place in range(count):
@@ -45,13 +47,16 @@ class FakeNodes:
                 if text == LOSE:
                     self.heads.append(head[0].decode())
                     return
-                kind, answer = self.answer([word.decode() for word in head], text)
+                is_greeting = head[0] == b"version"
+                kind, answer = self.greetings[place] if is_greeting else self.answer([word.decode() for word in head], text)
                 whole = f"{kind} {len(answer)}\n{answer}\n".encode()
                 if self.chance.random() < self.loses and len(head) > 2:
                     stream.write(whole[: self.chance.randrange(len(whole))])
                     return
                 stream.write(whole)
                 stream.flush()
+                if is_greeting and answer.startswith("! "):
+                    return
 
     def answer(self, head: list[str], text: str) -> tuple[str, str]:
         with self.lock:

@@ -101,8 +101,10 @@ def hung_store(folder, program):
 
 
 def exceeded(folder, program):
-    """Something else fills etcd to its quota: a node that is started waits; with room and without the alarm all go on."""
-    cluster = begun(folder, program, nodes=1, quota=QUOTA)
+    """Something else fills etcd to its quota: forms are refused, and the node says why it is not well; one that is started waits. With room and
+    without the alarm all go on."""
+    path = os.path.join(folder, "monitor")
+    cluster = begun(folder, program, nodes=1, quota=QUOTA, options=("--monitor", path))
     try:
         count = 0
         while not alarms(cluster) and count < 100:
@@ -111,11 +113,15 @@ def exceeded(folder, program):
             except OSError:
                 pass
             count += 1
+        status, told = until_health(path, 503)
+        faults = [] if status == 503 and "NOSPACE" in str(told) else [f"beside a full etcd: {status} {told}"]
+        told = Client(cluster.places).request(b"do full", ADD)
+        faults += [] if told == (0, NO_ROOM) else [f"beside a full etcd a form is answered {told}"]
         node = cluster.nodes[0]
         node.finish()
         node.start()
         time.sleep(5)
-        faults = [] if node.child.poll() is None else ["a node ends where etcd is full"]
+        faults += [] if node.child.poll() is None else ["a node ends where etcd is full"]
         answers = []
         waits = threading.Thread(target=lambda: answers.append(Client(cluster.places).request(b"do after", ADD)))
         waits.start()

@@ -161,8 +161,8 @@ def behind(folder, program):
         while not any(int(name) > 40 for name in cluster.keys("trims/")) and time.monotonic() < deadline:
             client.request(b"do", ADD)
             time.sleep(0.2)
-        faults = refused(cluster, 1, "behind what is left of the log")
         one.finish()
+        faults = refused(cluster, 1, "behind what is left of the log")
         copy_store(cluster, 0, 1)
         one.start()
         away.start()

@@ -1,5 +1,6 @@
 """What is seen of a node from outside: its health, its figures, its lines; and how many clients may be connected. Each part gives what is
 wrong."""
+import contextlib
 import http.client
 import json
 import os
@@ -58,9 +59,12 @@ def until(holds):
 
 def until_health(path, status):
     """What a node tells of its health, once that has this status."""
-    deadline = time.monotonic() + LONG
-    while (told := got(path, "GET", "/health"))[0] != status and time.monotonic() < deadline:
-        time.sleep(0.3)
+    deadline, told = time.monotonic() + LONG, (0, "null")
+    while told[0] != status and time.monotonic() < deadline:
+        # before a node listens there is nobody
+        with contextlib.suppress(OSError):
+            told = got(path, "GET", "/health")
+        time.sleep(0 if told[0] == status else 0.3)
     return told[0], json.loads(told[1])
 
 

@@ -31,6 +31,8 @@
        (expect "a name of one's own" '(4 4) (list (send-named feed "order-17" *add*) (send-named feed "order-17" *add*)))
        (expect "a name of one's own with another text" 55 (number-of-refusal (send-named feed "order-17" '(list 1))))
        (expect "what cannot be sent" 'unsendable (signalled (feed-form feed "(LIST 1.5d0 \"ä\")")))
+       (expect "names that are none" '(unsendable unsendable unsendable)
+               (mapcar (lambda (name) (nth-value 0 (signalled (send-named feed name *add*)))) (list "" "a b" (format nil "x 5~%(A)~%do y"))))
        (close-feed feed)
        (expect "a feed that was closed" 'closed (signalled (feed-form feed *add*)))))))
 

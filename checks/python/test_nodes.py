@@ -9,6 +9,7 @@ import sys
 import threading
 import unittest
 from typing import Any
+from unittest import mock
 
 from pazturrok import ClosedStoreError, LostAnswerError, NodeStore, NoNodeError, RefusedError, UnsendableError
 from support import StoreTest
@@ -62,6 +63,35 @@ class Nodes(StoreTest):
                     store.do("(LIST 1)", name="order-17")
                 self.assertEqual((55, "OTHER-TEXT"), (raised.exception.number, raised.exception.name))
         self.assertEqual(1, nodes.value)
+
+    def test_a_name_that_is_none(self) -> None:
+        nodes = self.nodes()
+        with NodeStore(nodes.names) as store:
+            for name in ("", "a b", "a/b", "x" * 101, "x 5\n(LIST 1)\ndo y", "\u00e4"):
+                with self.assertRaises(UnsendableError):
+                    store.do(ADD, name=name)
+        self.assertEqual([], nodes.heads)
+
+    def test_a_message_is_sent_again_for_a_while_and_no_longer(self) -> None:
+        nodes = self.nodes()
+        with NodeStore(nodes.names, patience=0.2, time_limit=60) as store, mock.patch("pazturrok.nodes.RESEND", 1.0):
+            self.assertEqual(1, store.do(ADD))
+            nodes.is_silent = [True, True]
+            with self.assertRaises(NoNodeError) as raised:
+                store.do(ADD)
+            self.assertLess(raised.exception.seconds, 30)
+            nodes.is_silent = [False, False]
+
+    def test_a_node_that_refuses_clients(self) -> None:
+        nodes = self.nodes()
+        nodes.greetings[0] = ("0", "! 54 NO-ROOM")
+        with NodeStore(nodes.names) as store:
+            self.assertEqual(1, store.do(ADD))
+            self.assertEqual(nodes.names[1], store.node)
+        nodes.greetings[0] = ("0", "! 58 OTHER-VERSION")
+        with NodeStore(nodes.names) as store, self.assertRaises(RefusedError) as refused:
+            store.do(ADD)
+        self.assertEqual((58, "OTHER-VERSION"), (refused.exception.number, refused.exception.name))
 
     def test_a_node_that_says_nothing(self) -> None:
         nodes = self.nodes()

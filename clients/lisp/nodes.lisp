@@ -19,6 +19,12 @@
 (defparameter *pause-between-nodes* 1/20
   "How many seconds are between two tries.")
 
+(defparameter *resend-limit* 140
+  "So many seconds a message is sent again. Its name may be free after 150, and it would be carried out twice.")
+
+(defparameter *version-frame* (format nil "version 1 0~%~%")
+  "The version of the frames that are sent.")
+
 (defparameter *most-tries* 6
   "How often a question is sent, to one node after the other. By one for which it has no memory each store ends.")
 
@@ -73,10 +79,19 @@
   "The stream to a node. A new one asks first how symbols are printed."
   (or (node-feed-stream feed)
       (progn (connect-node feed (nth (node-feed-at feed) (feed-words feed)))
+             (write-string *version-frame* (node-feed-stream feed))
              (write-string (question-frame *qualified-question*) (node-feed-stream feed))
              (finish-output (node-feed-stream feed))
+             (heed-greeting (nth-value 1 (read-node-answer feed)))
              (take-naming feed (nth-value 1 (read-node-answer feed)))
              (node-feed-stream feed))))
+
+(defun heed-greeting (answer)
+  "What a node says first: it may refuse a client, and ends the connection then. Another one may take it, or none."
+  (multiple-value-bind (number name) (refusal-of answer)
+    (cond ((null number))
+          ((= number 54) (error "it takes no more clients"))
+          (t (error 'refused :number number :name name)))))
 
 (defun read-whole-line (stream)
   (multiple-value-bind (line cut-p) (read-line stream)
@@ -95,15 +110,20 @@
 
 ;;; Sending
 
-(defun call-with-nodes (feed function &optional (tries most-positive-fixnum))
+(defun time-after (seconds)
+  (+ (get-internal-real-time) (* seconds internal-time-units-per-second)))
+
+(defun call-with-nodes (feed function &key (tries most-positive-fixnum) resend-limit)
   "Calls FUNCTION, which speaks to a node, until it returns; after an error of the connection with the next node. It is called
-so many times at most; a try that comes to no connection does not count."
+so many times at most, and for so many seconds after the first time; a try that comes to no connection does not count."
   (when (feed-closed-p feed) (error 'closed))
-  (loop with end = (+ (get-internal-real-time) (* (node-feed-time-limit feed) internal-time-units-per-second))
+  (loop with end = (time-after (node-feed-time-limit feed))
         do (let ((whole-p nil))
              (unwind-protect
                   (handler-case (let ((stream (ready-node feed)))
                                   (decf tries)
+                                  (when resend-limit
+                                    (setf end (min end (time-after (shiftf resend-limit nil)))))
                                   (return (multiple-value-prog1 (funcall function stream) (setf whole-p t))))
                     (store-error (condition) (error condition))
                     (error (condition)
@@ -132,7 +152,8 @@ so many times at most; a try that comes to no connection does not count."
                do (multiple-value-bind (number answer) (read-node-answer feed)
                     (unless number (malformed answer "it is not that of a message"))
                     (setf (feed-last feed) (max number (feed-last feed)))
-                    (push (node-outcome feed number answer) outcomes))))))
+                    (push (node-outcome feed number answer) outcomes)))))
+     :resend-limit *resend-limit*)
     (nreverse outcomes)))
 
 (defmethod send-messages ((feed node-feed) texts)
@@ -151,7 +172,7 @@ so many times at most; a try that comes to no connection does not count."
                      (format stream "~A ~D~%~A~%" kind (length text) text)
                      (finish-output stream)
                      (nth-value 1 (read-node-answer feed)))
-                   *most-tries*))
+                   :tries *most-tries*))
 
 (defmethod answer-to-question ((feed node-feed) text)
   (ask-nodes feed "ask" text))
@@ -170,8 +191,15 @@ PACKAGE, INTERN and UNICODE are those of OPEN-STORE."
   `(let ((,feed (open-nodes ,nodes ,@options :package ,(package-name *package*))))
      (unwind-protect (progn ,@body) (close-feed ,feed))))
 
+(defun name-p (name)
+  "Whether this is the name of a message: 1 to 100 letters, digits, dots, hyphens and underscores."
+  (and (stringp name) (<= 1 (length name) 100)
+       (every (lambda (one) (and (< (char-code one) 128) (or (alphanumericp one) (find one "._-")))) name)))
+
 (defun send-named (feed name form)
   "Has a form carried out under a name of one's own, once with all that is sent under it, and gives its value."
+  (unless (name-p name)
+    (cannot-send name "a name has 1 to 100 letters, digits, dots, hyphens and underscores"))
   (let ((outcome (alone (feed) (first (send-to-nodes feed (list (feed-text feed form)) name)))))
     (if (typep outcome 'store-error) (error outcome) outcome)))
 

@@ -6,7 +6,7 @@ import asyncio
 import logging
 
 from .journal import Journal
-from .log import Entry, FullError, Keeper
+from .log import BehindError, Entry, FullError, Keeper
 from .marks import Marker
 from .node import Node
 
@@ -53,6 +53,10 @@ class AloneKeeper(Keeper):
 
     async def ended(self) -> None:
         """Nothing is written down."""
+
+    async def catch_up(self, error: BehindError) -> None:
+        """Nobody else has this store."""
+        raise error
 
 
 class Sweeper:

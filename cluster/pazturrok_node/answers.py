@@ -33,6 +33,13 @@ class Answers:
         else:
             self._waiting.setdefault(number, []).append(take)
 
+    def settle(self, number: int) -> None:
+        """Entries up to this number were carried out. Those who wait for one whose answer nobody has here are told so."""
+        self.settled = max(self.settled, number)
+        for one in [one for one in self._waiting if one <= number]:
+            for take in self._waiting.pop(one):
+                take(LOST)
+
     def resolve(self, number: int, text: bytes) -> None:
         """An entry has this answer: it goes to those who wait for it, and is kept for those who will."""
         self._size += len(text) - len(self._recent.pop(number, b""))

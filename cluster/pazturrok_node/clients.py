@@ -8,12 +8,17 @@ import itertools
 import logging
 import socket
 import uuid
+from collections.abc import Coroutine
+from typing import Any
 
+from . import VERSION
 from .appender import Appender
 from .etcd import EtcdError, PutBackError
-from .frames import LIMIT, REQUEST, Frames, NoFrameError, Request, answer, answer_at, request_of
+from .frames import LIMIT, NO_ROOM, NO_SUCH_ENTRY, OTHER_VERSION, REQUEST, Frames, NoFrameError, Request, answer, answer_at, request_of
+from .frames import VERSION as VERSION_OF_FRAMES
 from .log import Placed, Refused
 from .node import Node, Told
+from .seed import Giver
 
 logger = logging.getLogger(__name__)
 
@@ -29,13 +34,18 @@ UNPLACED = 1 << 22
 MOST_CLIENTS = 10_000
 """How many may be connected."""
 
+LINGER = 2.0
+"""Seconds in which a client that is refused may read why."""
+
 PROBES = ((socket.TCP_KEEPIDLE, 60), (socket.TCP_KEEPINTVL, 20), (socket.TCP_KEEPCNT, 3))
 """After so many seconds of silence a machine is looked for, as often and so far apart."""
 
 
 class Clients:
-    def __init__(self, node: Node, appender: Appender, most: int = MOST_CLIENTS) -> None:
-        self.node, self.appender, self._most = node, appender, most
+    def __init__(self, node: Node, appender: Appender, giver: Giver, most: int = MOST_CLIENTS) -> None:
+        self.node, self.appender, self.giver, self._most = node, appender, giver, most
+        self.greeting = f'(:VERSION {VERSION_OF_FRAMES} :NODE "{VERSION}" :NAME "{giver.name}")'.encode("ascii")
+        """The answer to a client of this version."""
         self._connected: collections.OrderedDict[Client, None] = collections.OrderedDict()
         """Those that are connected, by their last request."""
         self.requests: collections.Counter[str] = collections.Counter()
@@ -116,9 +126,11 @@ class Client(asyncio.Protocol):
         self._frames = Frames(REQUEST, LIMIT)
         self._slots: collections.deque[Slot] = collections.deque()
         self._transport: asyncio.Transport | None = None
-        self._reads: set[asyncio.Task[None]] = set()
+        self._works: set[asyncio.Task[None]] = set()
         self._unplaced = 0
-        self._is_over = self._is_slow = self._is_paused = self._is_due = False
+        self._may_write = asyncio.Event()
+        self._may_write.set()
+        self._is_over = self._is_refused = self._is_paused = self._is_due = False
 
     @property
     def is_idle(self) -> bool:
@@ -127,8 +139,16 @@ class Client(asyncio.Protocol):
 
     def let_go(self) -> None:
         """Closes the connection, once what was answered is sent."""
-        if self._transport:
+        if self._transport is None:
+            return
+        if not self._is_refused:
             self._transport.close()
+            return
+        # what it sends now is read: where it is left unread, the system may take the refusal away from it
+        self._is_refused = False
+        if self._transport.can_write_eof():
+            self._transport.write_eof()
+        asyncio.get_running_loop().call_later(LINGER, self._transport.close)
 
     # What the loop tells of the connection
 
@@ -138,14 +158,15 @@ class Client(asyncio.Protocol):
         if self._clients.take(self):
             keep_alive(transport)
         else:
-            transport.abort()
+            transport.write(answer(0, NO_ROOM))
+            transport.close()
 
     def connection_lost(self, exc: Exception | None) -> None:
         """Nobody waits for the answers any more. What is to be carried out will be."""
         self._clients.forget(self)
         self._transport = None
         self._slots.clear()
-        for task in self._reads:
+        for task in self._works:
             task.cancel()
 
     def data_received(self, data: bytes) -> None:
@@ -154,8 +175,8 @@ class Client(asyncio.Protocol):
         try:
             for head, text in self._frames.split(data):
                 self._take(request_of(head, text))
-        except NoFrameError:
-            self._end()
+        except NoFrameError as error:
+            self._refuse(error.refusal)
         self._pace()
 
     def eof_received(self) -> bool:
@@ -164,24 +185,32 @@ class Client(asyncio.Protocol):
         return self._transport is not None and self._transport.get_extra_info("sslcontext") is None
 
     def pause_writing(self) -> None:
-        self._is_slow = True
+        self._may_write.clear()
         self._pace()
 
     def resume_writing(self) -> None:
-        self._is_slow = False
+        self._may_write.set()
         self._pace()
 
     def _end(self) -> None:
-        """The client sends no more, or what is no frame: it goes once all that it asked before is answered."""
+        """The client sends no more: it goes once all that it asked before is answered."""
         self._is_over = True
         if self.is_idle:
             self.let_go()
+
+    def _refuse(self, refusal: bytes) -> None:
+        """The client has sent what is no request: once all that it asked before is answered it is told so, and goes."""
+        self._is_over = self._is_refused = True
+        slot = Slot(Request("", None, None, b""))
+        slot.is_begun = True
+        self._slots.append(slot)
+        self._answer(slot, answer(0, refusal))
 
     def _pace(self) -> None:
         """Reads no more while too much is under way."""
         if self._transport is None or self._is_over:
             return
-        wants = self._is_slow or len(self._slots) >= AT_ONCE or self._unplaced > UNPLACED
+        wants = not self._may_write.is_set() or len(self._slots) >= AT_ONCE or self._unplaced > UNPLACED
         if wants != self._is_paused:
             self._is_paused = wants
             if wants:
@@ -192,6 +221,8 @@ class Client(asyncio.Protocol):
     # Requests
 
     def _take(self, request: Request) -> None:
+        if request.kind == "version" and request.number != VERSION_OF_FRAMES:
+            raise NoFrameError(f"a client of version {request.number}", OTHER_VERSION)
         slot = Slot(request)
         self._slots.append(slot)
         self._clients.heed(self, request.kind)
@@ -200,6 +231,9 @@ class Client(asyncio.Protocol):
             self._unplaced += len(request.text)
             name = request.name or self._clients.new_name()
             self._appender.append(self, name, request.text, lambda placed: self._take_place(slot, placed))
+        elif request.kind == "version":
+            slot.is_begun = True
+            self._answer(slot, answer(None, self._clients.greeting))
         else:
             self._begin_first()
 
@@ -220,23 +254,45 @@ class Client(asyncio.Protocol):
             return
         slot = self._slots[0]
         slot.is_begun = True
-        if slot.request.kind == "read" or slot.request.number is not None and slot.request.number > self._node.position:
-            task = asyncio.ensure_future(self._ask_later(slot))
-            self._reads.add(task)
-            task.add_done_callback(self._reads.discard)
+        if slot.request.kind == "seed":
+            self._work(self._give(slot))
+        elif slot.request.kind == "read" or slot.request.number is not None and slot.request.number > self._node.position:
+            self._work(self._ask_later(slot))
         else:
             self._ask(slot)
 
+    def _work(self, work: Coroutine[Any, Any, None]) -> None:
+        """Does what takes time, unless the client goes."""
+        task = asyncio.ensure_future(work)
+        self._works.add(task)
+        task.add_done_callback(self._works.discard)
+
     async def _ask_later(self, slot: Slot) -> None:
+        number, is_there = slot.request.number, True
         try:
-            if slot.request.kind == "read":
+            if number is None:
                 await self._node.reach_last()
             else:
-                await self._node.reach(slot.request.number or 0)
+                is_there = await self._node.reach_entry(number)
         except (EtcdError, PutBackError):
             self.let_go()
             return
-        self._ask(slot)
+        if is_there:
+            self._ask(slot)
+        else:
+            self._answer(slot, answer_at(self._node.position, NO_SUCH_ENTRY))
+
+    async def _give(self, slot: Slot) -> None:
+        """Sends a copy of the store, which other answers wait for."""
+        async with self._clients.giver.copy() as copy:
+            if isinstance(copy, bytes):
+                self._answer(slot, answer(None, copy))
+                return
+            async for piece in copy.pieces():
+                await self._may_write.wait()
+                if self._transport:
+                    self._transport.write(piece)
+        self._answer(slot, b"\n")
 
     def _ask(self, slot: Slot) -> None:
         def take(told: Told) -> None:

@@ -6,6 +6,9 @@ import re
 from collections.abc import Iterator
 from typing import NamedTuple
 
+VERSION = 1
+"""Of the frames between clients and nodes. Where a frame means something else, or is new, the number is a greater one."""
+
 LIMIT = 1_048_576
 """The greatest length of a text of a client."""
 
@@ -14,7 +17,7 @@ LONGEST_HEAD = 200
 
 NUMBER = r"(0|[1-9][0-9]{0,18})"
 NAME = r"([A-Za-z0-9._-]{1,100})"
-REQUEST = re.compile(rf"(?:do(?: {NAME})?|(ask|read)|ask {NUMBER}) {NUMBER}\n".encode())
+REQUEST = re.compile(rf"(?:do(?: {NAME})?|(ask|read|seed)|(ask|version) {NUMBER}) {NUMBER}\n".encode())
 ANSWER = re.compile(rf"(?:{NUMBER}|ask) {NUMBER}\n".encode())
 POSITION = re.compile(rf"at {NUMBER}\n".encode())
 
@@ -30,16 +33,36 @@ NO_ROOM = b"! 54 NO-ROOM"
 OTHER_TEXT = b"! 55 OTHER-TEXT"
 """The answer to a form whose name the log has with another text: nothing of it was carried out."""
 
+NO_FRAME = b"! 56 NO-FRAME"
+"""The answer to bytes that are no request, as where a name is none. The connection ends after it."""
+
+TEXT_TOO_LONG = b"! 57 TEXT-TOO-LONG"
+"""The answer to a request whose text is over LIMIT. The connection ends after it."""
+
+OTHER_VERSION = b"! 58 OTHER-VERSION"
+"""The answer to a client of another version. The connection ends after it."""
+
+NO_SUCH_ENTRY = b"! 59 NO-SUCH-ENTRY"
+"""The answer to a question that waits for an entry which the log does not have."""
+
+NO_DEVICE = b"! 60 DEVICE"
+"""The answer to who asks for a copy of the store, where none can be made."""
+
 NO_MEMORY = b"! 90 NO-MEMORY"
 """The answer to a question beside which the store has ended twice: it is not asked again."""
 
 
 class NoFrameError(Exception):
-    """These bytes are no frame."""
+    """These bytes are no frame; and what is answered to a client that has sent them."""
+
+    def __init__(self, reason: str, refusal: bytes = NO_FRAME) -> None:
+        super().__init__(reason)
+        self.refusal = refusal
 
 
 class Request(NamedTuple):
-    """A request of a client: `do`, with a name, if it has one; `ask`, with a number, if it has one; or `read`."""
+    """A request of a client: `do`, with a name, if it has one; `ask`, with a number, if it has one; `read`; `seed`; or
+    `version`, with a number."""
 
     kind: str
     name: bytes | None
@@ -69,7 +92,7 @@ class Frames:
         while place < whole and (head := self._head.match(data, place)):
             size, start = int(head[self._length]), head.end()
             if self._most is not None and size > self._most:
-                raise NoFrameError(f"a text of {size} bytes, and at most {self._most} are taken")
+                raise NoFrameError(f"a text of {size} bytes, and at most {self._most} are taken", TEXT_TOO_LONG)
             end = start + size
             if end >= whole:
                 self._missing = end + 1 - whole
@@ -86,10 +109,10 @@ class Frames:
 
 
 def request_of(head: re.Match[bytes], text: bytes) -> Request:
-    name, kind, number, _ = head.groups()
-    if kind:
-        return Request("ask" if kind == b"ask" else "read", None, None, text)
-    return Request("do", name, None, text) if number is None else Request("ask", None, int(number), text)
+    name, plain, numbered, number, _ = head.groups()
+    if plain or numbered:
+        return Request((plain or numbered).decode("ascii"), None, None if plain else int(number), text)
+    return Request("do", name, None, text)
 
 
 def message(number: int, text: bytes) -> bytes:

@@ -22,7 +22,11 @@ BEHIND = "this store is behind what is left of the log"
 
 
 class BehindError(Exception):
-    """Entries that a store has not carried out cannot be had any more."""
+    """Entries that a store has not carried out cannot be had any more. One that has come to `needed` does not want them."""
+
+    def __init__(self, reason: str, needed: int = 0) -> None:
+        super().__init__(reason)
+        self.needed = needed
 
 
 class RefusedStoreError(Exception):
@@ -90,6 +94,11 @@ class Log(abc.ABC):
     def trouble(self) -> str | None:
         """Why the log takes no form now, or None."""
         return None
+
+    @property
+    def token(self) -> str:
+        """By which nodes know whether their log is the same one; empty where no other node has it."""
+        return ""
 
     @abc.abstractmethod
     async def append(self, entries: Sequence[tuple[bytes, bytes]], floor: int) -> list[Placed] | None:
@@ -163,3 +172,7 @@ class Keeper(abc.ABC):
     @abc.abstractmethod
     async def ended(self) -> None:
         """The program has ended, and nobody will open the store but this node."""
+
+    @abc.abstractmethod
+    async def catch_up(self, error: BehindError) -> None:
+        """The store is behind what is left of the log, and no program has it: gets one that is not, or raises the error again."""

@@ -4,25 +4,22 @@ from __future__ import annotations
 
 import asyncio
 import logging
-import re
 import uuid
-from collections.abc import Sequence
 
 from .appender import Appender
 from .log import COMPARED, MARK
+from .looks import position_of
 from .node import Node
 
 logger = logging.getLogger(__name__)
-
-POSITION = re.compile(rb"position ([0-9]+)")
 
 
 class Marker:
     """Has stores write their position. A form does so; where the readtable of a store does not read that, its files
     are looked at."""
 
-    def __init__(self, node: Node, appender: Appender, look: Sequence[str]) -> None:
-        self._node, self._appender, self._look = node, appender, look
+    def __init__(self, node: Node, appender: Appender, program: str, folder: str) -> None:
+        self._node, self._appender, self._program, self._folder = node, appender, program, folder
         self._looked = 0
         self._looking: asyncio.Future[None] | None = None
 
@@ -38,11 +35,8 @@ class Marker:
             self._looking = asyncio.ensure_future(self._look_at_files())
 
     async def _look_at_files(self) -> None:
-        pipe, nothing = asyncio.subprocess.PIPE, asyncio.subprocess.DEVNULL
-        process = await asyncio.create_subprocess_exec(*self._look, stdout=pipe, stderr=nothing)
-        told, _ = await process.communicate()
-        found = POSITION.search(told)
-        if found:
+        position = await position_of(self._program, self._folder)
+        if position is not None:
             # the record that was seen is there for good once its message is answered
-            await self._node.reach(int(found[1]))
-            self._node.lasting = max(self._node.lasting, int(found[1]))
+            await self._node.reach(position)
+            self._node.lasting = max(self._node.lasting, position)

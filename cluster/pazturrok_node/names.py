@@ -16,6 +16,9 @@ logger = logging.getLogger(__name__)
 LEASE = 15
 """After so many seconds without a beat a node is none any more: its name is free, and nothing is kept for it."""
 
+BEAT = 3.0
+"""Seconds between two beats."""
+
 PATIENCE = LEASE + 5.0
 """So many seconds a node waits for a name that another has, which may have died."""
 
@@ -52,6 +55,15 @@ class Name:
             await asyncio.sleep(1)
             await self._keep()
         self._replica.note_lease(self.lease)
+
+    async def run(self) -> None:
+        """Keeps the name while this node runs, whatever else takes long."""
+        while True:
+            await asyncio.sleep(BEAT)
+            try:
+                await self.hold()
+            except EtcdError as error:
+                logger.error("etcd: %s", error)
 
     def is_held(self) -> dict[str, Any]:
         """What a transaction compares that is to do nothing once another node has the name."""

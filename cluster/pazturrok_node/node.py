@@ -13,7 +13,7 @@ from typing import NamedTuple
 from .answers import Answers
 from .child import Child
 from .frames import ANSWER, LOST, NO_MEMORY, Frames, NoFrameError, message, question
-from .log import COMPARED, MARKS, Entry, Keeper, Log, Reached
+from .log import COMPARED, MARKS, BehindError, Entry, Keeper, Log, Reached
 from .tasks import Waits, end_all
 
 logger = logging.getLogger(__name__)
@@ -87,6 +87,18 @@ class Node:
         """Waits until the store has carried out the entry with this number."""
         await self._moved.until(lambda: self.position >= number)
 
+    async def reach_entry(self, number: int) -> bool:
+        """Does so for an entry that a client names; False where the log has none with such a number."""
+        await self.is_admitted.wait()
+        if number > self.position:
+            last = await self.log.last()
+            await self._moved.until(lambda: self.position >= number or self._has_all(last))
+        return self.position >= number
+
+    def _has_all(self, place: int) -> bool:
+        """Whether the store has carried out all entries up to this place of the log."""
+        return self._reached[0] >= place and self.position >= self._reached[1]
+
     async def reach_last(self) -> None:
         """Waits until it has carried out all entries that were in the log when this was called."""
         last = await self.log.last()
@@ -109,12 +121,10 @@ class Node:
             if child:
                 before = self.position
                 try:
-                    await self._keeper.admit(child.position)
-                    self._skipped = await self.log.skipped()
-                    self._settle(child.position)
-                    await self._serve(child)
-                finally:
-                    status = await child.end()
+                    status = await self._follow(child)
+                except BehindError as error:
+                    await self._keeper.catch_up(error)
+                    continue
                 logger.error("the store ended with status %s, at %d", status, self.position)
                 self._count_end()
                 if self.stuck:
@@ -122,6 +132,17 @@ class Node:
                 pause = 0.05 if self.position > before else pause
             await asyncio.sleep(pause)
             pause = min(2 * pause, LONGEST_PAUSE)
+
+    async def _follow(self, child: Child) -> int:
+        """Has the store carry out entries until it ends, and gives its status."""
+        try:
+            await self._keeper.admit(child.position)
+            self._skipped = await self.log.skipped()
+            self._settle(child.position)
+            await self._serve(child)
+        finally:
+            status = await child.end()
+        return status
 
     def _count_end(self) -> None:
         """The store has ended: by a question that was under way, or else by the first entry that was."""
@@ -174,6 +195,8 @@ class Node:
             if entry.number <= position:
                 self.answers.resolve(entry.number, self._skipped.get(entry.number, LOST))
         self._sent.clear()
+        # a store that another node gave has more than this node has sent it
+        self.answers.settle(position)
         self.lasting = max(self.lasting, position)
         self._move(position)
         self._moved.look()

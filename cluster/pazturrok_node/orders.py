@@ -8,21 +8,24 @@ from collections.abc import Sequence
 from .child import Child
 from .etcd_log import EPOCH, EtcdLog
 from .replica import Replica
-from .trim import Reports
+from .reports import Reports
+from .seed import BEFORE, NoSeedError
+from .sources import Sources
 
 
-async def begin(log: EtcdLog, replica: Replica, words: Sequence[str]) -> int:
-    """Begins a log with a store, whatever it has come to elsewhere."""
-    if await log.identify() is not None:
-        return refused("etcd has a log of this name already")
+async def begin(log: EtcdLog, replica: Replica, words: Sequence[str], is_again: bool) -> int:
+    """Begins a log with a store, whatever it has come to elsewhere; where there is one, in its place, if that is asked for."""
+    before = await log.identify()
+    if before is not None and not is_again:
+        return refused("etcd has a log of this name already: --again begins another one in its place")
     child = await Child.start(words)
     if child is None:
         return 3
     try:
-        identity = await replica.begin(child.position)
+        identity = await replica.begin(child.position, before)
     finally:
         await child.end()
-    print(f"the log begins with this store, at {identity.first}: start each node with a copy of it")
+    print(f"the log begins with this store, at {identity.first}: start its node, and have the others take it (pazturrok-node seed)")
     return 0
 
 
@@ -41,6 +44,31 @@ async def skip(log: EtcdLog, number: int) -> int:
     await log.skip(number)
     print(f"all stores skip {number}")
     return 0
+
+
+async def seed(log: EtcdLog, name: str, sources: Sources) -> int:
+    """Takes the store of another node, in place of the one that is here."""
+    if await log.identify() is None:
+        return refused("etcd has no log of this name")
+    if name in await log.names():
+        return refused(f"a node with the name {name} runs, or did 15 seconds ago: end it first")
+    try:
+        position, place = await sources.take(0)
+    except NoSeedError as error:
+        return refused(f"no other node gives its store ({error})")
+    print(f"the store of the node at {place} is here, at {position}. What was here is in the folder `{BEFORE}`")
+    return 0
+
+
+async def tell_nodes(log: EtcdLog) -> int:
+    """Tells of each node that runs what it tells of itself."""
+    if await log.identify() is None:
+        return refused("etcd has no log of this name")
+    reports = await Reports(log).all()
+    for name, told in sorted(reports.items()):
+        stuck = f", ends again and again at {told['stuck']}" if told["stuck"] else ""
+        print(f"{name} {told['at'] or '-'} version {told['version'] or '-'} at {told['answered']}{stuck}")
+    return 0 if reports else refused("no node runs")
 
 
 def refused(why: str) -> int:

@@ -3,19 +3,29 @@
 from __future__ import annotations
 
 import asyncio
-import contextlib
 import hashlib
 import json
 import logging
 import os
 import random
+import shutil
+import time
 from collections.abc import AsyncIterator
 from typing import Any
 
+from .child import Child
 from .etcd_log import EPOCH, LAST_EPOCH, EtcdLog, Identity
-from .log import Entry, Keeper, RefusedStoreError
+from .log import BehindError, Entry, Keeper, RefusedStoreError
+from .seed import NoSeedError, put_in_place
+from .sources import Sources
 
 logger = logging.getLogger(__name__)
+
+WHILE, OFTEN = 600.0, 3
+"""In so many seconds stores are taken from other nodes so often at most."""
+
+VERSION = 1
+"""Of what stands in it."""
 
 NOTES = "replica"
 """The file beside the halves in which a node writes down what it knows of the store."""
@@ -29,6 +39,9 @@ FIGURES = ("half", "generation", "records", "bytes", "half-a-bytes", "half-b-byt
 NO_LOG = "etcd has no log of this name, and this store is of one, at {}: begin one anew with the store that has come farthest (pazturrok-node begin)"
 OTHER_WORLD = "the log begins with another world than that of this store: start all of them from copies of one store"
 OTHER_LOG = "this store is of another log, at {}"
+NEW = "this store is new, and the log began with another one"
+NOTED = "{}: what a node writes down of its store is not what stands there: delete the file"
+OTHER_VERSION = "{}: a node of another version has written it"
 OTHER_WAY = "forms came into this store by another way than the log, after entry {}"
 CHANGED = "the files have changed since the node was ended, at {}. If they are copies of another replica's, delete the file `replica` beside them"
 AHEAD = "this store has come to {}, and the log ends before that: etcd is another one, or was put back to an older state"
@@ -39,15 +52,31 @@ SKIPPED = "the other stores skip entry {}, and this one may have carried it out"
 class Replica(Keeper):
     """A store in a folder. Before each opening the node looks at it, and after it asks whether it is one of the log."""
 
-    def __init__(self, log: EtcdLog, program: str, folder: str) -> None:
-        self._log, self._program, self._folder = log, program, folder
+    def __init__(self, log: EtcdLog, program: str, folder: str, sources: Sources) -> None:
+        self._log, self._program, self._folder, self._sources = log, program, folder, sources
         self._path = os.path.join(folder, NOTES)
-        self._noted: dict[str, Any] = {}
-        with contextlib.suppress(FileNotFoundError), open(self._path, encoding="ascii") as file:
-            self._noted = json.load(file)
+        put_in_place(folder)
+        self._noted = self._read()
         self.lease: int = self._noted.get("lease", 0)
         """By which the node of this store has its name, or had it in its earlier life."""
         self._is_foreign = self._is_changed = False
+        self._caught_up: list[float] = []
+        """When stores were taken from other nodes."""
+
+    def _read(self) -> dict[str, Any]:
+        """What was written down; nothing of a new store, or of one that comes from elsewhere."""
+        try:
+            with open(self._path, encoding="ascii") as file:
+                found = json.load(file)
+        except FileNotFoundError:
+            return {}
+        except ValueError:
+            found = None
+        if not isinstance(found, dict) or not isinstance(found.get("lease", 0), int):
+            raise RefusedStoreError(NOTED.format(self._path))
+        if found.get("version", VERSION) != VERSION:
+            raise RefusedStoreError(OTHER_VERSION.format(self._path))
+        return found
 
     async def look(self) -> None:
         last = rest = b""
@@ -64,18 +93,35 @@ class Replica(Keeper):
             if position:
                 raise RefusedStoreError(NO_LOG.format(position))
             identity = await self.begin(position)
-        if position == identity.first:
-            if await self._world() != identity.world:
-                raise RefusedStoreError(OTHER_WORLD)
-        elif position // EPOCH != identity.epoch:
-            raise RefusedStoreError(OTHER_LOG.format(position))
-        elif self._is_foreign:
-            raise RefusedStoreError(OTHER_WAY.format(position))
-        elif self._is_changed:
-            raise RefusedStoreError(CHANGED.format(position))
-        else:
-            await self._compare(position, identity)
+        if position != identity.first or await self._world() != identity.world:
+            await self._look_at_admission(position, identity)
         self._write(ended=None)
+
+    async def _look_at_admission(self, position: int, identity: Identity) -> None:
+        """The store is not the one with which the log begins."""
+        if position == 0 and await self._is_new():
+            raise BehindError(NEW, identity.first)
+        if position == identity.first:
+            raise RefusedStoreError(OTHER_WORLD)
+        if position // EPOCH != identity.epoch:
+            raise RefusedStoreError(OTHER_LOG.format(position))
+        if self._is_foreign:
+            raise RefusedStoreError(OTHER_WAY.format(position))
+        if self._is_changed:
+            raise RefusedStoreError(CHANGED.format(position))
+        await self._compare(position, identity)
+
+    async def _is_new(self) -> bool:
+        """Whether the store has the world of one that the program has just made."""
+        empty = os.path.join(self._folder, "empty")
+        shutil.rmtree(empty, ignore_errors=True)
+        child = await Child.start([self._program, "run", empty, "--messages"])
+        try:
+            if child:
+                await child.end()
+            return await self._world(empty) == await self._world()
+        finally:
+            shutil.rmtree(empty, ignore_errors=True)
 
     async def _compare(self, position: int, identity: Identity) -> None:
         """What the log has is what this store carried out, as far as that can be told."""
@@ -96,15 +142,32 @@ class Replica(Keeper):
             if number <= position:
                 raise RefusedStoreError(SKIPPED.format(number))
 
-    async def begin(self, position: int) -> Identity:
-        """Begins the log with this store, which a program has opened at this position, unless it has begun."""
-        epoch = position // EPOCH + random.randrange(1, 100 if position else 20_000)
+    async def begin(self, position: int, before: Identity | None = None) -> Identity:
+        """Begins the log with this store, which a program has opened at this position, unless it has begun; or in place of the
+        one before it, if that is there still and no node has it."""
+        least = max(position // EPOCH, before.epoch if before else 0)
+        epoch = least + random.randrange(1, 100 if least else 20_000)
         if epoch > LAST_EPOCH:
             raise RefusedStoreError(f"no log can begin after {position}")
-        return await self._log.begin(Identity(epoch, position, await self._world()))
+        identity = Identity(epoch, position, await self._world())
+        return await (self._log.begin_again(identity, before) if before else self._log.begin(identity))
 
     async def ended_at(self, number: int, refusal: bytes) -> None:
         """Nothing: an operator says whether all stores skip it."""
+
+    async def catch_up(self, error: BehindError) -> None:
+        """Takes the store of another node, which has come far enough; raises the error where none gives one."""
+        now = time.monotonic()
+        self._caught_up = [*(one for one in self._caught_up if one > now - WHILE), now]
+        if len(self._caught_up) > OFTEN:
+            raise error
+        logger.warning("%s: the store of another node is taken", error)
+        try:
+            position, place = await self._sources.take(error.needed)
+        except NoSeedError as why:
+            raise BehindError(f"{error}. No other node gives its store ({why})", error.needed) from None
+        self._noted = {}
+        logger.info("the store of the node at %s is taken, at %d", place, position)
 
     # What is written down
 
@@ -126,7 +189,7 @@ class Replica(Keeper):
         self._write(ended=await self._figures())
 
     def _write(self, **noted: Any) -> None:
-        self._noted.update(noted, lease=self.lease)
+        self._noted.update(noted, lease=self.lease, version=VERSION)
         with open(self._path + ".new", "wb") as file:
             file.write(json.dumps(self._noted).encode("ascii") + b"\n")
             file.flush()
@@ -135,20 +198,19 @@ class Replica(Keeper):
 
     # Commands that only look
 
-    async def _told(self, *words: str) -> AsyncIterator[bytes]:
+    async def _told(self, command: str, *further: str, folder: str = "") -> AsyncIterator[bytes]:
         """What a command tells of the store, piece after piece; nothing where there is none."""
-        command, *further = words
         process = await asyncio.create_subprocess_exec(
-            self._program, command, self._folder, *further, stdout=asyncio.subprocess.PIPE, stderr=asyncio.subprocess.DEVNULL
+            self._program, command, folder or self._folder, *further, stdout=asyncio.subprocess.PIPE, stderr=asyncio.subprocess.DEVNULL
         )
         assert process.stdout
         while piece := await process.stdout.read(1 << 16):
             yield piece
         await process.wait()
 
-    async def _world(self) -> str:
+    async def _world(self, folder: str = "") -> str:
         told = hashlib.sha256()
-        async for piece in self._told("dump", "--existing"):
+        async for piece in self._told("dump", "--existing", folder=folder):
             told.update(piece)
         return told.hexdigest()
 

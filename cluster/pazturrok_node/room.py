@@ -33,6 +33,7 @@ LEAST = 150.0
 """Longer than a client sends a form again."""
 
 REASON = "a member of etcd uses {:.0f} % of its quota: no form is taken"
+ALARM = "etcd has raised an alarm ({}): no form is taken until that is disarmed"
 FILE = "the file of a member of etcd has {:.0f} % of its quota: no form is taken until it is defragmented"
 
 
@@ -40,6 +41,7 @@ class Room:
     def __init__(self, etcd: Etcd, quota: int = QUOTA) -> None:
         self._etcd, self._quota = etcd, quota
         self._used = self._file = 0
+        self._alarm = ""
         self._wasteful: str | None = None
         self._shortening: asyncio.Future[None] | None = None
         self._put = 0
@@ -52,6 +54,7 @@ class Room:
         used = {url: int(told.get("dbSizeInUse", told.get("dbSize", "0"))) for url, told in found.items()}
         if found:
             self._used, self._file, self._put = max(used.values()), max(sizes.values()), 0
+        self._alarm = next((one for told in found.values() for one in told.get("errors", ()) if "alarm:" in one), "").strip()
         wasteful = (url for url, size in sizes.items() if size > WASTEFUL * self._quota and used[url] < size / 2)
         self._wasteful = next(wasteful, None)
 
@@ -85,8 +88,15 @@ class Room:
         return self.part > CROWDED or self._file > LARGEST_FILE * self._quota
 
     @property
+    def is_alarmed(self) -> bool:
+        """Whether etcd takes nothing at all."""
+        return self._alarm != ""
+
+    @property
     def reason(self) -> str | None:
         """Why no form is taken, or None."""
+        if self._alarm:
+            return ALARM.format(self._alarm)
         if self.part > FULL:
             return REASON.format(100 * self.part)
         if self._file > LARGEST_FILE * self._quota:

@@ -5,7 +5,6 @@ from __future__ import annotations
 import asyncio
 import collections
 import contextlib
-import json
 import logging
 import time
 from typing import Any
@@ -16,6 +15,7 @@ from .etcd_log import EtcdLog
 from .marks import Marker
 from .names import Name
 from .node import Node
+from .reports import Reports
 
 logger = logging.getLogger(__name__)
 
@@ -32,64 +32,50 @@ PAGE = 10_000
 """How many of them are asked for at once: etcd looks at all entries for that."""
 
 
-class Reports:
-    """What the nodes of a log tell of themselves, each under a lease."""
-
-    def __init__(self, log: EtcdLog) -> None:
-        self._log, self._prefix = log, log.prefix + b"nodes/"
-
-    async def put(self, name: Name, told: dict[str, int]) -> None:
-        """Tells it, where the name is still this node's; and those who watch the log see that it is alive."""
-        key = encoded(self._prefix + name.text.encode("ascii"))
-        report = {"key": key, "value": encoded(json.dumps(told).encode("ascii")), "lease": str(name.lease)}
-        beat = {"key": encoded(self._log.beat), "value": ""}
-        puts = [{"request_put": report}, {"request_put": beat}]
-        await self._log.etcd.call("/v3/kv/txn", {"compare": [name.is_held()], "success": puts})
-
-    async def all(self) -> dict[str, dict[str, int]]:
-        found = await self._log.etcd.call("/v3/kv/range", among(self._prefix))
-        return {decoded(entry["key"])[len(self._prefix) :].decode("ascii"): json.loads(decoded(entry["value"])) for entry in found.get("kvs", [])}
-
-
 class Trimmer:
     """Reports a node, and deletes old entries where no other node does. Entries stay `keep` seconds at least."""
 
-    def __init__(self, log: EtcdLog, name: Name, node: Node, marker: Marker, keep: float) -> None:
+    def __init__(self, log: EtcdLog, name: Name, node: Node, marker: Marker, keep: float, reports: Reports) -> None:
         self._name, self._node, self._marker, self._keep = name, node, marker, keep
-        self._log, self._etcd, self._reports = log, log.etcd, Reports(log)
+        self._log, self._etcd, self._reports = log, log.etcd, reports
         self._holder = log.prefix + b"trimmer"
         self.is_holder = False
         """Whether it is this node that sees to the log."""
-        self._marked, self._trimmed = 0.0, 0
+        self._marked, self._trimmed, self._noted = 0.0, 0, 0
         self._answered: collections.deque[tuple[float, int]] = collections.deque()
         """Up to where entries were carried out by some store, and when."""
         self._late: set[str] = set()
 
     async def run(self) -> None:
-        await self._node.is_admitted.wait()
-        answered = 0
+        """Does so for ever. A node whose store is not open yet is one of those that are waited for."""
         while True:
             try:
-                if self._node.position != answered:
-                    answered = self._node.position
-                    self._node.note()
-                await self._name.hold()
-                await self._node.heed_skips()
-                self._marker.heed()
-                reports = await self._report()
                 await self._log.room.look()
-                self.is_holder = await self._is_holder(self._name.text not in self._lag(reports))
-                if self.is_holder:
-                    self._log.room.shorten()
-                    await self._trim(reports)
+                if self._node.is_admitted.is_set():
+                    await self._look_at_store()
+                reports = await self._report()
+                if self._node.is_admitted.is_set():
+                    await self._see_to_log(reports)
             except EtcdError as error:
                 logger.error("etcd: %s", error)
             await asyncio.sleep(BEAT)
 
-    async def _report(self) -> dict[str, dict[str, int]]:
+    async def _look_at_store(self) -> None:
+        if self._node.position != self._noted:
+            self._noted = self._node.position
+            self._node.note()
+        await self._node.heed_skips()
+        self._marker.heed()
+
+    async def _see_to_log(self, reports: dict[str, dict[str, Any]]) -> None:
+        self.is_holder = await self._is_holder(self._name.text not in self._lag(reports))
+        if self.is_holder:
+            self._log.room.shorten()
+            await self._trim(reports)
+
+    async def _report(self) -> dict[str, dict[str, Any]]:
         """Reports this node, and gives the reports of all."""
-        told = {"answered": self._node.position, "lasting": self._node.lasting, "stuck": self._node.stuck}
-        await self._reports.put(self._name, told)
+        await self._reports.put(self._name, self._node)
         reports, now = await self._reports.all(), time.monotonic()
         self._answered.append((now, max((told["answered"] for told in reports.values()), default=0)))
         while len(self._answered) > 1 and self._answered[1][0] < now - max(self._keep, room.LEAST):
@@ -111,7 +97,7 @@ class Trimmer:
         held = found["responses"][0]["response_range"].get("kvs", [])
         return bool(held) and decoded(held[0]["value"]) == name
 
-    async def _trim(self, reports: dict[str, dict[str, int]]) -> None:
+    async def _trim(self, reports: dict[str, dict[str, Any]]) -> None:
         self._mark()
         is_crowded = self._log.room.is_crowded
         keep = min(self._keep, room.LEAST) if is_crowded else self._keep
@@ -138,12 +124,12 @@ class Trimmer:
         with contextlib.suppress(CompactedError):
             await self._etcd.call("/v3/kv/compaction", {"revision": str(revision)})
 
-    def _lag(self, reports: dict[str, dict[str, int]]) -> set[str]:
+    def _lag(self, reports: dict[str, dict[str, Any]]) -> set[str]:
         """The nodes whose stores lag by LEAST seconds."""
         wanted = self._position_before(room.LEAST)
         return {name for name, told in reports.items() if told["lasting"] < wanted and told["answered"] < wanted}
 
-    def _least(self, reports: dict[str, dict[str, int]]) -> int:
+    def _least(self, reports: dict[str, dict[str, Any]]) -> int:
         """The position that the stores of all nodes have for good. Where there is little room no node is waited for that lags."""
         late = self._lag(reports) if self._log.room.is_crowded else set()
         if late - self._late:

@@ -2,7 +2,7 @@
 --     accepted_silent      one that does not write leaves the state as it was
 --     accepted_covers      it leaves no readtables which name other functions than those that may be named
 --     accepted_without_base      one that is accepted where *READ-BASE* is no variable is accepted where it is one
---     accepted_with_more, accepted_as_before      one that is accepted with some operators is accepted with more
+--     accepted_with_values, accepted_with_more, accepted_as_before      one that is accepted with some operators is accepted with more
 --     accepted_numbered      it is refused under a number of evaluation
 --     accepted_as_asked      it gives what it gives as a question
 use Rattle.std.proofs.Common.{◌≡◌, ◌≤◌, ℕ, Bool, true, false, List, Ok, Err, Result, ap, refl, subst, sym, ◌∙◌}
@@ -94,18 +94,22 @@ module _ (names : List Name) where
   accepted_without_base s x d is = with_symbols_without_base s (with_symbols s.packages (symbols x)) x d is
 
 -- ---- more operators
-module _ (based : Bool) (fewer more : OperatorTable) (among : AreOperatorsAmong fewer more) where
+module _ (based : Bool) (fewer more : OperatorTable) (wider : (s : WorldState) (x : Object) (d : Done Object) → value_over based fewer s x ≡ Ok d → value_over based more s x ≡ Ok d) where
   also_too : (wrote : Bool) (o p : Evaluation Object) (d : Done Object) → ((e : Done Object) → o ≡ Ok e → p ≡ Ok e) → also wrote o ≡ Ok d → also wrote p ≡ Ok d
   also_too wrote (Ok e) p d each is = ap (also wrote) (each e refl) ∙ is
   also_too wrote (Err code) p d each is = absurd (let no : Err code ≡ Ok d = is in cc)
 
   with_symbols_too : (s : WorldState) (r : Result (Table × Bool) PackageError) (x : Object) (d : Done Object) → accepted_over based fewer s r x ≡ Ok d → accepted_over based more s r x ≡ Ok d
   with_symbols_too s (Ok p) x d is =
-      also_too p.1 (value_over based fewer (with_packages s p.0) x) (value_over based more (with_packages s p.0) x) d (wider_operators based fewer more among (with_packages s p.0) x) is
+      also_too p.1 (value_over based fewer (with_packages s p.0) x) (value_over based more (with_packages s p.0) x) d (wider (with_packages s p.0) x) is
   with_symbols_too s (Err e) x d is = absurd (let no : Err (number_of e) ≡ Ok d = is in cc)
 
-  pub accepted_with_more : (s : WorldState) (x : Object) (d : Done Object) → accept_over based fewer s x ≡ Ok d → accept_over based more s x ≡ Ok d
-  accepted_with_more s x d is = with_symbols_too s (with_symbols s.packages (symbols x)) x d is
+  pub accepted_with_values : (s : WorldState) (x : Object) (d : Done Object) → accept_over based fewer s x ≡ Ok d → accept_over based more s x ≡ Ok d
+  accepted_with_values s x d is = with_symbols_too s (with_symbols s.packages (symbols x)) x d is
+
+pub accepted_with_more : (based : Bool) (fewer more : OperatorTable) → AreOperatorsAmong fewer more → (s : WorldState) (x : Object) (d : Done Object)
+    → accept_over based fewer s x ≡ Ok d → accept_over based more s x ≡ Ok d
+accepted_with_more based fewer more among = accepted_with_values based fewer more (wider_operators based fewer more among)
 
 -- the operators of COMMON-LISP alone
 pub accepted_as_before : (based : Bool) (names : List Name) (s : WorldState) (x : Object) (d : Done Object) → accept_over based (standard_operator_of names) s x ≡ Ok d → accept_by based names s x ≡ Ok d

@@ -7,11 +7,14 @@ ghost use Rattle.plist_state.specs.Sound.{IsSound};
 ghost use Rattle.lisp_operators.specs.Evaluation.{Done, also, gives};
 ghost use Rattle.lisp_operators.specs.Properties.{t};
 ghost use Rattle.evaluator.specs.Operators.{OperatorTable, AreOperatorsAmong, standard_operator_of};
+ghost use Rattle.evaluator.specs.EarlierOperators.{operators_before_deciding, operators_before_places};
 ghost use Rattle.evaluator.specs.Value.{value, are_clauses};
 ghost use Rattle.evaluator.specs.DecidingForms.{if_form, progn_form, and_form, or_form, cond_form, when_form, unless_form};
 ghost use Rattle.form_eval.specs.Acceptance.{accept, accept_by, accept_over, asked};
 ghost use Rattle.lisp_operators.specs.Readtables.{AreCovered, AreFunctionNames};
 ghost use Rattle.form_eval.specs.Laws.{IsForm, IsSoundAfter};
+
+use evaluator::laws::more_operators_change_no_value;
 
 /// A form that is accepted and does not write leaves the state of the world as it was. For proofs: it does nothing.
 pub fn silent_forms_change_nothing()
@@ -50,7 +53,8 @@ pub fn without_a_base()
 {}
 
 /// A form that is accepted with the operators of one table is accepted with those of another that has the same ones and more, with
-/// the same value and the same state. So where a symbol becomes an operator, each form that was accepted stays what it was. Both with
+/// the same value and the same state. So where a symbol becomes an operator, each form that was accepted stays what it was: with the
+/// operators of COMMON-LISP alone, with those before AND and its like, and with those before FIND-SYMBOL, DECF and their like. Both with
 /// and without the variable `*READ-BASE*`. For proofs: it does nothing.
 pub fn more_operators_change_no_form()
     ensures tables { (based : Bool) (fewer more : OperatorTable) (s : WorldState) (x : Object)
@@ -59,7 +63,15 @@ pub fn more_operators_change_no_form()
     ensures standard { (based : Bool) (names : List Name) (s : WorldState) (x : Object)
         → (d : Done Object) → accept_over based (standard_operator_of names) s x ≡ Ok d
         → accept_by based names s x ≡ Ok d }
-{}
+    ensures before_deciding { (based : Bool) (names : List Name) (s : WorldState) (x : Object)
+        → (d : Done Object) → accept_over based (operators_before_deciding names) s x ≡ Ok d
+        → accept_by based names s x ≡ Ok d }
+    ensures before_places { (based : Bool) (names : List Name) (s : WorldState) (x : Object)
+        → (d : Done Object) → accept_over based (operators_before_places names) s x ≡ Ok d
+        → accept_by based names s x ≡ Ok d }
+{
+    more_operators_change_no_value();
+}
 
 /// What a form gives as a question it gives when it is accepted, and the same refusal; but that it is accepted counts as
 /// writing also where a symbol is new. For proofs: it does nothing.

@@ -7,7 +7,7 @@ use Rattle.lisp_object.specs.Object.{Object, text, symbol}
 use Rattle.lisp_object.specs.declared.refusal.TheConstants.{NO_SUCH_PACKAGE, PACKAGE_IS_LOCKED}
 use Rattle.package_table.specs.declared.error.PackageError.{PackageError}
 use Rattle.package_table.specs.Table as packages
-use Rattle.package_table.specs.Table.{Name, Table, full_name, keyword, is_locked, package_named, IsPackage, IsPresent}
+use Rattle.package_table.specs.Table.{Name, Table, full_name, keyword, is_locked, package_named, IsPackage}
 use Rattle.package_table.specs.Changes.{after_make, after_intern, after_export, after_import, after_use, finds_this, intern_changes, export_changes, import_changes, use_changes}
 use Rattle.package_table.specs.Growth.{Grows}
 use Rattle.package_table.proofs.Names.{same_some, none_some}

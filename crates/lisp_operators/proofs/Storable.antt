@@ -8,11 +8,11 @@ use Rattle.std.specs.FinMap as finite
 use Rattle.std.specs.FinMap.{get-from_entries}
 use Rattle.std.proofs.lemmas.List.Elements.{All-weaker, All-cons, All-nil, All-head, All-tail}
 use Rattle.lisp_object.specs.Object as object
-use Rattle.lisp_object.specs.Object.{Object, integer, rational, character, text, symbol, uninterned, pair, vector, nil, is_nil, pairs, list_of, AllAtoms, object_depth, depth_along}
+use Rattle.lisp_object.specs.Object.{Object, integer, rational, character, text, symbol, uninterned, pair, vector, nil, is_nil, list_of, AllAtoms, object_depth, depth_along}
 use Rattle.lisp_object.proofs.Atoms.{atoms_weaker}
 use Rattle.lisp_object.proofs.Sound.{sound_nil}
 use Rattle.package_table.specs.Table as packages
-use Rattle.package_table.specs.Table.{Name, Present, Package, common_lisp, common_lisp_names, common_lisp_package, keyword, IsPresent, IsPackage}
+use Rattle.package_table.specs.Table.{Name, Present, Package, common_lisp, common_lisp_names, common_lisp_package, keyword, IsPresent}
 use Rattle.package_table.specs.Growth.{Grows}
 use Rattle.package_table.proofs.Names.{name_total, same_some, none_some}
 use Rattle.package_table.proofs.Frames.{equal_names}

@@ -9,7 +9,8 @@
 //!   `effects`: SETF and PUSH of a property, where their values are not asked for
 //! - `error`, `evaluated`: what an operator gives, `EvaluationError` and `Evaluated`
 //! - `arguments`, `owned_arguments`, `kinds`, `lists`, `values`: so many arguments, what each stands for, lists of them, and
-//!   values that are built; `list_builder`: a list that is built of one value after the other; `changes`: changes of the packages, one after the other
+//!   values that are built; `list_builder`: a list that is built of one value after the other, by the sizes of its items
+//!   (`sizes`); `changes`: changes of the packages, one after the other
 //!
 //! # Laws for the crates above
 //!
@@ -25,6 +26,7 @@
 //! - proofs/SameBase.antt: no operator but SETF of `*READ-BASE*` changes the base.
 //! - proofs/PackageSteps.antt, proofs/Unmoved.antt: changes of the packages one after the other, and those that
 //!   change nothing.
+//! - proofs/LookUpLaws.antt, proofs/PlaceLaws.antt: the same laws of the operators that look up, and of those that change a place.
 //! - proofs/PropertyRows.antt, proofs/Shapes.antt: what the operators on property lists build, and objects by the
 //!   data that stand for them.
 #![tactic(auto)]

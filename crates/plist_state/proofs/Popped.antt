@@ -5,7 +5,7 @@
 --     popped_named      the change by numbers is that by symbols
 --     first_there, none_popped, with_popped_there, popped_put      whether there is a first item
 --     rest_value      what follows the first item of a value that may be stored may be stored
-use Rattle.std.proofs.Common.{◌≡◌, ℕ, suc, ◌+◌, ◌<◌, ◌≤◌, max, Bool, true, false, cond, Option, None, Some, Result, Ok, Err, All, List, [], ◌∷◌, ◌++◌, length, map, unwrap_or, refl, sym, ap, subst, ◌∙◌, arith}
+use Rattle.std.proofs.Common.{◌≡◌, ℕ, suc, ◌+◌, ◌≤◌, max, Bool, true, false, cond, Option, None, Some, Result, Ok, Err, All, List, [], ◌∷◌, ◌++◌, length, map, unwrap_or, refl, sym, ap, subst, ◌∙◌, arith}
 use Rattle.std.specs.Prelude.{nat_le, OnOk}
 use Rattle.std.proofs.lemmas.Bool.{and_from}
 use Rattle.std.proofs.lemmas.List.Elements.{All-head, All-tail}

@@ -4,6 +4,7 @@
 --     overwritten, overwritten_since      a value that is overwritten as the newest notes are undone
 --     passed, earlier_notes      one note more is looked at, and notes before those
 --     not_noted, property_unnoted      no note is wanted
+--     removed_noted, property_noted_as      a note without the value of the property that was taken out
 use Rattle.std.proofs.Common.{◌≡◌, ◌≢◌, ℕ, zero, suc, ◌+◌, ◌-◌, ◌≤◌, ◌<◌, ◌==◌, Bool, true, false, cond, Option, None, Some, unwrap_or, List, [], ◌∷◌, ◌++◌, length, take, drop, get_or, slice_range, refl, sym, ap, subst, ◌∙◌, arith}
 use Rattle.std.specs.Prelude.{nat_le}
 use Rattle.std.proofs.lemmas.Bool.Decides.{nat_tests}
@@ -18,6 +19,7 @@ use Rattle.std.specs.FinMap.{same_map, nat_cmp-IsAntisymmetric}
 use Rattle.lisp_object.specs.Object.{Object}
 use Rattle.lisp_object.specs.Datum.{object_of}
 use Rattle.lisp_object.specs.declared.datum.Datum.{Datum}
+use Rattle.property_rows.specs.declared.property.NumberedProperty.{NumberedProperty}
 use Rattle.plist_state.specs.declared.note.PropertyChange.{PropertyChange}
 use Rattle.plist_state.specs.declared.note.PropertyChange.TheVariants.{Set, Added, Removed, Pushed, Popped}
 use Rattle.plist_state.specs.declared.note.Note.{Note}
@@ -26,8 +28,9 @@ use Rattle.plist_state.specs.declared.overwritten.PropertyPlace.{PropertyPlace}
 use Rattle.plist_state.specs.Lists.{NumberedPlist, NumberedLists, row_of, with_row}
 use Rattle.plist_state.specs.Shown.{Rows, room_at, lists_in, NumberedRest}
 use Rattle.plist_state.specs.Undoing.{with_value_at, with_changed_at, with_items, with_inserted, without_first, list_before, undone, all_undone, rests_at}
-use Rattle.plist_state.specs.Journal.{marks_of, Fits, LeadsBack, IsJournal, Continues}
-use Rattle.plist_state.specs.Overwritten.{before_change, before_note, before_notes, with_at, IsOverwritten}
+use Rattle.plist_state.specs.Kept.{IsProperChange}
+use Rattle.plist_state.specs.Journal.{marks_of, IsNoted, Fits, LeadsBack, IsJournal, Continues}
+use Rattle.plist_state.specs.Overwritten.{before_change, before_note, before_notes, with_at, IsOverwritten, LeadsBackAs}
 use Rattle.plist_state.proofs.Indices.{with_value_at-past, with_value_at-twice, length-inserted}
 use Rattle.plist_state.proofs.ListRows.{one_number, get-with_row, row-with_row, with_row_twice, property_back}
 use Rattle.plist_state.proofs.Lists.{kept}
@@ -85,6 +88,12 @@ insert_after [] k j q x here within = absurd (omega (arith, within))
 insert_after (p ∷ ps) zero j q x here within = absurd (omega (arith, here))
 insert_after (p ∷ ps) (suc k) zero q x here within = refl
 insert_after (p ∷ ps) (suc k) (suc j) q x here within = ap (λ qs. p ∷ qs) (insert_after ps k j q x (omega (arith, here)) (omega (arith, within)))
+
+inserted_set : (ps : NumberedPlist) (k : ℕ) (q : ℕ × Object) (x : Object) → k ≤ length ps → with_value_at (with_inserted ps k q) k x ≡ with_inserted ps k (q.0, x)
+inserted_set [] zero q x here = refl
+inserted_set [] (suc k) q x here = absurd (omega (arith, here))
+inserted_set (p ∷ ps) zero q x here = refl
+inserted_set (p ∷ ps) (suc k) q x here = ap (λ qs. p ∷ qs) (inserted_set ps k q x (omega (arith, here)))
 
 -- the lists are the same but for the value at a place, or are the same
 abbrev ListFollows : NumberedPlist → Option PropertyPlace → NumberedPlist → Type 0
@@ -247,17 +256,22 @@ follows_notes x [] p s a f = f
 follows_notes x (n ∷ ns) p s a f = follows_note x n (before_notes x ns p) (all_undone ns s) (all_undone ns a) (follows_notes x ns p s a f)
 
 -- ---- the memory of the rows
-same_lengths : (x : ℕ) (o : Option PropertyPlace) (s a : NumberedRest) → Follows x s o a → (y : ℕ) → length (row_of a.properties y) ≡ length (row_of s.properties y)
-same_lengths x None s a f y = ap (λ (r : NumberedRest). length (row_of r.properties y)) f
-same_lengths x (Some p) s a f y =
-    let qs : NumberedPlist = with_value_at (row_of s.properties x) p.index f.0 in
-    ap (λ (r : NumberedRest). length (row_of r.properties y)) f.3
-    ∙ elim (eq_by_cmp nat_cmp y x) as (λ b. eq_by_cmp nat_cmp y x ≡ b → length (row_of (with_row s.properties x qs) y) ≡ length (row_of s.properties y)) [
+lengths_at : (s : NumberedRest) (x k : ℕ) (v : Object) (y : ℕ) → length (row_of (with_at s x k v).properties y) ≡ length (row_of s.properties y)
+lengths_at s x k v y =
+    let qs : NumberedPlist = with_value_at (row_of s.properties x) k v in
+    elim (eq_by_cmp nat_cmp y x) as (λ b. eq_by_cmp nat_cmp y x ≡ b → length (row_of (with_row s.properties x qs) y) ≡ length (row_of s.properties y)) [
       | true ↦ λ e.
           subst (λ z. length (row_of (with_row s.properties x qs) z) ≡ length (row_of s.properties z)) (sym (one_number y x e))
-          (ap length (row-with_row s.properties x qs) ∙ length-set (row_of s.properties x) p.index f.0)
+          (ap length (row-with_row s.properties x qs) ∙ length-set (row_of s.properties x) k v)
       | false ↦ λ e. ap length (row_apart s.properties x y qs e)
     ] refl
+
+fits_at : (rows : Rows) (s : NumberedRest) (x k : ℕ) (v : Object) → Fits rows s → Fits rows (with_at s x k v)
+fits_at rows s x k v fits y = subst (λ n. n ≤ room_at rows y) (sym (lengths_at s x k v y)) (fits y)
+
+same_lengths : (x : ℕ) (o : Option PropertyPlace) (s a : NumberedRest) → Follows x s o a → (y : ℕ) → length (row_of a.properties y) ≡ length (row_of s.properties y)
+same_lengths x None s a f y = ap (λ (r : NumberedRest). length (row_of r.properties y)) f
+same_lengths x (Some p) s a f y = ap (λ (r : NumberedRest). length (row_of r.properties y)) f.3 ∙ lengths_at s x p.index f.0 y
 
 leads_to : (x : ℕ) (ns : List Note) (p : PropertyPlace) (s a : NumberedRest) (rows : Rows) → Follows x s (Some p) a → LeadsBack ns s rows → LeadsBack ns a rows
 leads_to x [] p s a rows f leads = tt
@@ -284,13 +298,16 @@ back_the_same ms ns t u back leads = record {
 }
 
 overwritten : (ms : List (List Note)) (ns : List Note) (x : ℕ) (p : PropertyPlace) → before_notes x ns p ≡ None → p.index < p.length → IsOverwritten (ms ++ ns ∷ []) x p
-overwritten ms ns x p none within r v long =
-    let a : NumberedRest = with_at r x p.index v in
-    let f : Follows x r (Some p) a = (v, long, within, refl) in
-    let back : all_undone ns a ≡ all_undone ns r = subst (λ o. Follows x (all_undone ns r) o (all_undone ns a)) none (follows_notes x ns p r a f) in (
-      back_the_same ms ns r a back (λ rows. leads_to x ns p r a rows f),
-      back_the_same ms ns a r (sym back) (λ rows. leads_from x ns p r a rows f),
-    )
+overwritten ms ns x p none within = record {
+  within = within;
+  same = λ r v long.
+      let a : NumberedRest = with_at r x p.index v in
+      let f : Follows x r (Some p) a = (v, long, within, refl) in
+      let back : all_undone ns a ≡ all_undone ns r = subst (λ o. Follows x (all_undone ns r) o (all_undone ns a)) none (follows_notes x ns p r a f) in (
+        back_the_same ms ns r a back (λ rows. leads_to x ns p r a rows f),
+        back_the_same ms ns a r (sym back) (λ rows. leads_from x ns p r a rows f),
+      );
+}
 
 pub earlier_notes : (x : ℕ) (k : ℕ) (ns : List Note) (p : PropertyPlace) → before_notes x (drop k ns) p ≡ None → before_notes x ns p ≡ None
 earlier_notes x zero ns p none = none
@@ -329,7 +346,7 @@ overwritten_since ms newest is x p k none within =
 pub not_noted : (ms : List (List Note)) (x : ℕ) (p : PropertyPlace) (k : ℕ) (d : Datum) → p.index ≡ k → IsOverwritten ms x p → (t u : NumberedRest)
     → length (row_of u.properties x) ≡ p.length → undone (Property x (Set k d)) u ≡ t → Continues ms t ms u
 not_noted ms x p k d here gone t u long undoes =
-    subst (λ (r : NumberedRest). Continues ms r ms u) (ap (λ j. with_at u x j (object_of d)) here ∙ undoes) (gone u (object_of d) long).1
+    subst (λ (r : NumberedRest). Continues ms r ms u) (ap (λ j. with_at u x j (object_of d)) here ∙ undoes) (gone.same u (object_of d) long).1
 
 -- the same where a call made the rows
 pub property_unnoted : (ms ks : List (List Note)) → ks ≡ ms → (x : ℕ) (change : PropertyChange) (t : NumberedRest) (rows later : Rows) (ps : NumberedPlist)
@@ -340,3 +357,38 @@ property_unnoted ms ks same x change t rows later ps unnoted put back =
     subst (λ k. Continues k (record t { properties = lists_in rows }) ks (record t { properties = lists_in later })) same
     (unnoted (record t { properties = lists_in rows }) (record t { properties = lists_in later }) refl
     (ap (λ (m : NumberedLists). record t { properties = m }) (property_back rows later x ps change put back)))
+
+-- ---- a note without the value of the property that was taken out
+continues_both : (ms ks ns : List (List Note)) (t s u : NumberedRest) → ((rows : Rows) → Fits rows t → Fits rows s) → Continues ms t ks s → Continues ks s ns u → Continues ms t ns u
+continues_both ms ks ns t s u room former latter = record {
+  same = latter.same ∙ former.same;
+  journal = λ rows fits journal. latter.journal rows (room rows fits) (former.journal rows fits journal);
+}
+
+-- the list without the property is shorter, and with it and another value it is the one before with that value
+pub removed_noted : (ms : List (List Note)) (x k count : ℕ) (p q : NumberedProperty) → q.indicator ≡ p.indicator → IsOverwritten ms x (record { index = k; length = count })
+    → LeadsBackAs ms x count (Removed k p) (Removed k q)
+removed_noted ms x k count p q same gone ns t u long undoes continues =
+    let ps : NumberedPlist = row_of u.properties x in
+    let v : Object = object_of q.value in
+    let former : ℕ × Object = (p.indicator, object_of p.value) in
+    let more : length (row_of t.properties x) ≡ suc (length ps) =
+    ap (λ (r : NumberedRest). length (row_of r.properties x)) (sym undoes) ∙ ap length (row-with_row u.properties x (with_inserted ps k former)) ∙ length-inserted ps k former in
+    let within : k ≤ length ps = (let less : k < count = gone.within in omega (arith, less, long, more)) in
+    let one : with_at t x k v ≡ undone (Property x (Removed k q)) u =
+    ap (λ (r : NumberedRest). with_at r x k v) (sym undoes) ∙ put_at x (Removed k p) u k v
+    ∙ ap (λ qs. record u { properties = with_row u.properties x qs }) (inserted_set ps k former v within ∙ ap (λ i. with_inserted ps k (i, v)) (sym same)) in
+    continues_both ms ms ns t (with_at t x k v) u (λ rows. fits_at rows t x k v) (gone.same t v long).0 (subst (λ (r : NumberedRest). Continues ms r ns u) (sym one) continues)
+
+-- the same where a call made the rows
+pub property_noted_as : (ms ks ns : List (List Note)) → ks ≡ ms → (x count : ℕ) (change other : PropertyChange) → LeadsBackAs ks x count change other
+    → ((t u : NumberedRest) → IsNoted (Property x other) → undone (Property x other) u ≡ t → Continues ks t ns u) → IsProperChange other
+    → (t : NumberedRest) (rows later : Rows) (ps : NumberedPlist) → count ≡ length (row_of (lists_in rows) x)
+    → lists_in later ≡ with_row (lists_in rows) x ps → list_before change (row_of (lists_in later) x) ≡ row_of (lists_in rows) x
+    → Continues ms (record t { properties = lists_in rows }) ns (record t { properties = lists_in later })
+property_noted_as ms ks ns same x count change other alike pushed proper t rows later ps long put back =
+    let u : NumberedRest = record t { properties = lists_in later } in
+    subst (λ k. Continues k (record t { properties = lists_in rows }) ns u) same
+    (alike ns (record t { properties = lists_in rows }) u (sym long)
+    (ap (λ (m : NumberedLists). record t { properties = m }) (property_back rows later x ps change put back))
+    (pushed (undone (Property x other) u) u proper refl))

@@ -1,5 +1,5 @@
 -- Values that do not matter where one goes back, since each is overwritten as earlier changes are undone.
-use Rattle.std.specs.Prelude.{◌≡◌, ℕ, ◌+◌, ◌-◌, ◌==◌, nat_le, if◌then◌else◌, Option, None, Some, List, [], ◌∷◌, length}
+use Rattle.std.specs.Prelude.{◌≡◌, ℕ, ◌+◌, ◌-◌, ◌<◌, ◌==◌, nat_le, if◌then◌else◌, Option, None, Some, List, [], ◌∷◌, length}
 use Rattle.std.specs.Option.{option_and_then}
 use Rattle.lisp_object.specs.Object.{Object}
 use Rattle.plist_state.specs.declared.note.PropertyChange.{PropertyChange}
@@ -9,7 +9,7 @@ use Rattle.plist_state.specs.declared.note.Note.TheVariants.{Property, Made, Cha
 use Rattle.plist_state.specs.declared.overwritten.PropertyPlace.{PropertyPlace}
 use Rattle.plist_state.specs.Lists.{row_of, with_row}
 use Rattle.plist_state.specs.Shown.{NumberedRest}
-use Rattle.plist_state.specs.Undoing.{with_value_at}
+use Rattle.plist_state.specs.Undoing.{with_value_at, undone}
 use Rattle.plist_state.specs.Journal.{Continues}
 
 -- where the property at a place was before a change of its list; none where its value is overwritten as the change is undone
@@ -39,8 +39,14 @@ before_notes x (n ∷ ns) p = option_and_then (before_note x n) (before_notes x 
 abbrev pub with_at : NumberedRest → ℕ → ℕ → Object → NumberedRest
 with_at r x index v = record r { properties = with_row r.properties x (with_value_at (row_of r.properties x) index v) }
 
--- whatever the property at this place has, one gets back to the same
-abbrev pub IsOverwritten : List (List Note) → ℕ → PropertyPlace → Type 0
-IsOverwritten ms x p =
-    (r : NumberedRest) (v : Object) → length (row_of r.properties x) ≡ p.length
-    → Continues ms r ms (with_at r x p.index v) × Continues ms (with_at r x p.index v) ms r
+-- There is a property at this place, and whatever it has, one gets back to the same.
+pub record IsOverwritten (ms : List (List Note)) (x : ℕ) (p : PropertyPlace) : Type 0 where
+  pub within : p.index < p.length
+  pub same : (r : NumberedRest) (v : Object) → length (row_of r.properties x) ≡ p.length
+      → Continues ms r ms (with_at r x p.index v) × Continues ms (with_at r x p.index v) ms r
+
+-- Where the list of the symbol x had so many properties before a change, a note of the other change leads back as well.
+abbrev pub LeadsBackAs : List (List Note) → ℕ → ℕ → PropertyChange → PropertyChange → Type 0
+LeadsBackAs ms x count change other =
+    (ns : List (List Note)) (t u : NumberedRest) → length (row_of t.properties x) ≡ count → undone (Property x change) u ≡ t
+    → Continues ms (undone (Property x other) u) ns u → Continues ms t ns u

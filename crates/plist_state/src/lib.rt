@@ -28,7 +28,7 @@
 //! - `symbol`, `property`, `property_list`: `Symbol`, `BorrowedSymbol`, `Property`, `PropertyList`
 //! - `error`: `ReadtableError`
 //! - `stored`: what a world keeps besides its packages, over `rows` (property lists by number; `row_index`: the indexes of
-//!   long ones; `pops`: items taken off their lists) and `tables` (readtables by name; `copies`: those that are copied)
+//!   long ones; `pops`: items taken off their lists; `first_items`: the front of a list) and `tables` (readtables by name; `copies`: those that are copied)
 //! - `sizes`: how large lists are that items were put before
 //!
 //! # Definitions for the crates above

@@ -1,10 +1,12 @@
 //! Values that need not be noted: as earlier changes are undone, each is overwritten, or its property is taken away.
 ghost use Rattle.std.specs.Prelude.{◌≡◌, ◌<◌, ◌≤◌, ◌-◌, ◌^◌, None, true, length};
 ghost use Rattle.plist_state.specs.Journal.{marks_of};
-ghost use Rattle.plist_state.specs.Overwritten.{before_change, before_note, before_notes, IsOverwritten};
+ghost use Rattle.plist_state.specs.Kept.{IsProperChange};
+ghost use Rattle.plist_state.specs.Overwritten.{before_change, before_note, before_notes, IsOverwritten, LeadsBackAs};
 
 use crate::note::{Note, PropertyChange};
 use lisp_object::Datum;
+use property_rows::NumberedProperty;
 
 /// Where a property is: its index, and the length of the list that it is in.
 #[derive(Clone, Copy)]
@@ -125,4 +127,36 @@ pub(crate) fn is_overwritten(
     }
     let first = first_looked_at(notes.as_slice(), value);
     overwrites(&notes.as_slice()[first..], number, place)
+}
+
+/// A change as it is noted, where the list had so many properties before it: the value of a property that was taken out is not
+/// kept if what there is at the newest mark does not depend on it. An integer stands for it.
+pub(crate) fn as_noted(
+    marks: &[Vec<Note>],
+    number: u32,
+    count: usize,
+    change: PropertyChange,
+) -> PropertyChange
+    requires { IsProperChange change }
+    ensures proper { IsProperChange result }
+    ensures back { LeadsBackAs (marks_of marks.now) number count change result }
+{
+    match change {
+        PropertyChange::Removed { index, property } => {
+            let place = PropertyPlace {
+                index,
+                length: count,
+            };
+            if !is_overwritten(marks, number, place, &property.value) {
+                return PropertyChange::Removed { index, property };
+            }
+            let property = NumberedProperty {
+                indicator: property.indicator,
+                order: property.order,
+                value: Datum::Integer(0),
+            };
+            PropertyChange::Removed { index, property }
+        }
+        change => change,
+    }
 }

@@ -130,6 +130,8 @@ fn write_first(
     requires values { IsProperRow row.old }
     requires list { holds_pair (value_by same_number (plist_of row.old) indicator) ≡ true }
     requires indexed { IsIndexedIn indexes.now.entries number row.old.items }
+
+    // The list has the item first, and without it is as it was.
     ensures ok { IfOk result (λ _. plist_of row.new
         ≡ with_pushed_by same_number (plist_of row.old) indicator (object_of first)) }
     ensures back { IfOk result (GoesBack (plist_of row.old) (plist_of row.new)) }

@@ -17,7 +17,7 @@ ghost use Rattle.plist_state.specs.Journal.{marks_of, Continues};
 use crate::first_items::{count_items, end_of};
 use crate::journal::{push_note, reserve_note};
 use crate::note::{Note, PropertyChange};
-use crate::overwritten::{PropertyPlace, is_overwritten};
+use crate::overwritten::{PropertyPlace, as_noted, is_overwritten};
 use crate::row_index::Indexes;
 use crate::tables::{STANDARD, USER};
 use crate::{pops, rows};
@@ -73,14 +73,6 @@ pub(crate) fn first_stored(alloc: Global) -> Result<Stored, AllocError>
     })
 }
 
-// Whether there is a note under the newest mark.
-fn has_notes(marks: &[Vec<Note>]) -> bool {
-    match marks.last() {
-        Some(notes) => !notes.is_empty(),
-        None => false,
-    }
-}
-
 // Whether a value that was set need not be noted: the one that it overwrote is overwritten as earlier changes are undone.
 fn needs_no_note(
     rows: &BTreeMap<u32, Row>,
@@ -94,7 +86,10 @@ fn needs_no_note(
     let PropertyChange::Set { index, value } = change else {
         return false;
     };
-    if !has_notes(marks) {
+    let Some(newest) = marks.last() else {
+        return false;
+    };
+    if newest.is_empty() {
         return false;
     }
     let length = rows::count(rows, number);
@@ -277,7 +272,8 @@ fn tidy_unmarked(stored: &mut Stored, marks: &[Vec<Note>], number: u32)
     }
 }
 
-/// Removes a property of the symbol of a number, notes it, and answers whether it was there.
+/// Removes a property of the symbol of a number, notes it, and answers whether it was there. Its value is noted where that has to
+/// be kept.
 pub(crate) fn remove(
     stored: &mut Stored,
     marks: &mut Vec<Vec<Note>>,
@@ -308,11 +304,13 @@ pub(crate) fn remove(
         return Ok(false);
     }
     reserve_note(marks)?;
+    let count = rows::count(&stored.properties, number);
     let Some(change) = rows::remove(&mut stored.properties, &stored.indexes, number, indicator)
     else {
         unreachable!()
     };
     tidy_unmarked(stored, marks.as_slice(), number);
+    let change = as_noted(marks.as_slice(), number, count, change);
     push_note(marks, Note::Property { number, change });
     Ok(true)
 }

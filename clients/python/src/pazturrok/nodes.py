@@ -4,6 +4,7 @@ from __future__ import annotations
 
 import contextlib
 import math
+import re
 import selectors
 import socket
 import ssl
@@ -21,12 +22,25 @@ from .errors import (
     NoNodeError,
     RefusedError,
     StoreError,
+    UnsendableError,
 )
 from .messages import FrameSplitter, question, text_of
 from .naming import NAMING_QUESTION, Naming, until_naming
 from .properties import Properties
 from .store import Form, Outcome, changes_naming
 from .values import Value
+
+VERSION = 1
+"""Of the frames that are sent."""
+
+NAME = re.compile(r"[A-Za-z0-9._-]{1,100}")
+"""What the name of a message is."""
+
+AT_ONCE = 2000
+"""How many messages are sent before the first of them is answered."""
+
+RESEND = 140.0
+"""So many seconds a message is sent again. Its name may be free after 150, and it would be carried out twice."""
 
 PIECE = 65536
 PAUSE = 0.05
@@ -37,6 +51,9 @@ MOST_TRIES = 6
 
 OLD_NUMBER = 50
 """The refusal of a message that was carried out before, and whose answer is not kept any more."""
+
+NO_ROOM = 54
+"""The refusal of a message, or of a client, for which a node has no room."""
 
 
 class Connection:
@@ -153,6 +170,8 @@ class NodeStore(Shared, Properties):
         A name of one's own makes it one with what another call, or another process, sends under it: 1 to 100
         letters, digits, dots, hyphens and underscores.
         """
+        if name is not None and not NAME.fullmatch(name):
+            raise UnsendableError(name, "a name has 1 to 100 letters, digits, dots, hyphens and underscores")
         value = self._do_texts([text_of(form, self._unicode)], name)[0]
         if isinstance(value, StoreError):
             raise value
@@ -182,10 +201,10 @@ class NodeStore(Shared, Properties):
     def _do_texts(self, texts: Sequence[str], name: str | None) -> list[Outcome]:
         outcomes: list[Outcome] = []
         while len(outcomes) < len(texts):
-            some = until_naming(texts[len(outcomes) :])
+            some = until_naming(texts[len(outcomes) : len(outcomes) + AT_ONCE])
             frames = [f"do {name or self._next_name()} {len(text)}\n{text}" for text in some]
             try:
-                outcomes += [self._outcome(*answer) for answer in self._send(frames)]
+                outcomes += [self._outcome(*answer) for answer in self._send(frames, resend=RESEND)]
             except NoNodeError as error:
                 error.outcomes = outcomes + [self._outcome(*answer) for answer in error.outcomes]
                 raise
@@ -202,39 +221,46 @@ class NodeStore(Shared, Properties):
         text = text_of(form, self._unicode)
         return self._naming.value(self._send([f"{kind} {len(text)}\n{text}"], MOST_TRIES)[0][1])
 
-    def _send(self, frames: Sequence[str], tries: float = math.inf) -> list[tuple[str, str]]:
-        """The answers to frames, which are sent until they have one, and no more than so many times."""
+    def _send(self, frames: Sequence[str], tries: float = math.inf, resend: float = math.inf) -> list[tuple[str, str]]:
+        """The answers to frames, which are sent until they have one, no more than so many times, and for so many seconds
+        after the first time."""
         if self._is_closed:
             raise ClosedStoreError
         answers: list[tuple[str, str]] = []
-        end = time.monotonic() + self._time_limit
-        while True:
+        begun = time.monotonic()
+        end, reason = begun + self._time_limit, ""
+        while not reason or (tries > 0 and time.monotonic() < end):
             seconds = min(self._patience, max(0.01, end - time.monotonic()))
             try:
                 connection = self._connect(seconds)
                 tries -= 1
+                end, resend = min(end, time.monotonic() + resend), math.inf
                 connection.exchange(frames[len(answers) :], answers, seconds)
                 return answers
             except OSError as error:
                 self._leave()
                 reason = f"{self.node}: {error}" if tries > 0 else f"it was sent {MOST_TRIES} times; {self.node}: {error}"
                 self._at = (self._at + 1) % len(self._nodes)
-                if time.monotonic() >= end or tries <= 0:
-                    lost = NoNodeError(self._time_limit, reason)
-                    lost.outcomes = answers
-                    raise lost from None
                 time.sleep(PAUSE)
             except BaseException:
                 self._leave()
                 raise
+        lost = NoNodeError(round(end - begun, 1), reason)
+        lost.outcomes = answers
+        raise lost
 
     def _connect(self, seconds: float) -> Connection:
         """The connection; a new one asks first how symbols are printed."""
         if self._connection is None:
             self._connection = Connection(self.node, self._context, seconds)
             answers: list[tuple[str, str]] = []
-            self._connection.exchange([question(NAMING_QUESTION)], answers, seconds)
-            self._naming.take(answers[0][1])
+            try:
+                self._connection.exchange([f"version {VERSION} 0\n", question(NAMING_QUESTION)], answers, seconds)
+            except OSError:
+                heed_greeting(answers)
+                raise
+            heed_greeting(answers)
+            self._naming.take(answers[1][1])
         return self._connection
 
     def _leave(self) -> None:
@@ -249,3 +275,12 @@ class NodeStore(Shared, Properties):
         if refusal and refusal[0] == OLD_NUMBER:
             return LostAnswerError(int(head))
         return RefusedError(*refusal) if refusal else self._naming.outcome(answer)
+
+
+def heed_greeting(answers: Sequence[tuple[str, str]]) -> None:
+    """What a node says first: it may refuse a client, and ends the connection then. Another one may take it, or none."""
+    refusal = refusal_of(answers[0][1]) if answers else None
+    if refusal and refusal[0] == NO_ROOM:
+        raise ConnectionError("it takes no more clients")
+    if refusal:
+        raise RefusedError(*refusal)

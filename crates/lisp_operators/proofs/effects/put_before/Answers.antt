@@ -1,11 +1,11 @@
-use Rattle.std.proofs.Common.{◌≡◌, true, Ok, Some, nat_lt, refl, sym, ap, ◌∙◌, arith}
+use Rattle.std.proofs.Common.{◌≡◌, true, Ok, nat_lt, refl, sym, ap, ◌∙◌, arith}
 use Rattle.std.proofs.lemmas.Bool.Decides.{nat_tests}
 use Rattle.lisp_object.specs.Object.{object_depth, object_size}
 use Rattle.lisp_object.specs.Datum.{object_of}
 use Rattle.plist_state.specs.Shown.{symbol_of}
 use Rattle.plist_state.specs.Changes.{property}
 use Rattle.plist_state.specs.State.{Worlds}
-use Rattle.plist_state.specs.Pushed.{pair_size, pushed, with_pushed}
+use Rattle.plist_state.specs.Pushed.{pushed, with_pushed}
 use Rattle.lisp_operators.specs.Evaluation.{writes}
 use Rattle.lisp_operators.specs.Effects.{effect}
 use Rattle.lisp_operators.proofs.PropertyRows.{pushed_value}

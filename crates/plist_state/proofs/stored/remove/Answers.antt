@@ -1,9 +1,12 @@
-use Rattle.std.proofs.Common.{◌≡◌, ℕ, false, is_some, rules, ap, sym, subst, ◌∙◌}
+use Rattle.std.proofs.Common.{◌≡◌, ℕ, false, is_some, List, rules, ap, sym, subst, ◌∙◌}
+use Rattle.std.specs.Global.{Vec}
+use Rattle.plist_state.specs.declared.note.Note.{Note}
 use Rattle.plist_state.specs.Properties.{without_value_by}
 use Rattle.plist_state.specs.Lists.{NumberedLists, same_number, row_of}
 use Rattle.plist_state.specs.Shown.{NumberedRest, Rows, rest_of, lists_in}
 use Rattle.plist_state.specs.Journal.{marks_of, Continues}
-use Rattle.plist_state.proofs.Notes.{property_noted}
+use Rattle.plist_state.specs.Overwritten.{LeadsBackAs}
+use Rattle.plist_state.proofs.Unnoted.{property_noted_as}
 use Rattle.plist_state.proofs.Lists.{without-absent, none_shown_as}
 use Rattle.plist_state.proofs.ListRows.{with_row_same, some_in, wider_both}
 use Rattle.plist_state.proofs.stored.remove.Goals as goal
@@ -23,10 +26,12 @@ returns-clause-marked c =
     let ms = marks_of c.args.marks.now.items in
     let ns = marks_of c.push_note.new.marks.items in
     let before = rest_of c.args.stored.now in
+    let alike : LeadsBackAs (marks_of c.reserve_note.new.marks.items) c.args.number c.count-count.result c.in-Some.change c.as_noted-change.result =
+    subst (λ (vs : List (Vec Note)). LeadsBackAs (marks_of vs) c.args.number c.count-count.result c.in-Some.change c.as_noted-change.result) c.as_slice-2.ensures.value c.as_noted-change.ensures.back in
     subst (λ (u : NumberedRest). Continues ms before ns u) (sym c.tidy_unmarked.ensures.same)
-    (property_noted ms _ ns c.in_ok-reserve_note.ensures.same
-    c.args.number c.in-Some.change c.push_note.ensures c.in-Some.ensures.former
-    before c.args.stored.now.properties.entries c.remove.new.rows.entries _
+    (property_noted_as ms (marks_of c.reserve_note.new.marks.items) ns c.in_ok-reserve_note.ensures.same
+    c.args.number c.count-count.result c.in-Some.change c.as_noted-change.result alike c.push_note.ensures c.as_noted-change.ensures.proper
+    before c.args.stored.now.properties.entries c.remove.new.rows.entries _ c.count-count.ensures
     c.in-Some.ensures.after c.in-Some.ensures.back)
 
 pub returns-clause-ok : goal.returns-clause-ok
