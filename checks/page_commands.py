@@ -11,7 +11,59 @@ HEAD = """# The commands
 
 Every command of the program with its options, in the words of its help. `checks/docs --write` makes this page from the sources of the command line (`crates/command_words`). What to do with them is in [operating.md](operating.md), which status a command ends with [there too](operating.md#the-exit-status).
 
-An option that is not given is off. **`--existing`** is an option of every command but `check`: the command refuses a folder that holds no store, and makes nothing. A command that only looks makes nothing in any case. `--help` after a command has its help with an example; `--version` tells the version of the program and of the files that it writes. `./pazturrok help GET` tells what the operator `GET` does, with an example, and `./pazturrok help 31` what the number 31 of a refusal means and what to do; so of each [operator](../use/operators.md) and each [number](../use/refusals.md). `PAZTURROK_MEMORY` is the one variable of the environment ([Memory](operating.md#memory)); there is no file of settings.
+An option that is not given is off, but for `--snapshot-ratio`, which is 10 then. **`--existing`** is an option of every command but `check`: the command refuses a folder that holds no store, and makes nothing. A command that only looks makes nothing in any case. `--help` after a command has its help with an example; `--version` tells the version of the program and of the files that it writes. `./pazturrok help GET` tells what the operator `GET` does, with an example, and `./pazturrok help 31` what the number 31 of a refusal means and what to do; so of each [operator](../use/operators.md) and each [number](../use/refusals.md). `PAZTURROK_MEMORY` is the one variable of the environment ([Memory](operating.md#memory)); there is no file of settings.
+"""
+
+
+TAIL = """## Looks by example
+
+```sh
+$ ./pazturrok run store <<'END'
+(SETF (GET 'APPLE 'PRICE) 7)
+(SETF (GET 'APPLE 'NAME) "red")
+(SETF (GET 'APRICOT 'PRICE) 1/2)
+END
+7
+"red"
+1/2
+$ ./pazturrok show store APPLE
+home COMMON-LISP-USER
+APPLE PRICE 7
+APPLE NAME "red"
+$ ./pazturrok show store --like 'ap*' --indicator PRICE
+APPLE PRICE 7
+APRICOT PRICE 1/2
+$ ./pazturrok show store APPLE --json
+{"symbol":"APPLE","home":"COMMON-LISP-USER"}
+{"symbol":"APPLE","indicator":"PRICE","value":"7"}
+{"symbol":"APPLE","indicator":"NAME","value":"\\"red\\""}
+$ ./pazturrok log store --json --from 2
+{"generation":1,"record":2,"mode":"current","form":"(SETF (GET 'APPLE 'NAME) \\"red\\")"}
+{"generation":1,"record":3,"mode":"current","form":"(SETF (GET 'APRICOT 'PRICE) 1/2)"}
+$ ./pazturrok info store --files | head -4
+half A
+version 2
+generation 1
+records 3
+```
+
+A reader that goes before the end, as `head` here, is no fault of a look: its status is 0, and it says nothing.
+
+## JSON
+
+With `--json` the commands `show`, `log` and `info` write objects of JSON (RFC 8259), each in a line, with these members in this order:
+
+| Command | Members |
+|---|---|
+| `show` | `symbol`, `indicator` and `value`: the three texts of a line, each as a string. With SYMBOL an object with `symbol` and `home` comes first |
+| `log` | `generation`, `record`, `mode`, which is `"current"` or `"rescue"`, and `form`, the text as a string |
+| `info` | one object: `half`, which is `"A"` or `"B"`, and the names of the other lines, each with its number. With `--files` those of the world are not there, and an age that is not known never is |
+
+A value is the text that Lisp prints, in a string: `7` is `"7"`, and the text `"a"` is `"\\"a\\""`. So each integer is exact. The numbers of `info` and `log` are numbers, and from 2^53 on strings of digits, as many readers keep no more than 53 bits. A control character, and a byte over 126, is written by its number, as `\\u000A`. Nothing else is escaped but the quotation mark and the backslash.
+
+Text for Prometheus, once a minute, from files alone:
+
+    ./pazturrok info DIR --files --json | jq -r 'to_entries[] | select(.key != "half") | "pazturrok_\\(.key | gsub("-"; "_")) \\(.value)"'
 """
 
 
@@ -27,8 +79,10 @@ def texts(code):
 def options(code):
     """The options by their names: what their value is called, if they have one, and what they do."""
     known, found, said = texts(code), {}, ""
-    words = r'let help\s*=\s*"([^"]*)"|\b(?:with_)?(?:flag|option)\(\s*(?:command,\s*)?alloc,\s*(\w+),\s*(?:"(\w+)",\s*)?(?:help|"([^"]*)")\s*,?\s*\)|Arg::new\(alloc, (\w+)\)'
-    for text, name, value, own, _ in re.findall(words, code):
+    words = r'let help\s*=\s*"([^"]*)"|\b(?:with_)?(?:flag|option)\(\s*(?:command,\s*)?alloc,\s*(\w+),\s*(?:"(\w+)",\s*)?(?:help|"([^"]*)")\s*,?\s*\)|Arg::new\(alloc, (\w+)\)(?:\s*\.help\("([^"]*)"\))?'
+    for text, name, value, own, place, of_place in re.findall(words, code):
+        if of_place and place in known:
+            found[known[place]] = ("", of_place)
         if text:
             said = text
         elif name in known:
@@ -58,6 +112,8 @@ def rows_of_script(command):
 
 
 def rows(usage, known):
+    for place in re.findall(r"\[([A-Z]+)\]", usage):
+        yield f"| `{place}` | {known[place][1]} |"
     for name in re.findall(r"--([a-z-]+)", usage):
         if name != "existing" and name in known:
             value, does = known[name]
@@ -75,6 +131,7 @@ def page():
         parts.append(f"## {name}\n\n{does}.\n\n    ./pazturrok {usage}\n")
         if table:
             parts.append(f"| Option | What it does |\n|---|---|\n{table}\n")
+    parts.append(TAIL)
     return "\n".join(parts)
 
 

@@ -34,6 +34,7 @@ def scripts_of_block(block):
     for first, rest in re.findall(r"^\$ (.*)\n((?:(?!\$ ).*\n)*)", block, flags=re.M):
         here = re.fullmatch(r"\./pazturrok run \S+(.*?) <<'END'", first)
         fed = re.fullmatch(r"\./pazturrok run \S+(.*?) < (lisp/\S+)", first)
+        look = re.fullmatch(r"\./pazturrok (show|info|log) \S+(.*?)( \| head -\d+)?", first)
         echo = re.fullmatch(r"echo (['\"])(.*)\1 \| \./pazturrok run \S+(.*)", first)
         if here and "kill" not in block:
             forms, _, answers = rest.partition("END\n")
@@ -42,6 +43,10 @@ def scripts_of_block(block):
             with open(os.path.join(TOP, fed[2]), encoding="ascii") as file:
                 forms = file.read()
             yield f"$ run DIR{fed[1]}\n" + lines_of("< ", forms.split("\n")[:-1]) + "0\n" + wanted_of(rest.split("\n")[:-1])
+        elif look:
+            told = rest.split("\n")[:-1]
+            end = lines_of(">^ ", [told.pop()]) if look[3] else ""
+            yield f"$ {look[1]} DIR{look[2]}\n0\n".replace("'", "") + wanted_of(told) + end
         elif echo and "kill" not in block:
             yield f"$ run DIR{echo[3]}\n" + lines_of("< ", [echo[2]]) + "0\n" + wanted_of(rest.split("\n")[:-1])
 

@@ -22,9 +22,9 @@ _pazturrok() {
         export) words='--existing --data --help' ;;
         dump) words='--existing --at --help' ;;
         verify) words='--existing --help' ;;
-        show) words='--existing --package --indicator --like --forms --help --html' ;;
-        info) words='--existing --help' ;;
-        log) words='--existing --from --places --help' ;;
+        show) words='--existing --package --indicator --like --forms --json --help --html' ;;
+        info) words='--existing --files --json --help' ;;
+        log) words='--existing --from --places --json --help' ;;
         backup) words='--existing --help' ;;
         check) words='--store --help --run' kind=-f ;;
     esac

@@ -224,6 +224,78 @@ static void long_files(void) {
     EXPECT(answers(store, "(GET 'A 'B)", "8") && pazturrok_close(store) == 0);
 }
 
+/* Snapshots that a store takes by itself */
+
+enum { LONG_FORM = 100000 };
+
+static const char *long_form(void) {
+    static char form[LONG_FORM];
+    const char *front = "(PROGN (SETF (GET 'A 'B) \"", *back = "\") 7)";
+    memset(form, 'x', sizeof form);
+    memcpy(form, front, strlen(front));
+    memcpy(form + sizeof form - strlen(back), back, strlen(back));
+    return form;
+}
+
+/* Whether so many long forms are answered as ever, and the store has this generation and so many records then. */
+static bool writes(pazturrok_store store, int count, uint64_t generation, uint64_t records) {
+    pazturrok_figures figures;
+    const char *answer = "";
+    size_t length = 0;
+    for (int time = 0; time < count; time++)
+        if (pazturrok_execute(store, PAZTURROK_RESCUE, long_form(), LONG_FORM, &answer, &length) != 0 || strcmp(answer, "7") != 0 || length != 1)
+            return false;
+    return pazturrok_figures_of(store, &figures) == 0 && figures.generation == generation && figures.records == records;
+}
+
+/* Eleven long forms are more than 1 MiB, and after a snapshot, which has the text of one, ten. */
+static void own_snapshots(void) {
+    pazturrok_store store = opened("own snapshots");
+    const char *texts[11];
+    size_t lengths[11];
+    pazturrok_outcome outcomes[11];
+    pazturrok_figures figures;
+    for (int place = 0; place < 11; place++) texts[place] = long_form(), lengths[place] = LONG_FORM;
+    EXPECT(pazturrok_snapshot_ratio(0, 10) == 61);
+    EXPECT(writes(store, 10, 1, 10) && writes(store, 1, 2, 0));
+    EXPECT(pazturrok_close(store) == 0);
+    store = opened("own snapshots");
+    EXPECT(writes(store, 9, 2, 9) && writes(store, 1, 3, 0));
+    EXPECT(pazturrok_snapshot_ratio(store, 0) == 0 && writes(store, 12, 3, 12));
+    EXPECT(pazturrok_snapshot_ratio(store, 20) == 0 && writes(store, 1, 3, 13));
+    EXPECT(pazturrok_snapshot_ratio(store, UINT64_MAX) == 0 && writes(store, 1, 3, 14));
+    /* what writes nothing takes none */
+    EXPECT(pazturrok_snapshot_ratio(store, 11) == 0 && answers(store, "(LIST 1)", "(1)") && writes(store, 0, 3, 14));
+    EXPECT(writes(store, 1, 4, 0));
+    EXPECT(pazturrok_execute_all(store, PAZTURROK_RESCUE, texts, lengths, 11, outcomes) == 0);
+    for (int place = 0; place < 11; place++) EXPECT(outcomes[place].number == 0 && strcmp(outcomes[place].answer, "7") == 0);
+    EXPECT(pazturrok_figures_of(store, &figures) == 0 && figures.generation == 5 && figures.records == 0);
+    EXPECT(pazturrok_close(store) == 0);
+}
+
+/* The descriptor of a file. */
+static int descriptor_of(const char *path) {
+    struct stat wanted, found;
+    if (stat(path, &wanted) != 0) return -1;
+    for (int file = 3; file < 1024; file++)
+        if (fstat(file, &found) == 0 && found.st_dev == wanted.st_dev && found.st_ino == wanted.st_ino) return file;
+    return -1;
+}
+
+/* A snapshot that a store takes by itself fails: what was answered stays answered, and the store has to be opened again. */
+static void failed_snapshot(void) {
+    pazturrok_store store = opened("failed snapshot");
+    pazturrok_fault fault = {0, 0, ""};
+    int half = descriptor_of(folder("failed snapshot/half-b")), other = open(folder("failed snapshot/half-b"), O_RDONLY);
+    EXPECT(half > 2 && other > 2 && writes(store, 10, 1, 10) && dup2(other, half) == half && close(other) == 0);
+    EXPECT(pazturrok_execute(store, PAZTURROK_RESCUE, long_form(), LONG_FORM, NULL, NULL) == 0);
+    pazturrok_fault_of(store, &fault);
+    EXPECT(fault.number == 60 && fault.cause[0] != 0);
+    EXPECT(execute(store, "1", NULL) == 61 && pazturrok_close(store) == 0);
+    store = opened("failed snapshot");
+    EXPECT(writes(store, 0, 1, 11) && pazturrok_close(store) == 0);
+}
+
 static void many_stores(void) {
     static pazturrok_store stores[257];
     pazturrok_fault fault;
@@ -413,6 +485,8 @@ int main(int count, char **words) {
     long_texts();
     many_forms();
     folders();
+    own_snapshots();
+    failed_snapshot();
     /* it takes 2 GB for a moment */
     if (getenv("CALLS_LONG_FILES")) long_files();
     many_stores();

@@ -72,6 +72,16 @@
             (list (fault-folder condition) (and (search (folder "none") (princ-to-string condition)) t))))
   (expect "no such library" 'no-library (signalled (open-store '(:library "/nowhere.so") (folder "values")))))
 
+(defun own-snapshots ()
+  (let ((form `(progn (setf (get 'place 'value) ,(make-string 100000 :initial-element #\x)) 7)))
+    (dolist (case '((nil 2) (0 1)))
+      (destructuring-bind (ratio generation) case
+        (with-store (store :library (folder (format nil "ratio ~A" ratio)) :snapshot-ratio ratio)
+          (expect "eleven long forms" t (loop repeat 11 always (eql (send store form) 7)))
+          (expect "the generation" generation (values (figures store))))))
+    (expect "no number" t (handler-case (open-store :library (folder "ratio") :snapshot-ratio -1) (error () t)))
+    (expect "a program" t (handler-case (open-store "/nowhere" (folder "ratio") :snapshot-ratio 10) (store-error () nil) (error () t)))))
+
 (defun packages ()
   (with-store (store :library (folder "packages"))
     (send store '(make-package "P"))
@@ -150,7 +160,7 @@
 
 (handler-case
     #-sbcl (elsewhere)
-    #+sbcl (progn (values-come-back) (ten-thousand-forms) (conditions-and-restarts) (packages) (messages)
+    #+sbcl (progn (values-come-back) (ten-thousand-forms) (conditions-and-restarts) (own-snapshots) (packages) (messages)
                   #+sb-thread (unwindings) #+sb-thread (interrupts) #+sb-thread (other-threads)
                   (a-store-that-is-let-go-is-closed))
   (error (condition) (incf *failed*) (format t "lisp: ~A~%" condition)))

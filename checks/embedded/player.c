@@ -194,6 +194,7 @@ int main(int count, char **words) {
     struct session session = {0, PAZTURROK_CURRENT, false, false, 0, 0};
     pazturrok_fault fault;
     int flags = 0;
+    const char *ratio = NULL;
     if (count < 3 || strcmp(words[1], "run") != 0) return run_program(words);
     for (int place = 3; place < count; place++) {
         if (strcmp(words[place], "--rescue") == 0) session.mode = PAZTURROK_RESCUE;
@@ -201,10 +202,12 @@ int main(int count, char **words) {
         else if (strcmp(words[place], "--group") == 0) session.has_groups = true;
         else if (strcmp(words[place], "--existing") == 0) flags = PAZTURROK_EXISTING;
         else if (strcmp(words[place], "--snapshot-every") == 0 && place + 1 < count) session.every = strtoul(words[++place], NULL, 10);
+        else if (strcmp(words[place], "--snapshot-ratio") == 0 && place + 1 < count) ratio = words[++place];
         else return UNSPLIT;
     }
     int number = pazturrok_open(words[2], flags, &session.store, &fault);
     if (number != 0) end_with(number, fault.cause);
+    if (ratio && pazturrok_snapshot_ratio(session.store, strtoull(ratio, NULL, 10)) != 0) return 3;
     serve(&session);
     return pazturrok_close(session.store) == 0 ? 0 : 3;
 }

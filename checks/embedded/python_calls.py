@@ -121,6 +121,19 @@ class Embedded(unittest.TestCase):
         store.reopen()
         self.assertEqual(store.execute("(GET 'A 'B)"), 7)
 
+    def test_own_snapshots(self) -> None:
+        form = "(PROGN (SETF (GET 'A 'B) \"" + "x" * 100_000 + '") 7)'
+        for ratio, generation in ((10, 2), (0, 1)):
+            store = self.store(f"forms {ratio}", snapshot_ratio=ratio)
+            self.assertEqual([store.execute(form) for _ in range(11)], [7] * 11)
+            self.assertEqual(store.figures().generation, generation)
+            with EmbeddedMessageStore(os.path.join(self.folder, f"messages {ratio}"), snapshot_ratio=ratio) as messages:
+                self.assertEqual([messages.do(form) for _ in range(11)], [7] * 11)
+                self.assertEqual(messages.figures().generation, generation)
+        for wrong in (-1, 1 << 64):
+            with self.assertRaises(ValueError):
+                self.store("wrong", snapshot_ratio=wrong)
+
     def test_what_cannot_be_opened(self) -> None:
         with self.assertRaises(FaultError) as fault:
             self.store("none", existing=True)

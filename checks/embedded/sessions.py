@@ -8,7 +8,7 @@ from lib import played
 from lib.places import MEMORY, files_of
 
 # What `run` takes that is no matter of the command line.
-OWN = ("--rescue", "--strict", "--existing", "--snapshot-every")
+OWN = ("--rescue", "--strict", "--existing", "--snapshot-every", "--snapshot-ratio")
 UNSPLIT = 77
 
 

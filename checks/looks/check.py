@@ -2,7 +2,8 @@
 
 Form n sets the property of key n modulo KEYS to n. So what is shown tells the forms that the world holds: the greatest number n that
 is there, and each other key has the greatest number up to n that is its own. Each look has to show such a world, of a prefix that
-holds every form that was answered before the look began, and none that was not sent before it ended.
+holds every form that was answered before the look began, and none that was not sent before it ended. What looks tell
+of a store at rest comes first (told.py).
 """
 import argparse
 import os
@@ -13,6 +14,10 @@ import subprocess
 import sys
 import tempfile
 import threading
+
+sys.dont_write_bytecode = True
+
+import told
 
 KEYS = 40
 # only a program that hangs is waited for so many seconds
@@ -107,7 +112,7 @@ def values_in(text):
 def look(program, writer, folder, room, kind):
     before = writer.answered
     if kind == "show":
-        status, output, faults = call(program, "show", folder, "--like", "k")
+        status, output, faults = call(program, "show", folder, "--like", "k*")
         values = values_in(output)
     elif kind in ("forms", "export"):
         words = ["show", folder, "--forms"] if kind == "forms" else ["export", folder, "--existing"]
@@ -168,16 +173,20 @@ def main():
     words.add_argument("--room", help="where the store is made; in memory without it")
     words.add_argument("--seed", type=int, default=1)
     asked = words.parse_args()
+    with tempfile.TemporaryDirectory(prefix="looks-") as folder:
+        passed, failures = told.check_all(os.path.abspath(asked.program), folder)
+    for failure in failures:
+        print(failure)
     room = tempfile.mkdtemp(prefix="looks-", dir=asked.room or ("/dev/shm" if os.access("/dev/shm", os.W_OK | os.X_OK) else None))
     try:
         sessions = trial(os.path.abspath(asked.program), room, asked.looks, random.Random(asked.seed))
     except Deviation as deviation:
-        print(f"looks: seed {asked.seed}: {deviation}\n0 passed, 1 failed")
+        print(f"looks: seed {asked.seed}: {deviation}\n{passed} passed, {len(failures) + 1} failed")
         return 1
     finally:
         shutil.rmtree(room, ignore_errors=True)
-    print(f"looks: {asked.looks} looks into {sessions} sessions\n1 passed, 0 failed")
-    return 0
+    print(f"looks: {asked.looks} looks into {sessions} sessions\n{passed + 1} passed, {len(failures)} failed")
+    return 1 if failures else 0
 
 
 if __name__ == "__main__":

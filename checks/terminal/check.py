@@ -66,6 +66,9 @@ LEAVING = "Ctrl-D at the beginning of a line ends.\n"
 UNKNOWN_OPERATOR = """The current package finds no operator of this name: docs/use/operators.md has all. If none is found any more, the package does not
 use COMMON-LISP, and (COMMON-LISP:IN-PACKAGE "CL-USER") leads back.
 """
+CUT = """A terminal hands on 4,095 bytes of a line, and dropped the rest of this one. Write the form in shorter lines, or send it from a
+file: ./pazturrok run DIR < FILE
+"""
 UNANSWERED = "Nothing was answered: a form is open, or the readtable makes comments of what is typed; --rescue reads under the standard one.\n"
 REFUSED = "line %d, column %d: refused with %s in form %d, which began at line %d, column %d\n"
 DROPPED = "The rest of the line was dropped, and a new session begins.\n"
@@ -167,7 +170,7 @@ def load(folder):
 def long_opening(folder):
     """What takes a second to open is told before it is opened, at a terminal alone."""
     form = b"(PROGN (SETF (GET 'A 'B) \"%s\") 1)\n" % (b"x" * 1_000_000)
-    subprocess.run([program, "run", folder], input=form * 7, stdout=subprocess.DEVNULL, check=True)
+    subprocess.run([program, "run", folder, "--snapshot-ratio", "0"], input=form * 7, stdout=subprocess.DEVNULL, check=True)
     told = "opening half-a, 7 MB: about 1 s\r\n"
     for words, answers in ((["verify", folder], b"half A generation 1 records 7\n"), (["verify", folder, "--existing"], b"half A generation 1 records 7\n"),
                            (["run", folder], b"")):
@@ -234,6 +237,14 @@ with tempfile.TemporaryDirectory() as room:
     it.step("a readtable in which each form is a comment", "(SET-SYNTAX-FROM-CHAR #\\( #\\;)\n", "T\n", "> ")
     it.step("forms that are comments", "(LIST 1)\n" * 4, "", ". . . " + UNANSWERED + ". ")
     it.end("their end", CONTROL_D, "", "\n", 0)
+
+    it = Terminal("run", store, "--rescue")
+    for place in range(0, 5000, 1000):
+        os.write(it.master, (b'(LIST "' + b"x" * 4993)[place:place + 1000])
+    it.step("a line that the terminal cuts", '")\n', "", WELCOME + "> " + CUT + ". ")
+    it.step("the rest of its form", '")\n', '("' + "x" * 4088 + '\n")\n', "> ")
+    it.step("a line that it does not cut", "(LIST 1" + " " * 4000 + ")\n", "(1)\n", "> ")
+    it.end("its end", CONTROL_D, "", "\n", 0)
 
     it = Terminal("run", store, "--rescue")
     it.step("the way back", "(COPY-READTABLE NIL :USER)\n", ":USER\n", WELCOME + "> > ")

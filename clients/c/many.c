@@ -34,7 +34,9 @@ static int execute_texts(struct store *store, bool rescue, const struct texts *t
     pzt_done done = {0, 0, 0};
     pzt_execute_all(&store->engine, rescue, texts->bytes, texts->length, texts->ends, texts->count, &done);
     take_outcomes(store, &done, number_told, outcomes, texts->count);
-    return finish(store, &done);
+    int number = finish(store, &done);
+    if (number == 0) renew_after(store, &done);
+    return number;
 }
 
 int pazturrok_execute_all(pazturrok_store id, int mode, const char *const *texts, const size_t *lengths, size_t count,

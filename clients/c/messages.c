@@ -69,6 +69,7 @@ static int answer_messages(struct store *store, uint64_t position, const struct 
     int number = finish(store, &done);
     for (size_t place = 0; number == 0 && place < requests->count; place++)
         if (requests->heads[place].number > store->last) store->last = requests->heads[place].number;
+    if (number == 0) renew_after(store, &done);
     return number;
 }
 

@@ -44,6 +44,7 @@ static bool open_files(struct store *store, int flags, pazturrok_fault *fault) {
     contents both[2] = {{NULL, 0}, {NULL, 0}};
     size_t orders = 0;
     bool is_open = device_read(&store->device, both, fault) && open_engine(store, both, flags, &orders, fault);
+    if (is_open) see_halves(store, both);
     free(both[0].bytes);
     free(both[1].bytes);
     if (!is_open) return false;
@@ -56,6 +57,7 @@ static bool open_files(struct store *store, int flags, pazturrok_fault *fault) {
 static bool open_store(struct store *store, const char *folder, int flags, pazturrok_fault *fault) {
     store->has_failed = false;
     store->last = 0;
+    store->ratio = RATIO;
     store->fault = (pazturrok_fault){0, 0, ""};
     store->answer = malloc(ANSWER_ROOM + 1);
     if (!store->answer) {

@@ -38,6 +38,7 @@ static bool write_long(struct store *store, struct order order, size_t at) {
 static bool carry_out_one(struct store *store, struct order order, const uint8_t *bytes, size_t at) {
     switch (order.kind) {
     case ORDER_WRITES:
+        follow_write(store, order.half, order.place, order.length, bytes);
         if (!bytes) return write_long(store, order, at + ORDER_HEAD);
         return device_write(&store->device, order.half, bytes, (size_t)order.length, order.place, &store->fault);
     case ORDER_CUTS:

@@ -1,4 +1,4 @@
-/* One form, a snapshot, and what a store tells. What an engine orders is carried out on the files before an answer is passed on. */
+/* One form, and what a store tells. What an engine orders is carried out on the files before an answer is passed on. */
 #include "calls.h"
 
 int pazturrok_execute(pazturrok_store id, int mode, const char *text, size_t length, const char **answer, size_t *answer_length) {
@@ -15,17 +15,8 @@ int pazturrok_execute(pazturrok_store id, int mode, const char *text, size_t len
     number = finish_answer(call.store, &done);
     if (number == 0 && answer) *answer = call.store->answer;
     if (number == 0 && answer_length) *answer_length = done.answer;
+    if (number == 0) renew_after(call.store, &done);
     return leave(call, number);
-}
-
-int pazturrok_snapshot(pazturrok_store id) {
-    int number;
-    struct call call = begin_call(id, true, &number);
-    pzt_done done = {0, 0, 0};
-    if (!call.store) return number;
-    if (number != 0) return leave(call, number);
-    pzt_snapshot(&call.store->engine, &done);
-    return leave(call, finish(call.store, &done));
 }
 
 /* What a store tells */

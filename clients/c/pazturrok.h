@@ -138,6 +138,12 @@ int pazturrok_ask(pazturrok_store store, const char *text, size_t length, const 
    takes to write the world. */
 int pazturrok_snapshot(pazturrok_store store);
 
+/* Says when the store takes a snapshot by itself: within a call that wrote, after what it wrote is on the disk, once the file in use has
+   1 MiB and is so many times as long as when it was begun; 0 for never. An open store has 10 until this is called, and it is asked anew
+   after each opening. Such a snapshot changes no answer. One that is refused is tried again once the file is 1 MiB longer. After one
+   that failed, the call has its answer, the next one is 61, and pazturrok_fault_of tells why. */
+int pazturrok_snapshot_ratio(pazturrok_store store, uint64_t ratio);
+
 /* What the file in use holds; all 0 where the number is not 0. */
 int pazturrok_figures_of(pazturrok_store store, pazturrok_figures *figures);
 

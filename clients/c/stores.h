@@ -20,6 +20,11 @@ struct store {
     char *answer;
     size_t capacity;            /* of the answer, without the zero after it */
     uint64_t last;              /* the number of the last message since the opening */
+    uint64_t ratio;             /* a snapshot is due once the half in use has grown so many times; 0 for never */
+    uint64_t sizes[2];          /* of the halves, with the gate after the last record */
+    int in_use;                 /* the half in use */
+    uint64_t first_size;        /* its size when it was begun */
+    uint64_t least_size;        /* a smaller half has not grown enough */
 };
 
 /* A call that is under way: the store that it has locked, or NULL; and whether the thread could be cancelled before it. */
@@ -60,5 +65,16 @@ uint64_t number_at(const uint8_t *bytes);
 bool carry_out(struct store *store, size_t count);
 /* Ends a call of the engine: it carries out the orders of what is answered, and only then gives 0. */
 int finish(struct store *store, const pzt_done *done);
+
+/* How often a half in use grows before a snapshot is due, where nothing else is asked for. */
+enum { RATIO = 10 };
+
+/* Sees in the bytes of both files how far their halves have grown. */
+void see_halves(struct store *store, const contents both[2]);
+/* Follows a write of an order; where there are many bytes, `bytes` may be NULL. */
+void follow_write(struct store *store, int half, uint64_t place, uint64_t length, const uint8_t *bytes);
+/* Takes a snapshot after a call that has done this, if it wrote and one is due. What is answered stays answered. After a snapshot that
+   failed the store answers nothing more; one that was refused is tried again once the half has grown by 1 MiB. */
+void renew_after(struct store *store, const pzt_done *done);
 
 #endif

@@ -24,8 +24,8 @@
   (and (consp program) (native-word (second program))))
 
 #-sbcl
-(defun open-library (path folder existing)
-  (declare (ignore path folder existing))
+(defun open-library (path folder existing ratio)
+  (declare (ignore path folder existing ratio))
   (error 'no-library :reason (format nil "a store in this process asks for SBCL, and this is ~A"
                                      (lisp-implementation-type))))
 #-sbcl
@@ -45,7 +45,7 @@
   "The addresses of the library's calls in this run of the image."
   path
   (open 0 :type (unsigned-byte 64)) (execute 0 :type (unsigned-byte 64))
-  (execute-all 0 :type (unsigned-byte 64)) (snapshot 0 :type (unsigned-byte 64))
+  (execute-all 0 :type (unsigned-byte 64)) (snapshot 0 :type (unsigned-byte 64)) (snapshot-ratio 0 :type (unsigned-byte 64))
   (position 0 :type (unsigned-byte 64)) (do 0 :type (unsigned-byte 64)) (ask 0 :type (unsigned-byte 64))
   (figures-of 0 :type (unsigned-byte 64)) (fault-of 0 :type (unsigned-byte 64))
   (close 0 :type (unsigned-byte 64)) (name 0 :type (unsigned-byte 64)))
@@ -73,6 +73,7 @@
                                 :execute (address-of "pazturrok_execute")
                                 :execute-all (address-of "pazturrok_execute_all")
                                 :snapshot (address-of "pazturrok_snapshot")
+                                :snapshot-ratio (address-of "pazturrok_snapshot_ratio")
                                 :position (address-of "pazturrok_position")
                                 :do (address-of "pazturrok_do")
                                 :ask (address-of "pazturrok_ask")
@@ -128,7 +129,8 @@
 (defun id-vector (count)
   (make-array count :element-type '(unsigned-byte 64) :initial-element 0))
 
-(defun open-library (path folder existing)
+(defun open-library (path folder existing ratio)
+  "Opens a store, which takes a snapshot by itself once its file has grown RATIO times; NIL is as often as the library has it."
   (let ((calls (load-calls path))
         (name (sb-ext:string-to-octets folder :null-terminate t))
         (id (id-vector 1))
@@ -141,6 +143,8 @@
                           ((place-of fault) sb-sys:system-area-pointer))))
         (let ((library (make-library calls (aref id 0))) (number (aref id 0)))
           (sb-ext:finalize library (lambda () (close-id calls number)) :dont-save t)
+          (when ratio
+            (sb-sys:without-interrupts (foreign (calls-snapshot-ratio calls) sb-alien:int (number id) (ratio (sb-alien:unsigned 64)))))
           library)
         (signal-fault calls fault folder))))
 

@@ -11,10 +11,11 @@
   (closed-p nil)
   (last 0 :type unsigned-byte))                 ; the number of the last message
 
-(defstruct (embedded-feed (:include feed) (:constructor make-embedded-feed (folder path existing naming)) (:copier nil))
+(defstruct (embedded-feed (:include feed) (:constructor make-embedded-feed (folder path existing ratio naming)) (:copier nil))
   "The same in this process, by the library of this path, or by the one that is found."
   path
-  existing)
+  existing
+  ratio)
 
 (setf (documentation 'feed-last 'function)
       "The number of the last message that was sent, or that the store told when it was opened.")
@@ -129,7 +130,7 @@
     (read-position feed))
   (:method ((feed embedded-feed))
     (setf (feed-program feed)
-          (open-library (embedded-feed-path feed) (feed-folder feed) (embedded-feed-existing feed)))
+          (open-library (embedded-feed-path feed) (feed-folder feed) (embedded-feed-existing feed) (embedded-feed-ratio feed)))
     (call-feed-library feed #'library-position)))
 
 (defun open-feed-again (feed)
@@ -139,18 +140,19 @@
              (stopped (condition)
                (when (or (not (killed-p condition)) (> stops *restarts*)) (error condition))))))
 
-(defun open-feed (program folder &key (package *package*) intern options existing (unicode t))
+(defun open-feed (program folder &key (package *package*) intern options existing snapshot-ratio (unicode t))
   "Starts PROGRAM over FOLDER to feed it messages, and gives the feed when it is open. PROGRAM, PACKAGE, INTERN, OPTIONS,
-EXISTING and UNICODE are those of OPEN-STORE. One feed at a time may be open on a store."
+EXISTING, SNAPSHOT-RATIO and UNICODE are those of OPEN-STORE. One feed at a time may be open on a store."
   (let* ((folder (native-word folder))
          (naming (make-naming :package (find-package package) :interns-p intern :unicode-p unicode))
          (feed (if (library-word-p program)
-                   (make-embedded-feed folder (library-path program) existing naming)
+                   (make-embedded-feed folder (library-path program) existing snapshot-ratio naming)
                    (make-feed folder
                               (append (list (native-word program) "run" folder "--messages") options
                                       (and existing '("--existing")))
                               naming))))
     (when (and options (embedded-feed-p feed)) (error "a store in this process has no options"))
+    (check-snapshot-ratio snapshot-ratio (embedded-feed-p feed))
     (open-feed-again feed)
     feed))
 

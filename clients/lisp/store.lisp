@@ -14,10 +14,11 @@
   (homes '() :type list)                        ; packages that the store is known to have
   (round-trips 0 :type unsigned-byte))
 
-(defstruct (embedded-store (:include store) (:constructor make-embedded-store (folder path existing naming)) (:copier nil))
+(defstruct (embedded-store (:include store) (:constructor make-embedded-store (folder path existing ratio naming)) (:copier nil))
   "A store in this process, by the library of this path, or by the one that is found."
   path
-  existing)
+  existing
+  ratio)
 
 (setf (documentation 'store-state 'function)
       ":GOOD if each form that was sent has its whole answer; :BROKEN if one was left within its answer;
@@ -128,7 +129,7 @@ another way leaves it broken."
   (:documentation "A program that is started, or a store of the library that is opened.")
   (:method ((store store)) (launch (store-words store)))
   (:method ((store embedded-store))
-    (open-library (embedded-store-path store) (store-folder store) (embedded-store-existing store))))
+    (open-library (embedded-store-path store) (store-folder store) (embedded-store-existing store) (embedded-store-ratio store))))
 
 (defun open-program (store)
   "Starts the program, or calls the library, and waits until the store is open."
@@ -147,10 +148,12 @@ another way leaves it broken."
     (:broken (error 'broken))
     (:closed (error 'closed))))
 
-(defun open-store (program folder &key (package *package*) intern time-limit opening-time-limit options existing (unicode t))
+(defun open-store (program folder
+                   &key (package *package*) intern time-limit opening-time-limit options existing snapshot-ratio (unicode t))
   "Starts PROGRAM over FOLDER, and gives the store when it is open. Where PROGRAM is :LIBRARY, or a list of it and the
 path of libpazturrok.so, the store is in this process, and has no time limits and no options; EXISTING refuses a
-folder that holds none.
+folder that holds none. A store in this process takes a snapshot by itself once its file has 1 MiB and is SNAPSHOT-RATIO
+times as long as when it was begun: 10 without it, 0 for never.
 
 PACKAGE stands for the store's COMMON-LISP-USER: symbols without a prefix are those that it finds. A name in
 an answer that the image has no symbol for becomes a symbol of a package of the client's own, as
@@ -163,14 +166,19 @@ Without UNICODE texts are ASCII alone."
          (own '("--rescue" "--group"))
          (further (remove-if (lambda (option) (member option own :test #'equal)) options))
          (store (if (library-word-p program)
-                    (make-embedded-store folder (library-path program) existing naming)
+                    (make-embedded-store folder (library-path program) existing snapshot-ratio naming)
                     (make-store folder
                                 (append (list (native-word program) "run" folder) own further (and existing '("--existing")))
                                 naming time-limit opening-time-limit))))
     (when (and (embedded-store-p store) (or time-limit opening-time-limit options))
       (error "a store in this process has no time limits and no options"))
+    (check-snapshot-ratio snapshot-ratio (embedded-store-p store))
     (open-program store)
     store))
+
+(defun check-snapshot-ratio (ratio embedded-p)
+  (check-type ratio (or null (unsigned-byte 64)))
+  (when (and ratio (not embedded-p)) (error "SNAPSHOT-RATIO is of a store in this process; a program takes it as an option")))
 
 (defun snapshot (store)
   "Takes a snapshot of a store in this process: the next opening reads the world, and not each form that made it."

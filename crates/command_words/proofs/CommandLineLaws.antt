@@ -18,9 +18,9 @@ use Rattle.command_words.specs.declared.words.Task.{Task}
 use Rattle.command_words.specs.declared.words.Report.TheVariants.{Dump, Verify}
 use Rattle.command_words.specs.declared.words.Task.TheVariants.{Export, Run, Snapshot, Tell, Upgrade}
 use Rattle.clap.specs.Walk.{Rule}
-use Rattle.command_words.specs.CommandLine.{task_of, AsksFor, IsLine, IsNumber, IsTaken, asked_in, asked_of, command_line, data_for, existing_for, faults_of, flag_for, given_number, group_for, missing_command, strict_for}
+use Rattle.command_words.specs.CommandLine.{task_of, AsksFor, IsLine, IsNumberIn, IsTaken, asked_in, asked_of, command_line, data_for, existing_for, faults_of, flag_for, given_number, group_for, missing_command, strict_for}
 use Rattle.command_words.proofs.WordSteps.{command_is, command_of, faults_are, given, none_fails, rows_read, with_flag, Adds, HasCommand, WantsFolder}
-use Rattle.command_words.proofs.CommandSteps.{adds_bare, adds_content, adds_flags, adds_rescue_counting, asks_bare, asks_counting, asks_export, asks_run, bare_rules, bare_wants, counting, export_rows, export_rules, export_wants, has_dump, has_export, has_run, has_snapshot, has_upgrade, has_verify, most, option_id, option_word, rescue_rows, run_rows, run_rules, run_wants, wanted_is, wanting, with_defaults}
+use Rattle.command_words.proofs.CommandSteps.{adds_bare, adds_content, adds_flags, adds_rescue_counting, asks_bare, asks_counting, asks_export, asks_run, bare_rules, bare_wants, counting, least, usual, export_rows, export_rules, export_wants, has_dump, has_export, has_run, has_snapshot, has_upgrade, has_verify, most, option_id, option_word, rescue_rows, run_rows, run_rules, run_wants, wanted_is, wanting, with_defaults}
 
 pub simple_line : is_simple command_line ≡ true
 unfolding clap_on_literals
@@ -60,17 +60,17 @@ module _ (program : Text) (x : ℕ) (xs : Text) (e : (x == 45) ≡ false) where
       (adds_content (x ∷ xs) content existing) (asks_export (x ∷ xs) content existing)
 
   right_run : (mode : Mode) (strict group existing : Bool)
-      → IsRight (program ∷ codes "run" ∷ (x ∷ xs) ∷ (flag_for mode ++ (strict_for strict ++ (group_for group ++ existing_for existing)))) (x ∷ xs) existing (Run (wanting mode 0 0 strict group))
+      → IsRight (program ∷ codes "run" ∷ (x ∷ xs) ∷ (flag_for mode ++ (strict_for strict ++ (group_for group ++ existing_for existing)))) (x ∷ xs) existing (Run (wanting mode 0 10 strict group))
   right_run mode strict group existing =
       right_words (codes "run") run_rules (flag_for mode ++ (strict_for strict ++ (group_for group ++ existing_for existing))) (run_rows mode strict group existing) existing
-      (Run (wanting mode 0 0 strict group)) has_run run_wants (adds_flags (x ∷ xs) mode strict group existing) (asks_run (x ∷ xs) mode strict group existing)
+      (Run (wanting mode 0 10 strict group)) has_run run_wants (adds_flags (x ∷ xs) mode strict group existing) (asks_run (x ∷ xs) mode strict group existing)
 
-  right_counting : (ratio : Bool) (y : ℕ) (ys : Text) → (y == 45) ≡ false → is_unsigned_in 1 (most ratio) (y ∷ ys) ≡ true → (mode : Mode)
+  right_counting : (ratio : Bool) (y : ℕ) (ys : Text) → (y == 45) ≡ false → is_unsigned_in (least ratio) (most ratio) (y ∷ ys) ≡ true → (mode : Mode)
       → IsRight (program ∷ codes "run" ∷ (x ∷ xs) ∷ (flag_for mode ++ option_word ratio ∷ (y ∷ ys) ∷ [])) (x ∷ xs) false
-      (Run (counting ratio mode (given_number (Some (y ∷ ys)))))
+      (Run (counting ratio mode (given_number (usual ratio) (Some (y ∷ ys)))))
   right_counting ratio y ys d passes mode =
       right_words (codes "run") run_rules (flag_for mode ++ option_word ratio ∷ (y ∷ ys) ∷ []) (rescue_rows mode ++ given (option_id ratio) (y ∷ ys) CommandLine ∷ []) false
-      (Run (counting ratio mode (given_number (Some (y ∷ ys))))) has_run run_wants (adds_rescue_counting (x ∷ xs) ratio y ys d passes mode) (asks_counting ratio (x ∷ xs) (y ∷ ys) mode)
+      (Run (counting ratio mode (given_number (usual ratio) (Some (y ∷ ys))))) has_run run_wants (adds_rescue_counting (x ∷ xs) ratio y ys d passes mode) (asks_counting ratio (x ∷ xs) (y ∷ ys) mode)
 
 pub differs : (x y : ℕ) → x ≢ y → (x == y) ≡ false
 differs x y apart = search rules
@@ -92,21 +92,21 @@ module _ (y : ℕ) (ys : Text) (numeral : IsNumeral 10 (y ∷ ys)) where
       λ number same. rw (same, is) (numeral, fits, above, below) in
       Accepts-accepts false (Unsigned low high) (y ∷ ys) (within (without_leading_plus (y ∷ ys)) bare)
 
-  pub number_is : (n : ℕ) → digits_value 10 (y ∷ ys) ≡ n → n < 2 ^ 64 → given_number (Some (y ∷ ys)) ≡ n
-  number_is n is fits = rw (in_range 0 (2 ^ 64 - 1) n is (omega arith) (omega (arith, fits)) fits) (ap (digits_value 10) bare ∙ is)
+  pub number_is : (other n : ℕ) → digits_value 10 (y ∷ ys) ≡ n → n < 2 ^ 64 → given_number other (Some (y ∷ ys)) ≡ n
+  number_is other n is fits = rw (in_range 0 (2 ^ 64 - 1) n is (omega arith) (omega (arith, fits)) fits) (ap (digits_value 10) bare ∙ is)
 
 fits : (ratio : Bool) (n : ℕ) → n ≤ most ratio → n < 2 ^ 64
 fits false n below = omega (arith, below)
 fits true n below = omega (arith, below)
 
 module _ (program : Text) (x : ℕ) (xs : Text) (e : (x == 45) ≡ false) where
-  right_number : (ratio : Bool) (mode : Mode) (number : Text) (n : ℕ) → IsNumber (most ratio) n number
+  right_number : (ratio : Bool) (mode : Mode) (number : Text) (n : ℕ) → IsNumberIn (least ratio) (most ratio) n number
       → IsRight (program ∷ codes "run" ∷ (x ∷ xs) ∷ (flag_for mode ++ option_word ratio ∷ number ∷ [])) (x ∷ xs) false (Run (counting ratio mode n))
   right_number ratio mode [] n (numeral, is, above, below) = let none : 0 < 0 = numeral.0 in absurd (omega arith)
   right_number ratio mode (y ∷ ys) n (numeral, is, above, below) =
       subst (λ m. IsRight (program ∷ codes "run" ∷ (x ∷ xs) ∷ (flag_for mode ++ option_word ratio ∷ (y ∷ ys) ∷ [])) (x ∷ xs) false (Run (counting ratio mode m)))
-      (number_is y ys numeral n is (fits ratio n below))
-      (right_counting program x xs e ratio y ys (differs y 45 (no_hyphen y ys numeral)) (in_range y ys numeral 1 (most ratio) n is above below (fits ratio n below)) mode)
+      (number_is y ys numeral (usual ratio) n is (fits ratio n below))
+      (right_counting program x xs e ratio y ys (differs y 45 (no_hyphen y ys numeral)) (in_range y ys numeral (least ratio) (most ratio) n is above below (fits ratio n below)) mode)
 
   right_plain : (line : List Text) (existing : Bool) (task : Task) → IsLine line (x ∷ xs) existing task → IsRight (program ∷ line) (x ∷ xs) existing task
   right_plain line existing Snapshot is = rw is (right_bare program x xs e (codes "snapshot") Snapshot has_snapshot (λ rows. refl) existing)
@@ -116,16 +116,16 @@ module _ (program : Text) (x : ℕ) (xs : Text) (e : (x == 45) ≡ false) where
   right_plain line existing (Tell Verify) is = rw is (right_bare program x xs e (codes "verify") (Tell Verify) has_verify (λ rows. refl) existing)
   right_plain line false (Run wanted) (inl ((none, no_ratio), line_is)) =
       rw line_is (subst (λ (w : Wanted). IsRight (program ∷ codes "run" ∷ (x ∷ xs) ∷ (flag_for wanted.mode ++ (strict_for wanted.strict ++ (group_for wanted.group ++ [])))) (x ∷ xs) false (Run w))
-      (sym (wanted_is wanted 0 0 wanted.strict wanted.group none no_ratio refl refl)) (right_run program x xs e wanted.mode wanted.strict wanted.group false))
+      (sym (wanted_is wanted 0 10 wanted.strict wanted.group none no_ratio refl refl)) (right_run program x xs e wanted.mode wanted.strict wanted.group false))
   right_plain line false (Run wanted) (inr (lax, alone, (number, inl (is, no_ratio, line_is)))) =
       rw line_is (subst (λ (w : Wanted). IsRight (program ∷ codes "run" ∷ (x ∷ xs) ∷ (flag_for wanted.mode ++ option_word false ∷ number ∷ [])) (x ∷ xs) false (Run w))
-      (sym (wanted_is wanted wanted.snapshot_every 0 false false refl no_ratio lax alone)) (right_number false wanted.mode number wanted.snapshot_every is))
+      (sym (wanted_is wanted wanted.snapshot_every 10 false false refl no_ratio lax alone)) (right_number false wanted.mode number wanted.snapshot_every is))
   right_plain line false (Run wanted) (inr (lax, alone, (number, inr (is, none, line_is)))) =
       rw line_is (subst (λ (w : Wanted). IsRight (program ∷ codes "run" ∷ (x ∷ xs) ∷ (flag_for wanted.mode ++ option_word true ∷ number ∷ [])) (x ∷ xs) false (Run w))
       (sym (wanted_is wanted 0 wanted.snapshot_ratio false false none refl lax alone)) (right_number true wanted.mode number wanted.snapshot_ratio is))
   right_plain line true (Run wanted) ((none, no_ratio), line_is) =
       rw line_is (subst (λ (w : Wanted). IsRight (program ∷ codes "run" ∷ (x ∷ xs) ∷ (flag_for wanted.mode ++ (strict_for wanted.strict ++ (group_for wanted.group ++ existing_for true)))) (x ∷ xs) true (Run w))
-      (sym (wanted_is wanted 0 0 wanted.strict wanted.group none no_ratio refl refl)) (right_run program x xs e wanted.mode wanted.strict wanted.group true))
+      (sym (wanted_is wanted 0 10 wanted.strict wanted.group none no_ratio refl refl)) (right_run program x xs e wanted.mode wanted.strict wanted.group true))
 
 pub right_line : (words : List Text) (folder : Text) (existing : Bool) (task : Task) → AsksFor words folder existing task → IsRight words folder existing task
 right_line words [] existing task asks = absurd asks.4

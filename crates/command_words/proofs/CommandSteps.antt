@@ -38,8 +38,17 @@ abbrev pub most : Bool → ℕ
 most false = 1000000
 most true = 18446744073709551615
 
+abbrev pub least : Bool → ℕ
+least false = 1
+least true = 0
+
+-- the number of the option where it is not given
+abbrev pub usual : Bool → ℕ
+usual false = 0
+usual true = 10
+
 abbrev pub counting : Bool → Mode → ℕ → Wanted
-counting false mode n = wanting mode n 0 false false
+counting false mode n = wanting mode n 10 false false
 counting true mode n = wanting mode 0 n false false
 
 -- ---- the rules of each command, as they are built
@@ -174,11 +183,11 @@ module _ (folder : Text) where
     unfolding run_rules
     adds_existing_run new existing = adds_existing (codes "run") run_rules folder rows refl new existing
 
-    adds_counting : (ratio : Bool) → has_row (option_id ratio) rows ≡ false → (y : ℕ) (ys : Text) → (y == 45) ≡ false → is_unsigned_in 1 (most ratio) (y ∷ ys) ≡ true
+    adds_counting : (ratio : Bool) → has_row (option_id ratio) rows ≡ false → (y : ℕ) (ys : Text) → (y == 45) ≡ false → is_unsigned_in (least ratio) (most ratio) (y ∷ ys) ≡ true
         → Adds (codes "run") run_rules folder rows (option_word ratio ∷ (y ∷ ys) ∷ []) (rows ++ given (option_id ratio) (y ∷ ys) CommandLine ∷ [])
     unfolding run_rules
-    adds_counting false new y ys d passes = adds_number (codes "run") run_rules folder (option_id false) (is_number false) rows new (most false) refl refl y ys d passes
-    adds_counting true new y ys d passes = adds_number (codes "run") run_rules folder (option_id true) (is_number true) rows new (most true) refl refl y ys d passes
+    adds_counting false new y ys d passes = adds_number (codes "run") run_rules folder (option_id false) (is_number false) rows new (least false) (most false) refl refl y ys d passes
+    adds_counting true new y ys d passes = adds_number (codes "run") run_rules folder (option_id true) (is_number true) rows new (least true) (most true) refl refl y ys d passes
 
   pub adds_flags : (mode : Mode) (strict group existing : Bool)
       → Adds (codes "run") run_rules folder [] (flag_for mode ++ (strict_for strict ++ (group_for group ++ existing_for existing))) (run_rows mode strict group existing)
@@ -200,7 +209,7 @@ module _ (folder : Text) where
   number_absent false mode = flag_absent (option_id false) (codes "rescue") (wants_rescue mode) [] refl refl
   number_absent true mode = flag_absent (option_id true) (codes "rescue") (wants_rescue mode) [] refl refl
 
-  pub adds_rescue_counting : (ratio : Bool) (y : ℕ) (ys : Text) → (y == 45) ≡ false → is_unsigned_in 1 (most ratio) (y ∷ ys) ≡ true → (mode : Mode)
+  pub adds_rescue_counting : (ratio : Bool) (y : ℕ) (ys : Text) → (y == 45) ≡ false → is_unsigned_in (least ratio) (most ratio) (y ∷ ys) ≡ true → (mode : Mode)
       → Adds (codes "run") run_rules folder [] (flag_for mode ++ option_word ratio ∷ (y ∷ ys) ∷ []) (rescue_rows mode ++ given (option_id ratio) (y ∷ ys) CommandLine ∷ [])
   adds_rescue_counting ratio y ys d passes mode =
       adds_both (codes "run") run_rules folder [] (rescue_rows mode) (rescue_rows mode ++ given (option_id ratio) (y ∷ ys) CommandLine ∷ []) (flag_for mode) (option_word ratio ∷ (y ∷ ys) ∷ [])
@@ -212,7 +221,7 @@ abbrev pub with_defaults : Text → List Row → List Rule → List Row
 with_defaults folder rows rules = fold with_default (folder_row folder ∷ rows) rules
 
 pub asks_run : (folder : Text) (mode : Mode) (strict group existing : Bool)
-    → asked_of (codes "run", with_defaults folder (run_rows mode strict group existing) run_rules) ≡ Some (folder, existing, Run (wanting mode 0 0 strict group))
+    → asked_of (codes "run", with_defaults folder (run_rows mode strict group existing) run_rules) ≡ Some (folder, existing, Run (wanting mode 0 10 strict group))
 unfolding run_rules
 asks_run folder Current false false false = refl
 asks_run folder Current false false true = refl
@@ -233,7 +242,7 @@ asks_run folder Rescue true true true = refl
 
 pub asks_counting : (ratio : Bool) (folder number : Text) (mode : Mode)
     → asked_of (codes "run", with_defaults folder (rescue_rows mode ++ given (option_id ratio) number CommandLine ∷ []) run_rules)
-    ≡ Some (folder, false, Run (counting ratio mode (given_number (Some number))))
+    ≡ Some (folder, false, Run (counting ratio mode (given_number (usual ratio) (Some number))))
 unfolding run_rules
 asks_counting false folder number Current = refl
 asks_counting false folder number Rescue = refl

@@ -6,15 +6,16 @@ use Rattle.std.specs.Prelude.{Ok, Err}
 use Rattle.std.specs.Str.Parse.{ParsesUnsigned}
 use Rattle.clap.specs.ValueTests.{is_unsigned_in}
 use Rattle.clap.specs.Values.{Accepts}
-use Rattle.clap.specs.Words.{Row, Text, first_of, first_value, found_of, rows_of, subcommand_name_of, subcommand_rows_of}
+use Rattle.clap.specs.Words.{Row, Text, first_of, first_value, found_of, is_simple, rows_of, subcommand_name_of, subcommand_rows_of}
 use Rattle.clap.specs.declared.builder.value_parser.ValueParser.TheVariants.{Unsigned}
 use Rattle.clap.specs.declared.parser.matches.ArgMatches.{ArgMatches}
 use Rattle.clap.specs.declared.parser.matches.ArgMatches.TheViews.{out-ArgMatches, out-SubCommand}
 use Rattle.clap.specs.declared.parser.matches.Found.{Found}
+use Rattle.clap.proofs.OnLiterals.{clap_on_literals}
 use Rattle.clap.proofs.ValueTestLemmas.{Accepts-accepts, accepts-Accepts}
 use Rattle.clap.proofs.WalkLemmas.{first_value-rows}
 use Rattle.command_words.specs.CheckLine as checking
-use Rattle.command_words.specs.LookLine.{Finds, IsLooked, number_of, place_given, text_of}
+use Rattle.command_words.specs.LookLine.{Finds, IsLooked, looking_line, number_of, place_given, text_of}
 use Rattle.command_words.specs.declared.check.Check.{Check}
 use Rattle.command_words.specs.declared.looks.Look.{Look}
 use Rattle.command_words.specs.declared.looks.RecordPlace.{RecordPlace}
@@ -56,3 +57,8 @@ pub check_found : (o : Option (Text × List Row)) (rows : List Row) (check : Che
     → checking.Finds o check
 check_found None rows check listed is = absurd (cc)
 check_found (Some found) rows check listed is = let same : rows ≡ found.1 = cc in subst (λ (r : List Row). checking.IsCheck r check) same is
+
+-- the commands that look have a line of clap that is simple
+pub simple_looking_line : is_simple looking_line ≡ true
+unfolding clap_on_literals
+simple_looking_line = refl

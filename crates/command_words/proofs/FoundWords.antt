@@ -22,31 +22,31 @@ use Rattle.command_words.specs.Rules.{is_set}
 use Rattle.command_words.specs.CommandLine.{Asked, asked_of, content_of_flag, mode_of_flag, number_in, given_number, task_of, wanted_of}
 
 -- a number that was read is the one that the text writes
-number_read : (E : Type 0) (text : Text) (n : ℕ) → ParsesUnsigned {E = E} 64 10 text (Ok n) → n ≡ given_number (Some text)
-number_read E text n read =
+number_read : (E : Type 0) (text : Text) (n : ℕ) → ParsesUnsigned {E = E} 64 10 text (Ok n) → (other : ℕ) → n ≡ given_number other (Some text)
+number_read E text n read other =
     let within : Accepts false (Unsigned 0 (2 ^ 64 - 1)) text = (read.0.0, read.0.1, omega arith, omega (arith, read.0.1)) in
     rw (Accepts-accepts false (Unsigned 0 (2 ^ 64 - 1)) text within) read.1
 
 -- and a text that is no number counts as none
-no_number : {E : Type 0} (text : Text) (e : E) → ParsesUnsigned {E = E} 64 10 text (Err e) → 0 ≡ given_number (Some text)
-no_number {E} text e read = go (is_unsigned_in 0 (2 ^ 64 - 1) text) refl
+no_number : {E : Type 0} (text : Text) (e : E) → ParsesUnsigned {E = E} 64 10 text (Err e) → (other : ℕ) → other ≡ given_number other (Some text)
+no_number {E} text e read other = go (is_unsigned_in 0 (2 ^ 64 - 1) text) refl
   where
-    go : (b : Bool) → is_unsigned_in 0 (2 ^ 64 - 1) text ≡ b → 0 ≡ given_number (Some text)
+    go : (b : Bool) → is_unsigned_in 0 (2 ^ 64 - 1) text ≡ b → other ≡ given_number other (Some text)
     go false is = rw is refl
     go true is = let within = accepts-Accepts false (Unsigned 0 (2 ^ 64 - 1)) text is in absurd (read (within.0, within.1))
 
 module _ {E : Type 0} (gives : List ℕ → Result ℕ E → Type 0) (reads : (text : Text) (r : Result ℕ E) → gives text r → ParsesUnsigned 64 10 text r) where
-  read_one : (text : Text) (r : Option ℕ) → ReadsOne gives text r → unwrap_or r 0 ≡ given_number (Some text)
-  read_one text (Some n) read = number_read E text n (reads text (Ok n) read)
-  read_one text None read = no_number text read.0 (reads text (Err read.0) read.1)
+  read_one : (other : ℕ) (text : Text) (r : Option ℕ) → ReadsOne gives text r → unwrap_or r other ≡ given_number other (Some text)
+  read_one other text (Some n) read = number_read E text n (reads text (Ok n) read) other
+  read_one other text None read = no_number text read.0 (reads text (Err read.0) read.1) other
 
-  pub number_read_in : (f : Found) (id : Text) (r : Option ℕ) → (one_text f id ≡ None → r ≡ None) → ((t : Text) → one_text f id ≡ Some t → ReadsOne gives t r)
-      → unwrap_or r 0 ≡ given_number (one_of id (rows_of f))
-  number_read_in f id r none value = go (one_text f id) refl ∙ ap given_number (one_text-rows f id)
+  pub number_read_in : (other : ℕ) (f : Found) (id : Text) (r : Option ℕ) → (one_text f id ≡ None → r ≡ None) → ((t : Text) → one_text f id ≡ Some t → ReadsOne gives t r)
+      → unwrap_or r other ≡ given_number other (one_of id (rows_of f))
+  number_read_in other f id r none value = go (one_text f id) refl ∙ ap (given_number other) (one_text-rows f id)
     where
-      go : (o : Option Text) → one_text f id ≡ o → unwrap_or r 0 ≡ given_number (one_text f id)
+      go : (o : Option Text) → one_text f id ≡ o → unwrap_or r other ≡ given_number other (one_text f id)
       go None is = rw (is, none is) refl
-      go (Some t) is = rw is (read_one t r (value t is))
+      go (Some t) is = rw is (read_one other t r (value t is))
 
 -- the command `run` that was found
 pub run_found : (name : Text) (f : Found) (wanted : Wanted) → name ≡ codes "run" → wanted ≡ wanted_of (rows_of f) → Some (Run wanted) ≡ task_of (name, rows_of f)
@@ -54,7 +54,7 @@ run_found name f wanted is wanted_is = rw (is, wanted_is) refl
 
 -- what is wanted of its session
 pub wanted_found : (f : Found) (flag other third : Option Text) (mode : Mode) (every ratio : ℕ) (strict group : Bool) → mode ≡ mode_of_flag flag → flag ≡ first_value f (codes "rescue")
-    → every ≡ number_in (codes "snapshot-every") (rows_of f) → ratio ≡ number_in (codes "snapshot-ratio") (rows_of f) → strict ≡ is_set other → other ≡ first_value f (codes "strict")
+    → every ≡ number_in 0 (codes "snapshot-every") (rows_of f) → ratio ≡ number_in 10 (codes "snapshot-ratio") (rows_of f) → strict ≡ is_set other → other ≡ first_value f (codes "strict")
     → group ≡ is_set third → third ≡ first_value f (codes "group")
     → ◌≡◌ {A = Wanted} (record { mode = mode; snapshot_every = every; snapshot_ratio = ratio; strict = strict; group = group }) (wanted_of (rows_of f))
 wanted_found f flag other third mode every ratio strict group mode_is flag_is every_is ratio_is strict_is other_is group_is third_is =

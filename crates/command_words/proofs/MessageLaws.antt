@@ -69,10 +69,10 @@ module _ (folder : Text) where
   unfolding message_rules
   adds_counting y ys d passes =
       adds_more (codes "--snapshot-every" ∷ (y ∷ ys) ∷ []) (message_rows (given (codes "snapshot-every") (y ∷ ys) CommandLine ∷ []))
-      (adds_number (codes "run") message_rules folder (codes "snapshot-every") (is_number false) (message_rows []) refl 1000000 refl refl y ys d passes)
+      (adds_number (codes "run") message_rules folder (codes "snapshot-every") (is_number false) (message_rows []) refl 1 1000000 refl refl y ys d passes)
 
 asks_number : (folder number : Text)
-    → messages_of (codes "run", with_defaults folder (message_rows (given (codes "snapshot-every") number CommandLine ∷ [])) message_rules) ≡ Some (folder, false, given_number (Some number))
+    → messages_of (codes "run", with_defaults folder (message_rows (given (codes "snapshot-every") number CommandLine ∷ [])) message_rules) ≡ Some (folder, false, given_number 0 (Some number))
 unfolding message_rules
 asks_number folder number = refl
 
@@ -100,10 +100,10 @@ module _ (program : Text) (x : ℕ) (xs : Text) (e : (x == 45) ≡ false) where
       (asks_existing (x ∷ xs) existing)
 
   right_counting : (y : ℕ) (ys : Text) → (y == 45) ≡ false → is_unsigned_in 1 1000000 (y ∷ ys) ≡ true
-      → IsRight (program ∷ codes "run" ∷ (x ∷ xs) ∷ codes "--messages" ∷ codes "--snapshot-every" ∷ (y ∷ ys) ∷ []) (x ∷ xs) false (given_number (Some (y ∷ ys)))
+      → IsRight (program ∷ codes "run" ∷ (x ∷ xs) ∷ codes "--messages" ∷ codes "--snapshot-every" ∷ (y ∷ ys) ∷ []) (x ∷ xs) false (given_number 0 (Some (y ∷ ys)))
   right_counting y ys d passes =
       right_with (codes "--messages" ∷ codes "--snapshot-every" ∷ (y ∷ ys) ∷ []) (message_rows (given (codes "snapshot-every") (y ∷ ys) CommandLine ∷ [])) false
-      (given_number (Some (y ∷ ys))) (adds_counting (x ∷ xs) y ys d passes) (asks_number (x ∷ xs) (y ∷ ys))
+      (given_number 0 (Some (y ∷ ys))) (adds_counting (x ∷ xs) y ys d passes) (asks_number (x ∷ xs) (y ∷ ys))
 
   right_number : (number : Text) (every : ℕ) → IsNumber 1000000 every number
       → IsRight (program ∷ codes "run" ∷ (x ∷ xs) ∷ codes "--messages" ∷ codes "--snapshot-every" ∷ number ∷ []) (x ∷ xs) false every
@@ -111,7 +111,7 @@ module _ (program : Text) (x : ℕ) (xs : Text) (e : (x == 45) ≡ false) where
   right_number (y ∷ ys) every (numeral, is, above, below) =
       let fits : every < 2 ^ 64 = omega (arith, below) in
       subst (IsRight (program ∷ codes "run" ∷ (x ∷ xs) ∷ codes "--messages" ∷ codes "--snapshot-every" ∷ (y ∷ ys) ∷ []) (x ∷ xs) false)
-      (number_is y ys numeral every is fits)
+      (number_is y ys numeral 0 every is fits)
       (right_counting y ys (differs y 45 (no_hyphen y ys numeral)) (in_range y ys numeral 1 1000000 every is above below fits))
 
   right_words : (line : List Text) (existing : Bool) (every : ℕ) → IsMessageLine line (x ∷ xs) existing every → IsRight (program ∷ line) (x ∷ xs) existing every
@@ -152,7 +152,7 @@ of_rows (Some found) rows listed = let same : rows ≡ found.1 = cc in rw same r
 
 pub messages_found : (o : Option (Text × List Row)) (f : Found) (folder flag : Option Text) (existing : Bool) (every : ℕ)
     → Some (rows_of f) ≡ option_map (λ (p : Text × List Row). p.1) o
-    → folder ≡ first_value f (codes "DIR") → existing ≡ is_set flag → flag ≡ first_value f (codes "existing") → every ≡ number_in (codes "snapshot-every") (rows_of f)
+    → folder ≡ first_value f (codes "DIR") → existing ≡ is_set flag → flag ≡ first_value f (codes "existing") → every ≡ number_in 0 (codes "snapshot-every") (rows_of f)
     → option_map (λ (at : Text). (at, existing, every)) folder ≡ option_and_then messages_of o
 messages_found o f folder flag existing every listed folder_is existing_is flag_is every_is =
     rw (

@@ -97,8 +97,8 @@ abbrev pub built_flag : Text → Rule
 built_flag id = filled (flag_rule id)
 
 -- an option with a number from 1 up to another
-abbrev pub built_number : Text → ℕ → Rule
-built_number id most = filled (record (option_rule id) { parser = Some (Unsigned 1 most) })
+abbrev pub built_number : Text → ℕ → ℕ → Rule
+built_number id low most = filled (record (option_rule id) { parser = Some (Unsigned low most) })
 
 -- a default value is no mistake
 abbrev has_default : Rule → Bool
@@ -265,8 +265,8 @@ module _ (name : Text) (rules : List Rule) (folder : Text) where
       adds_flag_if true = adds_flag
 
     -- an option with a number
-    module _ (most : ℕ) (long : arg_by_long rules id ≡ Some (built_number id most)) (named : arg_by_id rules id ≡ Some (built_number id most))
-        (y : ℕ) (ys : Text) (no_option : (y == 45) ≡ false) (passes : is_unsigned_in 1 most (y ∷ ys) ≡ true) where
+    module _ (low most : ℕ) (long : arg_by_long rules id ≡ Some (built_number id low most)) (named : arg_by_id rules id ≡ Some (built_number id low most))
+        (y : ℕ) (ys : Text) (no_option : (y == 45) ≡ false) (passes : is_unsigned_in low most (y ∷ ys) ≡ true) where
       abbrev waits : Held → Held
       waits held = record (settled rules held) { pending = Some (id, []) }
 

@@ -23,9 +23,9 @@ use Rattle.command_words.specs.declared.words.Task.TheVariants.{Export, Run, Sna
 abbrev pub every_rule : Rule
 every_rule = record (option_rule (codes "snapshot-every")) { parser = Some (Unsigned 1 1000000) }
 
--- --snapshot-ratio R: a number from 1 on, of 64 bits
+-- --snapshot-ratio R: a number of 64 bits
 abbrev pub ratio_rule : Rule
-ratio_rule = record (option_rule (codes "snapshot-ratio")) { parser = Some (Unsigned 1 18446744073709551615) }
+ratio_rule = record (option_rule (codes "snapshot-ratio")) { parser = Some (Unsigned 0 18446744073709551615) }
 
 -- with what is wanted of a session: its flags, and its numbers
 abbrev pub flags_line : App
@@ -64,21 +64,22 @@ mode_of_flag flag = if is_set flag then Rescue else Current
 abbrev pub content_of_flag : Option Text → Content
 content_of_flag flag = if is_set flag then Data else World
 
--- the number of an option on snapshots: 0, which is never, where none is given
-abbrev pub given_number : Option Text → ℕ
-given_number None = 0
-given_number (Some text) = if is_unsigned_in 0 (2 ^ 64 - 1) text then digits_value 10 (without_leading_plus text) else 0
+-- the number of an option on snapshots, or another one where none is given
+abbrev pub given_number : ℕ → Option Text → ℕ
+given_number other None = other
+given_number other (Some text) = if is_unsigned_in 0 (2 ^ 64 - 1) text then digits_value 10 (without_leading_plus text) else other
 
 -- the same of the rows that were found
-abbrev pub number_in : Text → List Row → ℕ
-number_in option rows = given_number (one_of option rows)
+abbrev pub number_in : ℕ → Text → List Row → ℕ
+number_in other option rows = given_number other (one_of option rows)
 
--- what is wanted of a session, by the rows that were found
+-- What is wanted of a session, by the rows that were found. Snapshots by a number of forms are taken where it is given. By the length of the half
+-- they are taken at 10 times where no other number is given; 0 is never.
 abbrev pub wanted_of : List Row → Wanted
 wanted_of rows = record {
   mode = mode_of_flag (first_of (codes "rescue") rows);
-  snapshot_every = number_in (codes "snapshot-every") rows;
-  snapshot_ratio = number_in (codes "snapshot-ratio") rows;
+  snapshot_every = number_in 0 (codes "snapshot-every") rows;
+  snapshot_ratio = number_in 10 (codes "snapshot-ratio") rows;
   strict = is_set (first_of (codes "strict") rows);
   group = is_set (first_of (codes "group") rows);
 }
@@ -152,21 +153,25 @@ abbrev pub existing_for : Bool → List Text
 existing_for false = []
 existing_for true = codes "--existing" ∷ []
 
--- a decimal number from 1 up to another
-abbrev pub IsNumber : ℕ → ℕ → Text → Type 0
-IsNumber most n number = IsNumeral 10 number × (digits_value 10 number ≡ n) × (1 ≤ n) × (n ≤ most)
+-- a decimal number from one up to another
+abbrev pub IsNumberIn : ℕ → ℕ → ℕ → Text → Type 0
+IsNumberIn least most n number = IsNumeral 10 number × (digits_value 10 number ≡ n) × (least ≤ n) × (n ≤ most)
 
--- no snapshot is asked for
+-- from 1 on
+abbrev pub IsNumber : ℕ → ℕ → Text → Type 0
+IsNumber = IsNumberIn 1
+
+-- snapshots are taken as without an option on them
 abbrev pub AsksForNone : Wanted → Type 0
-AsksForNone wanted = (wanted.snapshot_every ≡ 0) × (wanted.snapshot_ratio ≡ 0)
+AsksForNone wanted = (wanted.snapshot_every ≡ 0) × (wanted.snapshot_ratio ≡ 10)
 
 -- Words with one of the options on snapshots, and its number.
 abbrev pub HasNumber : List Text → Text → Wanted → Type 0
 HasNumber words folder wanted =
     (number : Text)
-    × ((IsNumber 1000000 wanted.snapshot_every number × (wanted.snapshot_ratio ≡ 0)
+    × ((IsNumber 1000000 wanted.snapshot_every number × (wanted.snapshot_ratio ≡ 10)
     × (words ≡ codes "run" ∷ folder ∷ (flag_for wanted.mode ++ codes "--snapshot-every" ∷ number ∷ [])))
-    ⊎ (IsNumber 18446744073709551615 wanted.snapshot_ratio number × (wanted.snapshot_every ≡ 0)
+    ⊎ (IsNumberIn 0 18446744073709551615 wanted.snapshot_ratio number × (wanted.snapshot_every ≡ 0)
     × (words ≡ codes "run" ∷ folder ∷ (flag_for wanted.mode ++ codes "--snapshot-ratio" ∷ number ∷ []))))
 
 -- The words of a command on this folder that asks for this. A number of snapshots beside another one, or beside `--existing`, `--strict` or

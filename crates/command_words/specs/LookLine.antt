@@ -1,13 +1,16 @@
--- The command line of the commands that look into a store, as clap reads it: `show DIR [--package NAME] [--indicator NAME] [--like NAME]
--- [--forms]`, `info DIR`, `log DIR [--from N] [--places]`, `backup DIR DEST` and `dump DIR [--at N]`, each with `--existing`.
+-- The command line of the commands that look into a store, as clap reads it: `show DIR [SYMBOL] [--package NAME] [--indicator NAME]
+-- [--like NAME] [--forms] [--json]`, `info DIR [--files] [--json]`, `log DIR [--from N] [--places] [--json]`, `backup DIR DEST` and
+-- `dump DIR [--at N]`, each with `--existing`.
 use Rattle.std.specs.Prelude.{◌≡◌, ◌==◌, ℕ, ◌-◌, ◌^◌, Bool, if◌then◌else◌, List, Option, None, Some, length, codes, nat_le, nat_lt, option_map, option_and_then}
 use Rattle.std.specs.Borrow.{Bor}
 use Rattle.std.specs.Char.{is_ascii_digit}
 use Rattle.std.specs.List.{after_first, before_first, list_all, position_or_len}
 use Rattle.std.specs.Str.Parse.{digits_value, without_leading_plus}
 use Rattle.clap.specs.ValueTests.{is_unsigned_in}
-use Rattle.clap.specs.Words.{App, Row, Text, first_of, subcommand_of, with_rule, with_subcommand}
+use Rattle.clap.specs.Words.{App, Row, Rule, Text, first_of, new_rule, subcommand_of, with_rule, with_subcommand}
+use Rattle.clap.specs.declared.builder.action.ArgAction.TheVariants.{Set}
 use Rattle.command_words.specs.Rules.{bare_line, flag_rule, folder_line, is_set, option_rule, place_rule}
+use Rattle.command_words.specs.declared.looks.InfoPart.{InfoPart}
 use Rattle.command_words.specs.declared.looks.Look.{Look}
 use Rattle.command_words.specs.declared.looks.Look.TheVariants.{Backup, Dump, Info, Log, Show}
 use Rattle.command_words.specs.declared.looks.RecordPlace.{RecordPlace}
@@ -20,11 +23,22 @@ use Rattle.command_words.specs.declared.looks.Shown.{Shown}
 abbrev pub rows_line : App
 rows_line = with_rule (with_rule (folder_line (codes "show")) (option_rule (codes "package"))) (option_rule (codes "indicator"))
 
+-- SYMBOL: one value
+abbrev pub symbol_rule : Rule
+symbol_rule = record (new_rule (codes "SYMBOL")) { action = Some Set }
+
+-- with all that names what is shown
+abbrev pub names_line : App
+names_line = with_rule (with_rule rows_line (option_rule (codes "like"))) symbol_rule
+
 abbrev pub show_line : App
-show_line = with_rule (with_rule rows_line (option_rule (codes "like"))) (flag_rule (codes "forms"))
+show_line = with_rule (with_rule names_line (flag_rule (codes "forms"))) (flag_rule (codes "json"))
+
+abbrev pub info_line : App
+info_line = with_rule (with_rule (folder_line (codes "info")) (flag_rule (codes "files"))) (flag_rule (codes "json"))
 
 abbrev pub log_line : App
-log_line = with_rule (with_rule (folder_line (codes "log")) (option_rule (codes "from"))) (flag_rule (codes "places"))
+log_line = with_rule (with_rule (with_rule (folder_line (codes "log")) (option_rule (codes "from"))) (flag_rule (codes "places"))) (flag_rule (codes "json"))
 
 abbrev pub backup_line : App
 backup_line = with_rule (folder_line (codes "backup")) (place_rule (codes "DEST"))
@@ -34,7 +48,7 @@ dump_line = with_rule (folder_line (codes "dump")) (option_rule (codes "at"))
 
 abbrev pub telling_line : App
 telling_line =
-    with_subcommand (with_subcommand (with_subcommand bare_line show_line.top) (folder_line (codes "info")).top) log_line.top
+    with_subcommand (with_subcommand (with_subcommand bare_line show_line.top) info_line.top) log_line.top
 
 abbrev pub looking_line : App
 looking_line = with_subcommand (with_subcommand telling_line backup_line.top) dump_line.top
@@ -71,20 +85,28 @@ text_of = option_map (λ (text : Bor Text). text.now)
 
 -- which properties are shown, and how
 pub record IsShown (rows : List Row) (shown : Shown) : Type 0 where
+  pub symbol : text_of shown.symbol ≡ first_of (codes "SYMBOL") rows
   pub in_package : text_of shown.package ≡ first_of (codes "package") rows
   pub indicator : text_of shown.indicator ≡ first_of (codes "indicator") rows
   pub like : text_of shown.like ≡ first_of (codes "like") rows
   pub forms : shown.forms ≡ is_set (first_of (codes "forms") rows)
+  pub json : shown.json ≡ is_set (first_of (codes "json") rows)
 
--- from which record on the log is written, and whether with places
+-- which figures are told, and how
+pub record IsInfo (rows : List Row) (part : InfoPart) : Type 0 where
+  pub files : part.files ≡ is_set (first_of (codes "files") rows)
+  pub json : part.json ≡ is_set (first_of (codes "json") rows)
+
+-- from which record on the log is written, whether with places, and how
 pub record AreRecords (rows : List Row) (records : Records) : Type 0 where
   pub from : Some records.from ≡ place_given 1 (first_of (codes "from") rows)
   pub places : records.places ≡ is_set (first_of (codes "places") rows)
+  pub json : records.json ≡ is_set (first_of (codes "json") rows)
 
 -- a command of this name with these rows asks for this
 abbrev pub IsLook : Text → List Row → Look → Type 0
 IsLook name rows (Show shown) = (name ≡ codes "show") × IsShown rows shown
-IsLook name rows Info = name ≡ codes "info"
+IsLook name rows (Info part) = (name ≡ codes "info") × IsInfo rows part
 IsLook name rows (Log records) = (name ≡ codes "log") × AreRecords rows records
 IsLook name rows (Backup to) = (name ≡ codes "backup") × (Some to.now ≡ first_of (codes "DEST") rows)
 IsLook name rows (Dump place) = (name ≡ codes "dump") × (Some place ≡ place_given 0 (first_of (codes "at") rows))

@@ -20,7 +20,7 @@ Messages = Text × Bool × ℕ
 -- what was found asks for
 abbrev pub messages_of : Text × List Row → Option Messages
 messages_of found =
-    option_map (λ folder. (folder, is_set (first_of (codes "existing") found.1), number_in (codes "snapshot-every") found.1)) (first_of (codes "DIR") found.1)
+    option_map (λ folder. (folder, is_set (first_of (codes "existing") found.1), number_in 0 (codes "snapshot-every") found.1)) (first_of (codes "DIR") found.1)
 
 -- what the words ask for
 abbrev pub messages_in : List Text → Option Messages

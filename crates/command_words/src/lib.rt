@@ -28,7 +28,7 @@ mod way;
 mod words;
 
 pub use check::{Check, checked_in};
-pub use looks::{Look, Looked, RecordPlace, Records, Shown, looked_in};
+pub use looks::{InfoPart, Look, Looked, RecordPlace, Records, Shown, looked_in};
 pub use messages::{Messages, messages_in};
 pub use way::{Way, asks_for_quiet, way_of};
 pub use words::{Asked, Report, Task, asked_in};

@@ -1,20 +1,21 @@
 // The command lines of the commands that only look into a store.
-ghost use Rattle.std.specs.Prelude.{◌≡◌, false, IfOk};
-ghost use Rattle.clap.specs.Words.{app_of};
+ghost use Rattle.std.specs.Prelude.{◌≡◌, codes, false, IfOk};
+ghost use Rattle.clap.specs.Words.{app_of, rule_of, with_rule};
 ghost use Rattle.clap.specs.declared.builder.command.Command.TheViews.{out-Command as fields_of};
-ghost use Rattle.command_words.specs.LookLine.{backup_line, dump_line, log_line, looking_line, rows_line, show_line, telling_line};
-ghost use Rattle.command_words.specs.Rules.{bare_line, folder_line};
+ghost use Rattle.command_words.specs.LookLine.{backup_line, dump_line, info_line, log_line, looking_line, names_line, rows_line, show_line, symbol_rule, telling_line};
+ghost use Rattle.command_words.specs.Rules.{bare_line, flag_rule, folder_line};
 
 use crate::help::{
     BACKUP_HELP, BACKUP_USAGE, DUMP_HELP, DUMP_USAGE, INFO_HELP, INFO_USAGE, LOG_HELP, LOG_USAGE,
     SHOW_HELP, SHOW_USAGE, USAGE,
 };
 use crate::looks::{
-    AT, BACKUP, DESTINATION, FORMS, FROM, INDICATOR, INFO, LIKE, LOG, PACKAGE, PLACES, SHOW,
+    AT, BACKUP, DESTINATION, FILES, FORMS, FROM, INDICATOR, INFO, JSON, LIKE, LOG, PACKAGE, PLACES,
+    SHOW, SYMBOL,
 };
 use crate::rules::{Help, PROGRAM, folder_command, place, with_arg, with_flag, with_option};
 use crate::words::DUMP;
-use clap::Command;
+use clap::{Arg, ArgAction, Command};
 use std::alloc::{AllocError, Global};
 
 // The program with these commands alone.
@@ -34,12 +35,7 @@ fn telling_command<'a>(alloc: Global) -> Result<Command<'a>, AllocError>
 {
     let show = show_command(alloc)?;
     let with_show = bare_command(alloc).subcommand(show)?;
-    let help = Help {
-        about: "Tells figures of a store and of its files",
-        usage: INFO_USAGE,
-        end: INFO_HELP,
-    };
-    let info = store_command(alloc, INFO, help)?;
+    let info = info_command(alloc)?;
     let with_info = with_show.subcommand(info)?;
     let log = log_command(alloc)?;
     with_info.subcommand(log)
@@ -77,10 +73,53 @@ fn show_command<'a>(alloc: Global) -> Result<Command<'a>, AllocError>
     ensures line { IfOk result (λ command. app_of command ≡ show_line) }
     ensures local { IfOk result (λ command. (fields_of command).has_globals ≡ false) }
 {
+    let command = names_command(alloc)?;
+    let command = with_flag(command, alloc, FORMS, "Write the forms that set them")?;
+    with_json(command, alloc)
+}
+
+// The same with the names that are asked for alone.
+fn names_command<'a>(alloc: Global) -> Result<Command<'a>, AllocError>
+    ensures line { IfOk result (λ command. app_of command ≡ names_line) }
+    ensures local { IfOk result (λ command. (fields_of command).has_globals ≡ false) }
+{
     let command = rows_command(alloc)?;
-    let help = "Those of symbols whose names have this text";
+    let help = "Those of the symbols of this name, in any case; a * at an end stands for any text";
     let command = with_option(command, alloc, LIKE, "NAME", help)?;
-    with_flag(command, alloc, FORMS, "Write the forms that set them")
+    with_arg(command, symbol_place(alloc))
+}
+
+fn symbol_place<'a>(alloc: Global) -> Arg<'a>
+    ensures { (rule_of result ≡ symbol_rule) × (result.global ≡ false) }
+{
+    Arg::new(alloc, SYMBOL)
+        .help("A symbol, as it is printed: its home, and its properties alone")
+        .action(ArgAction::Set)
+}
+
+// The same command, which may write JSON.
+fn with_json<'a>(command: Command<'a>, alloc: Global) -> Result<Command<'a>, AllocError>
+    requires { (fields_of command).has_globals ≡ false }
+    ensures line { IfOk result (λ new. app_of new
+        ≡ with_rule (app_of command.entry) (flag_rule (codes "json"))) }
+    ensures local { IfOk result (λ new. (fields_of new).has_globals ≡ false) }
+{
+    with_flag(command, alloc, JSON, "Write JSON, an object a line")
+}
+
+fn info_command<'a>(alloc: Global) -> Result<Command<'a>, AllocError>
+    ensures line { IfOk result (λ command. app_of command ≡ info_line) }
+    ensures local { IfOk result (λ command. (fields_of command).has_globals ≡ false) }
+{
+    let help = Help {
+        about: "Tells figures of a store and of its files",
+        usage: INFO_USAGE,
+        end: INFO_HELP,
+    };
+    let command = store_command(alloc, INFO, help)?;
+    let help = "Those of the half in use and of the files alone, without opening the store";
+    let command = with_flag(command, alloc, FILES, help)?;
+    with_json(command, alloc)
 }
 
 // The same with the names of a package and of an indicator alone.
@@ -113,7 +152,8 @@ fn log_command<'a>(alloc: Global) -> Result<Command<'a>, AllocError>
     let help = "From this record on, counted from 1; G.N is that of generation G";
     let command = with_option(command, alloc, FROM, "N", help)?;
     let help = "Write each number with the generation of the half before it, as G.N";
-    with_flag(command, alloc, PLACES, help)
+    let command = with_flag(command, alloc, PLACES, help)?;
+    with_json(command, alloc)
 }
 
 fn backup_command<'a>(alloc: Global) -> Result<Command<'a>, AllocError>

@@ -3,7 +3,7 @@ ghost use Rattle.std.specs.Prelude.{◌≡◌, map, IfOk, Some};
 ghost use Rattle.std.specs.Char.{is_ascii_digit};
 ghost use Rattle.std.specs.List.{list_all};
 ghost use Rattle.clap.specs.Words.{app_of, first_of, found_of, rows_of, subcommand_rows_of};
-ghost use Rattle.command_words.specs.LookLine.{digits_of, looking_line, place_given, place_of, number_of, AreRecords, AsksToLook, Finds, IsLook, IsLooked, IsShown};
+ghost use Rattle.command_words.specs.LookLine.{digits_of, looking_line, place_given, place_of, number_of, AreRecords, AsksToLook, Finds, IsInfo, IsLook, IsLooked, IsShown};
 
 use crate::look_lines::looking_command;
 use crate::rules::{DIRECTORY, flag_is_set};
@@ -30,6 +30,12 @@ pub(crate) const LIKE: &str = "like";
 
 pub(crate) const FORMS: &str = "forms";
 
+pub(crate) const SYMBOL: &str = "SYMBOL";
+
+pub(crate) const JSON: &str = "json";
+
+pub(crate) const FILES: &str = "files";
+
 pub(crate) const FROM: &str = "from";
 
 pub(crate) const AT: &str = "at";
@@ -44,7 +50,7 @@ pub enum Look<'a> {
     /// Properties.
     Show(Shown<'a>),
     /// Figures of the store and of its files.
-    Info,
+    Info(InfoPart),
     /// The records of the half in use.
     Log(Records),
     /// The world, of which a new store is made in this folder.
@@ -53,13 +59,24 @@ pub enum Look<'a> {
     Dump(RecordPlace),
 }
 
-/// Which records are told.
+/// Which figures are told, and how.
+#[derive(Clone, Copy, Debug, PartialEq, Eq)]
+pub struct InfoPart {
+    /// Those alone that need no opening: of the half in use and of the files.
+    pub files: bool,
+    /// As JSON, and not as lines.
+    pub json: bool,
+}
+
+/// Which records are told, and how.
 #[derive(Clone, Copy, Debug, PartialEq, Eq)]
 pub struct Records {
     /// Those from this one on, counted from 1.
     pub from: RecordPlace,
     /// With the generation before each number.
     pub places: bool,
+    /// As JSON, and not as lines.
+    pub json: bool,
 }
 
 /// The number of a record, and the generation that the half in use has to have, if one is given: `N` or `G.N`.
@@ -128,14 +145,18 @@ fn are_digits(word: &str) -> bool
 /// Which properties are shown, and how.
 #[derive(Clone, Copy, Debug)]
 pub struct Shown<'a> {
+    /// Those of this symbol, as it is printed, and its home.
+    pub symbol: Option<&'a str>,
     /// Those of the symbols of this package.
     pub package: Option<&'a str>,
     /// Those with an indicator of this name.
     pub indicator: Option<&'a str>,
-    /// Those of symbols whose names have this text.
+    /// Those of symbols whose names are like this.
     pub like: Option<&'a str>,
     /// As forms, and not as lines.
     pub forms: bool,
+    /// As JSON, and neither as forms nor as lines.
+    pub json: bool,
 }
 
 /// What the words ask to look at.
@@ -183,6 +204,8 @@ fn looked_by_line<'a, S: AsStr>(
 enum Mistake<'a> {
     // There is no command with its folder.
     NoCommand,
+    // Properties are asked for as forms and as JSON.
+    TwoLayouts,
     // The value of this option is no place.
     NoPlace(&'a str, &'a str),
 }
@@ -204,6 +227,10 @@ fn told_of(
         Mistake::NoCommand => {
             command.error(ErrorKind::MissingRequiredArgument, "no command was given")
         }
+        Mistake::TwoLayouts => command.error(
+            ErrorKind::ArgumentConflict,
+            "the argument '--forms' cannot be used with '--json'",
+        ),
         Mistake::NoPlace(option, value) => {
             let wanted = "the number of a record, or G.N: N in the half of generation G";
             let text = format!(in alloc; "invalid value '{value}' for '--{option} <N>': {wanted}")?;
@@ -240,8 +267,8 @@ fn look_for<'a>(name: &str, found: &ArgMatches<'a>) -> Result<Look<'a>, Mistake<
     ensures { IfOk result (IsLook name.now (rows_of (found_of found.now))) }
 {
     match name {
-        SHOW => Ok(Look::Show(shown_by(found))),
-        INFO => Ok(Look::Info),
+        SHOW => Ok(Look::Show(one_layout(shown_by(found))?)),
+        INFO => Ok(Look::Info(info_by(found))),
         LOG => Ok(Look::Log(records_by(found)?)),
         BACKUP => match found.get_str(DESTINATION) {
             Some(to) => Ok(Look::Backup(to)),
@@ -257,10 +284,32 @@ fn shown_by<'a>(found: &ArgMatches<'a>) -> Shown<'a>
     ensures { IsShown (rows_of (found_of found.now)) result }
 {
     Shown {
+        symbol: found.get_str(SYMBOL),
         package: found.get_str(PACKAGE),
         indicator: found.get_str(INDICATOR),
         like: found.get_str(LIKE),
         forms: flag_is_set(found.get_str(FORMS)),
+        json: flag_is_set(found.get_str(JSON)),
+    }
+}
+
+// The same, if they are not to be written in two ways.
+fn one_layout<'a>(shown: Shown<'a>) -> Result<Shown<'a>, Mistake<'a>>
+    ensures { IfOk result (λ given. given ≡ shown.entry) }
+{
+    if shown.forms && shown.json {
+        return Err(Mistake::TwoLayouts);
+    }
+    Ok(shown)
+}
+
+// Which figures are told.
+fn info_by(found: &ArgMatches<'_>) -> InfoPart
+    ensures { IsInfo (rows_of (found_of found.now)) result }
+{
+    InfoPart {
+        files: flag_is_set(found.get_str(FILES)),
+        json: flag_is_set(found.get_str(JSON)),
     }
 }
 
@@ -271,6 +320,7 @@ fn records_by<'a>(found: &ArgMatches<'a>) -> Result<Records, Mistake<'a>>
     Ok(Records {
         from: place_by(found, FROM, 1)?,
         places: flag_is_set(found.get_str(PLACES)),
+        json: flag_is_set(found.get_str(JSON)),
     })
 }
 

@@ -80,7 +80,7 @@ fn messages_by<'a>(matches: &ArgMatches<'a>) -> Option<Messages<'a>>
     Some(Messages {
         folder: found.get_str(DIRECTORY)?,
         existing: flag_is_set(found.get_str(EXISTING)),
-        snapshot_every: number_in(found, EVERY),
+        snapshot_every: number_in(found, EVERY, 0),
     })
 }
 

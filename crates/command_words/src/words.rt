@@ -51,6 +51,9 @@ pub(crate) const EVERY: &str = "snapshot-every";
 
 const RATIO: &str = "snapshot-ratio";
 
+/// How many times as long as when it was begun the half in use gets, where the words do not say it.
+const USUAL_RATIO: u64 = 10;
+
 /// What is to be done with a store.
 #[derive(Clone, Copy, Debug, PartialEq, Eq)]
 pub enum Task {
@@ -116,8 +119,8 @@ fn ratio_option<'a>(alloc: Global) -> Arg<'a>
     ensures { (rule_of result ≡ ratio_rule) × (result.global ≡ false) }
 {
     let help =
-        "Take a snapshot once the half in use is R times as long as the text of its snapshot";
-    option(alloc, RATIO, "R", help).value_parser(ValueParser::unsigned(1, u64::MAX))
+        "Take a snapshot once the half in use has 1 MiB and is R times as long as when it was begun, 10 if not given, 0 for never";
+    option(alloc, RATIO, "R", help).value_parser(ValueParser::unsigned(0, u64::MAX))
 }
 
 fn export_command<'a>(alloc: Global) -> Result<Command<'a>, AllocError>
@@ -259,11 +262,11 @@ fn content_for(flag: Option<&str>) -> Content
     }
 }
 
-/// The number of an option on snapshots; 0 where it is not given.
-pub(crate) fn number_in(found: &ArgMatches<'_>, option: &str) -> u64
-    ensures { result ≡ number_in option.now (rows_of (found_of found.now)) }
+/// The number of an option on snapshots, or another one where it is not given.
+pub(crate) fn number_in(found: &ArgMatches<'_>, option: &str, other: u64) -> u64
+    ensures { result ≡ number_in other option.now (rows_of (found_of found.now)) }
 {
-    found.get_one::<u64>(option).unwrap_or(0)
+    found.get_one::<u64>(option).unwrap_or(other)
 }
 
 // What is wanted of a session.
@@ -272,8 +275,8 @@ fn wanted_in(found: &ArgMatches<'_>) -> Wanted
 {
     Wanted {
         mode: mode_for(found.get_str(RESCUE)),
-        snapshot_every: number_in(found, EVERY),
-        snapshot_ratio: number_in(found, RATIO),
+        snapshot_every: number_in(found, EVERY, 0),
+        snapshot_ratio: number_in(found, RATIO, USUAL_RATIO),
         strict: flag_is_set(found.get_str(STRICT)),
         group: flag_is_set(found.get_str(GROUP)),
     }

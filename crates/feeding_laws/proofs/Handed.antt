@@ -14,11 +14,11 @@ use Rattle.plist_state.specs.State.{WorldState}
 use Rattle.prevalence_store.specs.Theorem.{Keeps}
 use Rattle.prevalence_store.specs.calls.ExecuteAll.{MeansAllOrNone}
 use Rattle.prevalence_store.specs.calls.Store.{StoreView}
-use Rattle.prevalence_store.specs.declared.messages.request.Request.{Request}
+use Rattle.messages.specs.declared.request.Request.{Request}
 use Rattle.prevalence_store.specs.meaning.Acceptance.{after}
 use Rattle.prevalence_store.specs.meaning.Files.{MeansWorld}
-use Rattle.prevalence_store.specs.messages.Answers.{Round, answered, begun, closed}
-use Rattle.prevalence_store.specs.messages.Calls.{entries_by, left_after}
+use Rattle.messages.specs.Answers.{Round, answered, begun, closed}
+use Rattle.messages.specs.Calls.{entries_by, left_after}
 use Rattle.prevalence_store.proofs.Surviving.{one_world}
 use Rattle.store_laws.specs.Rounds.{Place, after_rounds, begun_from, with_round}
 use Rattle.user_macros.specs.Functions.{Functions}

@@ -18,9 +18,9 @@ use Rattle.feeding_laws.proofs.Stands.{near_back}
 use Rattle.plist_state.specs.State.{WorldState}
 use Rattle.prevalence_store.specs.calls.Store.{StoreView}
 use Rattle.prevalence_store.specs.calls.Streams.{Writes}
-use Rattle.prevalence_store.specs.messages.Answers.{Round, begun}
-use Rattle.prevalence_store.specs.messages.Calls.{BeginsMessages}
-use Rattle.prevalence_store.specs.messages.Position.{number_in, position}
+use Rattle.messages.specs.Answers.{Round, begun}
+use Rattle.messages.specs.Calls.{BeginsMessages}
+use Rattle.messages.specs.Position.{number_in, position}
 use Rattle.user_macros.specs.Functions.{Functions}
 
 -- those over a number are frames too

@@ -20,9 +20,9 @@ use Rattle.message_session.specs.Answers.{AskAlike, answers_of, answers_to, each
 use Rattle.message_session.specs.Sessions.{text_limit}
 use Rattle.message_session.proofs.Rounds.{answers_append, both_rounds, same_rounds}
 use Rattle.plist_state.specs.State.{WorldState}
-use Rattle.prevalence_store.specs.messages.Answers.{Round, begun, closed, each_request}
-use Rattle.prevalence_store.specs.messages.Calls.{left_after}
-use Rattle.prevalence_store.specs.messages.Position.{number_in, position_property}
+use Rattle.messages.specs.Answers.{Round, begun, closed, each_request}
+use Rattle.messages.specs.Calls.{left_after}
+use Rattle.messages.specs.Position.{number_in, position_property}
 use Rattle.store_laws.proofs.MessagesDone.{closed_at}
 use Rattle.user_macros.specs.Functions.{Functions}
 

@@ -10,7 +10,7 @@ use Rattle.message_frames.specs.declared.frame.Kind.TheVariants.{Do, Ask}
 use Rattle.message_laws.specs.Near.{Near}
 use Rattle.message_session.specs.Answers.{answers_of, each_frame}
 use Rattle.plist_state.specs.State.{WorldState}
-use Rattle.prevalence_store.specs.messages.Answers.{Round, begun}
+use Rattle.messages.specs.Answers.{Round, begun}
 use Rattle.user_macros.specs.Functions.{Functions}
 
 near_on : (a b c : Round) → Near a b → Near b c → Near a c

@@ -12,9 +12,9 @@ use Rattle.plist_state.specs.Sound.{IsSound}
 use Rattle.plist_state.specs.State.{WorldState}
 use Rattle.prevalence_store.specs.calls.Store.{StoreView}
 use Rattle.prevalence_store.specs.calls.Streams.{Writes}
-use Rattle.prevalence_store.specs.declared.messages.request.Request.{Request}
-use Rattle.prevalence_store.specs.messages.Answers.{begun}
-use Rattle.prevalence_store.specs.messages.Position.{position}
+use Rattle.messages.specs.declared.request.Request.{Request}
+use Rattle.messages.specs.Answers.{begun}
+use Rattle.messages.specs.Position.{position}
 use Rattle.store_laws.specs.Rounds.{Place}
 use Rattle.user_macros.specs.Functions.{Functions}
 

@@ -10,7 +10,7 @@ ghost use Rattle.plist_state.specs.State.{WorldState};
 ghost use Rattle.prevalence_store.specs.Theorem.{Keeps};
 ghost use Rattle.prevalence_store.specs.calls.Store.{StoreView};
 ghost use Rattle.prevalence_store.specs.meaning.Files.{MeansWorld};
-ghost use Rattle.prevalence_store.specs.messages.Position.{position as told_in};
+ghost use Rattle.messages.specs.Position.{position as told_in};
 ghost use Rattle.store_laws.specs.Rounds.{after_rounds, place_at};
 ghost use Rattle.user_macros.specs.Functions.{Functions};
 

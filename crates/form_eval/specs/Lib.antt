@@ -1,2 +1,3 @@
 pub mod Acceptance
 pub mod Laws
+pub mod PlaceForms

@@ -1,7 +1,8 @@
 //! What holds of every form, for proofs.
-ghost use Rattle.std.specs.Prelude.{ℕ, Bool, ◌≡◌, ◌≤◌, true, false, List, [], ◌∷◌, Ok, Err};
-ghost use Rattle.lisp_object.specs.Object.{Object, pair, nil, list_of, is_proper_list};
+ghost use Rattle.std.specs.Prelude.{ℕ, ℤ, neg_ℤ, Bool, ◌≡◌, ◌≤◌, true, false, List, [], ◌∷◌, Ok, Err};
+ghost use Rattle.lisp_object.specs.Object.{Object, integer, pair, nil, list_of, is_proper_list};
 ghost use Rattle.package_table.specs.Table.{Name};
+ghost use Rattle.plist_state.specs.Properties.{Symbol};
 ghost use Rattle.plist_state.specs.State.{WorldState};
 ghost use Rattle.plist_state.specs.Sound.{IsSound};
 ghost use Rattle.lisp_operators.specs.Evaluation.{Done, also, gives};
@@ -13,6 +14,7 @@ ghost use Rattle.evaluator.specs.DecidingForms.{if_form, progn_form, and_form, o
 ghost use Rattle.form_eval.specs.Acceptance.{accept, accept_by, accept_over, asked};
 ghost use Rattle.lisp_operators.specs.Readtables.{AreCovered, AreFunctionNames};
 ghost use Rattle.form_eval.specs.Laws.{IsForm, IsSoundAfter};
+ghost use Rattle.form_eval.specs.PlaceForms.{get_form, setf_form, incf_form, decf_form, pop_form, car_form, cdr_form, prog1_form};
 
 use evaluator::laws::more_operators_change_no_value;
 
@@ -116,4 +118,16 @@ pub fn decisions_are_those_of_if()
         → is_proper_list clauses ≡ true → are_clauses clauses ≡ true
         → value names s (cond_form (pair (pair x nil) clauses))
         ≡ value names s (or_form (list_of (x ∷ cond_form clauses ∷ []))) }
+{}
+
+/// POP and DECF of a property that two quoted symbols name have the values of the forms that the standard gives for them (14.2, 12.2),
+/// in the same states, or the same refusals: POP that of the CAR of the property, after which SETF puts its CDR there; DECF by an integer
+/// that of INCF by this integer with the other sign. For proofs: it does nothing.
+pub fn changes_of_places_are_those_of_setf()
+    ensures pop { (names : List Name) (s : WorldState) (x i : Symbol)
+        → value names s (pop_form (get_form x i))
+        ≡ value names s (prog1_form (car_form (get_form x i)) (setf_form (get_form x i) (cdr_form (get_form x i)))) }
+    ensures decf { (names : List Name) (s : WorldState) (x i : Symbol) (n : ℤ)
+        → value names s (decf_form (get_form x i) (integer n))
+        ≡ value names s (incf_form (get_form x i) (integer (neg_ℤ n))) }
 {}

@@ -11,15 +11,15 @@ use Rattle.std.proofs.lemmas.List.Sums.{fold-append}
 use Rattle.lisp_object.specs.Object.{Object, integer}
 use Rattle.plist_state.specs.State.{WorldState}
 use Rattle.plist_state.specs.Sound.{IsSound}
-use Rattle.prevalence_store.specs.declared.messages.request.Request.{Request}
-use Rattle.prevalence_store.specs.declared.messages.request.TheConstants.{OLD_NUMBER}
+use Rattle.messages.specs.declared.request.Request.{Request}
+use Rattle.messages.specs.declared.request.TheConstants.{OLD_NUMBER}
 use Rattle.session_words.specs.declared.mode.Mode.TheVariants.{Current}
 use Rattle.prevalence_store.specs.calls.ExecuteAll.{entries_of, left_by, told_of}
 use Rattle.prevalence_store.specs.meaning.Acceptance.{Acceptance, accepts, after, records_of}
-use Rattle.prevalence_store.specs.messages.Answers.{Round, answer_in, answer_to_question, begun, by_number, cleared, closed, each_request, one_request, refusal_text, with_asked, with_message, with_old, wrote_by}
-use Rattle.prevalence_store.specs.messages.Calls.{left_after}
-use Rattle.prevalence_store.specs.messages.Position.{number_in, position, position_property, position_symbol, with_position, without_position}
-use Rattle.prevalence_store.proofs.requests.Positions.{position_out, position_put}
+use Rattle.messages.specs.Answers.{Round, answer_in, answer_to_question, begun, by_number, cleared, closed, each_request, one_request, refusal_text, with_asked, with_message, with_old, wrote_by}
+use Rattle.messages.specs.Calls.{left_after}
+use Rattle.messages.specs.Position.{number_in, position, position_property, position_symbol, with_position, without_position}
+use Rattle.messages.proofs.Positions.{position_out, position_put}
 use Rattle.prevalence_store.proofs.steps.Grouping.{one_replayed}
 use Rattle.user_macros.specs.Functions.{Functions}
 use Rattle.message_laws.specs.Batches.{IsAlike, Progress, all_of, at_first, in_batches, one_batch}

@@ -2,10 +2,10 @@
 use Rattle.std.specs.Prelude.{ℕ, ◌≡◌, Bool, List, [], ◌++◌, fold}
 use Rattle.std.specs.List.{flat_map}
 use Rattle.plist_state.specs.State.{WorldState}
-use Rattle.prevalence_store.specs.declared.messages.request.Request.{Request}
-use Rattle.prevalence_store.specs.messages.Answers.{Round, answered, begun}
-use Rattle.prevalence_store.specs.messages.Calls.{left_after}
-use Rattle.prevalence_store.specs.messages.Position.{without_position}
+use Rattle.messages.specs.declared.request.Request.{Request}
+use Rattle.messages.specs.Answers.{Round, answered, begun}
+use Rattle.messages.specs.Calls.{left_after}
+use Rattle.messages.specs.Position.{without_position}
 use Rattle.user_macros.specs.Functions.{Functions}
 
 -- How far batches have come: the answers, and whether each is of a message that wrote; the number of the last message; and the world.

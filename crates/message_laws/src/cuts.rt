@@ -3,8 +3,8 @@ ghost use Rattle.std.specs.Prelude.{◌≡◌, ℕ, List};
 ghost use Rattle.message_laws.specs.Batches.{IsAlike, all_of, at_first, in_batches};
 ghost use Rattle.plist_state.specs.Sound.{IsSound};
 ghost use Rattle.plist_state.specs.State.{WorldState};
-ghost use Rattle.prevalence_store.specs.declared.messages.request.Request.{Request};
-ghost use Rattle.prevalence_store.specs.messages.Answers.{begun, each_request};
+ghost use Rattle.messages.specs.declared.request.Request.{Request};
+ghost use Rattle.messages.specs.Answers.{begun, each_request};
 ghost use Rattle.user_macros.specs.Functions.{Functions};
 
 /// Requests have the same answers in whichever batches they are answered. From a sound world on, as that of each store is

@@ -8,8 +8,8 @@ use Rattle.plist_state.specs.State.{WorldState}
 use Rattle.prevalence_store.specs.calls.Execute.{Executes, Stores}
 use Rattle.prevalence_store.specs.calls.Store.{StoreView}
 use Rattle.prevalence_store.specs.declared.outcome.Outcome.TheVariants.{Refused}
-use Rattle.prevalence_store.specs.messages.Calls.{BeginsMessages}
-use Rattle.prevalence_store.specs.messages.Position.{position}
+use Rattle.messages.specs.Calls.{BeginsMessages}
+use Rattle.messages.specs.Position.{position}
 use Rattle.session_words.specs.declared.mode.Mode.{Mode}
 use Rattle.user_macros.specs.Functions.{Functions}
 

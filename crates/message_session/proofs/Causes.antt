@@ -23,7 +23,7 @@ use Rattle.prevalence_store.specs.calls.Snapshot.{Snapshots}
 use Rattle.prevalence_store.specs.calls.Store.{StoreView}
 use Rattle.prevalence_store.specs.calls.Streams.{Writes, WritesPart}
 use Rattle.prevalence_store.specs.declared.outcome.Outcome.TheVariants.{Refused}
-use Rattle.prevalence_store.specs.messages.Answers.{begun}
+use Rattle.messages.specs.Answers.{begun}
 use Rattle.user_macros.specs.Functions.{Functions}
 
 -- of one frame the first ones, if there are some, are one

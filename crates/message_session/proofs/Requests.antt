@@ -19,13 +19,13 @@ use Rattle.message_session.proofs.Rounds.{same_rounds}
 use Rattle.plist_state.specs.Sound.{IsSound}
 use Rattle.plist_state.specs.State.{WorldState}
 use Rattle.prevalence_store.specs.calls.Store.{StoreView}
-use Rattle.prevalence_store.specs.declared.messages.request.Replies.{Replies}
-use Rattle.prevalence_store.specs.declared.messages.request.Request.{Request}
-use Rattle.prevalence_store.specs.messages.Answers.{Round, answered, begun, each_request}
-use Rattle.prevalence_store.specs.messages.Calls.{AnswersRequests, AreAnswered, left_after}
-use Rattle.prevalence_store.specs.declared.messages.request.TheConstants.{ANSWER_BYTES}
-use Rattle.prevalence_store.specs.messages.Fronts.{AnswersFirst, answer_length}
-use Rattle.prevalence_store.specs.messages.Rounds.{told_in}
+use Rattle.messages.specs.declared.request.Replies.{Replies}
+use Rattle.messages.specs.declared.request.Request.{Request}
+use Rattle.messages.specs.Answers.{Round, answered, begun, each_request}
+use Rattle.messages.specs.Calls.{AnswersRequests, AreAnswered, left_after}
+use Rattle.messages.specs.declared.request.TheConstants.{ANSWER_BYTES}
+use Rattle.messages.specs.Fronts.{AnswersFirst, answer_length}
+use Rattle.messages.specs.Rounds.{told_in}
 use Rattle.user_macros.specs.Functions.{Functions}
 
 -- as many requests as frames

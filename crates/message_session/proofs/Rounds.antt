@@ -15,8 +15,8 @@ use Rattle.message_session.specs.Answers.{answered_bytes, answers_to, each_frame
 use Rattle.message_session.specs.Sessions.{HasCarriedOut}
 use Rattle.plist_state.specs.State.{WorldState}
 use Rattle.prevalence_store.specs.calls.Store.{StoreView}
-use Rattle.prevalence_store.specs.declared.messages.request.Request.{Request}
-use Rattle.prevalence_store.specs.messages.Answers.{Round, begun, by_number, each_request, one_request}
+use Rattle.messages.specs.declared.request.Request.{Request}
+use Rattle.messages.specs.Answers.{Round, begun, by_number, each_request, one_request}
 use Rattle.user_macros.specs.Functions.{Functions}
 
 pub answers_append : (xs ys : List Sent) (ts us : List (List ℕ × Bool)) → length ts ≡ length xs → answers_to (xs ++ ys) (ts ++ us) ≡ answers_to xs ts ++ answers_to ys us

@@ -23,15 +23,15 @@ use Rattle.prevalence_store.specs.calls.Execute.{SurvivesAs}
 use Rattle.prevalence_store.specs.calls.ExecuteAll.{AllOrNone, MeansAllOrNone}
 use Rattle.prevalence_store.specs.calls.Snapshot.{Snapshots}
 use Rattle.prevalence_store.specs.calls.Store.{StoreView}
-use Rattle.prevalence_store.specs.declared.messages.request.Replies.{Replies}
-use Rattle.prevalence_store.specs.declared.messages.request.Request.{Request}
+use Rattle.messages.specs.declared.request.Replies.{Replies}
+use Rattle.messages.specs.declared.request.Request.{Request}
 use Rattle.prevalence_store.specs.declared.outcome.Outcome.{Outcome}
 use Rattle.prevalence_store.specs.declared.outcome.Outcome.TheVariants.{Accepted, Snapshotted, Refused}
 use Rattle.prevalence_store.specs.meaning.Acceptance.{after}
 use Rattle.prevalence_store.specs.meaning.Files.{MeansWorld}
-use Rattle.prevalence_store.specs.messages.Answers.{Round, answered, begun, closed}
-use Rattle.prevalence_store.specs.messages.Calls.{AnswersRequests, AreAnswered, entries_by, left_after}
-use Rattle.prevalence_store.specs.messages.Fronts.{AnswersFirst}
+use Rattle.messages.specs.Answers.{Round, answered, begun, closed}
+use Rattle.messages.specs.Calls.{AnswersRequests, AreAnswered, entries_by, left_after}
+use Rattle.messages.specs.Fronts.{AnswersFirst}
 use Rattle.prevalence_store.specs.steps.Failure.{is_device}
 use Rattle.prevalence_store.proofs.Surviving.{both_survive, fewer_survive, none_taken}
 use Rattle.user_macros.specs.Functions.{Functions}

@@ -19,9 +19,9 @@ use Rattle.message_session.proofs.Streams.{none_written}
 use Rattle.plist_state.specs.State.{WorldState}
 use Rattle.prevalence_store.specs.calls.Snapshot.{IsSnapshotted}
 use Rattle.prevalence_store.specs.calls.Store.{StoreView}
-use Rattle.prevalence_store.specs.declared.messages.request.Request.{Request}
-use Rattle.prevalence_store.specs.messages.Fronts.{AnswersFirst}
-use Rattle.prevalence_store.specs.messages.Answers.{begun}
+use Rattle.messages.specs.declared.request.Request.{Request}
+use Rattle.messages.specs.Fronts.{AnswersFirst}
+use Rattle.messages.specs.Answers.{begun}
 use Rattle.user_macros.specs.Functions.{Functions}
 
 module _ (functions : Functions) (last : ℕ) (w : WorldState) (tidy : IsTidy w.properties) {D R : Type 0} (state : D → State) (old new : StoreView D R) (known : old.world ≡ Some w) where

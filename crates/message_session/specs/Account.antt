@@ -10,9 +10,9 @@ use Rattle.prevalence_store.specs.Theorem.{Survives}
 use Rattle.prevalence_store.specs.calls.ExecuteAll.{MeansAllOrNone}
 use Rattle.prevalence_store.specs.calls.Store.{StoreView}
 use Rattle.prevalence_store.specs.meaning.Acceptance.{after}
-use Rattle.prevalence_store.specs.messages.Answers.{Round, begun, closed}
-use Rattle.prevalence_store.specs.messages.Calls.{entries_by, left_after}
-use Rattle.prevalence_store.specs.messages.Position.{position}
+use Rattle.messages.specs.Answers.{Round, begun, closed}
+use Rattle.messages.specs.Calls.{entries_by, left_after}
+use Rattle.messages.specs.Position.{position}
 use Rattle.user_macros.specs.Functions.{Functions}
 
 -- What the reader of the session had before it was read, if that is told. And how the session was as answers were last handed on, or, if none

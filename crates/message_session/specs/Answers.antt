@@ -5,8 +5,8 @@ use Rattle.message_frames.specs.Frames.{Sent, answer_bytes, position_bytes}
 use Rattle.message_frames.specs.declared.frame.Kind.{Kind}
 use Rattle.message_frames.specs.declared.frame.Kind.TheVariants.{Do, Ask}
 use Rattle.plist_state.specs.State.{WorldState}
-use Rattle.prevalence_store.specs.declared.messages.request.Request.{Request}
-use Rattle.prevalence_store.specs.messages.Answers.{Round, begun, by_number}
+use Rattle.messages.specs.declared.request.Request.{Request}
+use Rattle.messages.specs.Answers.{Round, begun, by_number}
 use Rattle.user_macros.specs.Functions.{Functions}
 
 -- a message has a number, a question none

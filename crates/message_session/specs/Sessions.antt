@@ -14,10 +14,10 @@ use Rattle.prevalence_store.specs.calls.Execute.{SurvivesAs}
 use Rattle.prevalence_store.specs.calls.Snapshot.{IsSnapshotted, Snapshots}
 use Rattle.prevalence_store.specs.calls.Store.{StoreView}
 use Rattle.prevalence_store.specs.calls.Streams.{Writes, WritesPart}
-use Rattle.prevalence_store.specs.declared.messages.request.Request.{Request}
+use Rattle.messages.specs.declared.request.Request.{Request}
 use Rattle.prevalence_store.specs.declared.outcome.Outcome.TheVariants.{Refused}
-use Rattle.prevalence_store.specs.messages.Answers.{begun}
-use Rattle.prevalence_store.specs.messages.Calls.{AnswersRequests, BeginsMessages}
+use Rattle.messages.specs.Answers.{begun}
+use Rattle.messages.specs.Calls.{AnswersRequests, BeginsMessages}
 use Rattle.user_macros.specs.Functions.{Functions}
 use Rattle.world_text.specs.Snapshot.{snapshot}
 

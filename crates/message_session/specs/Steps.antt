@@ -18,8 +18,8 @@ use Rattle.prevalence_store.specs.calls.Execute.{SurvivesAs}
 use Rattle.prevalence_store.specs.calls.Snapshot.{IsSnapshotted, Snapshots}
 use Rattle.prevalence_store.specs.calls.Store.{StoreView}
 use Rattle.prevalence_store.specs.declared.outcome.Outcome.TheVariants.{Refused}
-use Rattle.prevalence_store.specs.declared.messages.request.Request.{Request}
-use Rattle.prevalence_store.specs.messages.Calls.{AnswersRequests}
+use Rattle.messages.specs.declared.request.Request.{Request}
+use Rattle.messages.specs.Calls.{AnswersRequests}
 use Rattle.user_macros.specs.Functions.{Functions}
 
 -- as the end of a session

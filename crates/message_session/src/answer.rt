@@ -7,14 +7,15 @@ ghost use Rattle.message_session.specs.Standing.{AnswersMore, ComeNext, Rests, R
 ghost use Rattle.message_session.specs.Steps.{AnswersFront, AnswersFrames, RenewsForRoom, RenewsIfDue, StopsAfter, TakesFrames, TakesWithRoom, ended_by};
 ghost use Rattle.plist_state.specs.Sound.{IsSound};
 ghost use Rattle.plist_state.specs.State.{WorldState};
-ghost use Rattle.prevalence_store.specs.messages.Rounds.{told_in};
+ghost use Rattle.messages.specs.Rounds.{told_in};
 
 use crate::ended::Ended;
 use crate::recipient::AnswerRecipient;
 use disk_trait::Disk;
 use lisp_object::refusal::{LOG_FULL, NO_MEMORY, OUTPUT, SNAPSHOT_TOO_LARGE};
 use message_frames::{Frame, Kind, push_answer};
-use prevalence_store::{Answer, Outcome, Replies, Request, Store};
+use messages::{Answer, Replies, Request, answer_first_requests};
+use prevalence_store::{Outcome, Store};
 use std::alloc::{AllocError, Global};
 use user_macros::MacroFunctions;
 
@@ -279,7 +280,7 @@ fn take_frames<D: Disk, R: MacroFunctions, O: AnswerRecipient<D, R>>(
     let Ok(requests) = requests_of(alloc, frames) else {
         return Err(Stop::Untaken(NO_MEMORY));
     };
-    let replies = match store.answer_first_requests(course.last, requests.as_slice()) {
+    let replies = match answer_first_requests(store, course.last, requests.as_slice()) {
         Ok(replies) => replies,
         Err(number) => return Err(stop_after(number)),
     };

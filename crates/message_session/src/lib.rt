@@ -5,7 +5,7 @@
 //! ended is `Ended`.
 //!
 //! - `serve`: messages are begun, and the input is read to its end. What came is held (`Held` of message_frames) until it is whole frames
-//! - `answer`: frames are handed to the store together, which answers the first of them (`answer_first_requests` of prevalence_store), and
+//! - `answer`: frames are handed to the store together, which answers the first of them (`answer_first_requests` of messages), and
 //!   their answers are written, until all are. A half that is full gets a snapshot; what has no room then, or no memory, is tried one by one
 //!
 //! - `recipient`: who gets the answers (`AnswerRecipient`). It asks for them that what their messages wrote is stored by then, with the

@@ -14,6 +14,7 @@ use crate::recipient::AnswerRecipient;
 use disk_trait::Disk;
 use lisp_object::refusal::{INPUT, LOG_FULL, NO_MEMORY, OUTPUT};
 use message_frames::{Held, Next, push_position};
+use messages::begin_messages;
 use prevalence_store::Store;
 use std::alloc::Global;
 use std::io::Read;
@@ -95,7 +96,7 @@ fn begin<D: Disk, R: MacroFunctions>(store: &mut Store<D, R>) -> Result<u64, End
     ensures told { IfOk result (λ position. (w : WorldState) → store.new.world ≡ Some w → IsToldIn position w) }
     ensures macros { store.new.macros ≡ store.old.macros }
 {
-    match store.begin_messages() {
+    match begin_messages(store) {
         Ok(position) => Ok(position),
         Err(LOG_FULL) => begin_anew(store),
         Err(number) => Err(Ended::Fault(number)),
@@ -114,7 +115,7 @@ fn begin_anew<D: Disk, R: MacroFunctions>(store: &mut Store<D, R>) -> Result<u64
         Ok(()) => {}
         Err(number) => return Err(Ended::Fault(number)),
     }
-    match store.begin_messages() {
+    match begin_messages(store) {
         Ok(position) => Ok(position),
         Err(number) => Err(Ended::Fault(number)),
     }

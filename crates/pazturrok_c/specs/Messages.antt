@@ -8,9 +8,9 @@ use Rattle.pazturrok_c.specs.Requests.{answer_bytes, request_in, requests_in}
 use Rattle.pazturrok_c.specs.declared.done.RequestHead.{RequestHead}
 use Rattle.plist_state.specs.State.{WorldState}
 use Rattle.prevalence_store.specs.calls.Store.{StoreView}
-use Rattle.prevalence_store.specs.declared.messages.request.Replies.{Replies}
-use Rattle.prevalence_store.specs.declared.messages.request.Request.{Request}
-use Rattle.prevalence_store.specs.messages.Calls.{AnswersRequests, BeginsMessages}
+use Rattle.messages.specs.declared.request.Replies.{Replies}
+use Rattle.messages.specs.declared.request.Request.{Request}
+use Rattle.messages.specs.Calls.{AnswersRequests, BeginsMessages}
 use Rattle.six_functions.specs.MacroFunctions.{six_functions}
 
 -- The number of replies, and what is told of them. Where there is no room for that the number is 90.

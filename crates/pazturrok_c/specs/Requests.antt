@@ -2,8 +2,8 @@
 use Rattle.std.specs.Prelude.{ℕ, ◌-◌, if◌then◌else◌, List, [], ◌∷◌, take, drop, Option, None, Some}
 use Rattle.pazturrok_c.specs.Engine.{told}
 use Rattle.pazturrok_c.specs.declared.done.RequestHead.{RequestHead}
-use Rattle.prevalence_store.specs.declared.messages.request.Answer.{Answer}
-use Rattle.prevalence_store.specs.declared.messages.request.Request.{Request}
+use Rattle.messages.specs.declared.request.Answer.{Answer}
+use Rattle.messages.specs.declared.request.Request.{Request}
 
 -- a request: its number, if it is a message, and its text
 abbrev pub request_in : Request → Option ℕ × List ℕ

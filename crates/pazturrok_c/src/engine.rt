@@ -15,8 +15,9 @@ use deferred_disk::DeferredDisk;
 use disk_trait::Disk;
 use fixed_macros::Fixed;
 use lisp_object::refusal::{NO_MEMORY, REOPEN};
+use messages::Replies;
 use plist_state::Seed;
-use prevalence_store::{Mode, Outcome, Replies, Store};
+use prevalence_store::{Mode, Outcome, Store};
 use six_functions::SixFunctions;
 use std::alloc::Global;
 
@@ -165,7 +166,7 @@ impl Engine {
         if !self.is_done() {
             return REOPEN;
         }
-        match self.store.begin_messages() {
+        match messages::begin_messages(&mut self.store) {
             Ok(number) => {
                 *position = number;
                 0
@@ -186,7 +187,7 @@ impl Engine {
         let Ok(requests) = requests_of(self.alloc, texts, heads) else {
             return NO_MEMORY;
         };
-        let given = self.store.answer_requests(last, &requests);
+        let given = messages::answer_requests(&mut self.store, last, &requests);
         self.tell_given(&given)
     }
 

@@ -5,7 +5,7 @@ ghost use Rattle.pazturrok_c.specs.Requests.{answer_bytes, request_in, requests_
 
 use crate::done::RequestHead;
 use crate::many::tell;
-use prevalence_store::{Answer, Request};
+use messages::{Answer, Request};
 use std::alloc::{AllocError, Global};
 
 /// The requests whose texts end at these places.

@@ -4,4 +4,3 @@ pub mod Surviving
 pub mod Joining
 pub mod calls
 pub mod steps
-pub mod requests

@@ -5,5 +5,3 @@ pub mod Theorem
 pub mod calls
 -- what the functions below the calls do
 pub mod steps
--- messages with numbers, and questions
-pub mod messages

@@ -1,4 +1,4 @@
-// Why a form was not accepted, inside the crate.
+// Why a form was not accepted.
 ghost use Rattle.std.specs.Prelude.{◌≡◌};
 ghost use Rattle.prevalence_store.specs.steps.Failure.{failure_number, of_unlogged};
 
@@ -6,7 +6,7 @@ use lisp_object::refusal::{DEVICE, LOG_FULL, NO_MEMORY};
 
 /// Why a form was not added to a batch.
 #[derive(Clone, Copy)]
-pub(crate) enum Unadded {
+pub enum Unadded {
     /// Evaluation refused it, with this number.
     Refused(u16),
     /// There was no memory.
@@ -15,7 +15,7 @@ pub(crate) enum Unadded {
 
 /// Why a batch was not logged.
 #[derive(Clone, Copy)]
-pub(crate) enum Unlogged {
+pub enum Unlogged {
     /// Its records would pass the half's limit.
     Full,
     /// The device failed.
@@ -26,7 +26,7 @@ pub(crate) enum Unlogged {
 
 impl Unlogged {
     /// The number of the refusal.
-    pub(crate) fn number(self) -> u16
+    pub fn number(self) -> u16
         ensures { result ≡ failure_number (of_unlogged self) }
     {
         match self {

@@ -13,9 +13,6 @@ ghost use Rattle.prevalence_store.specs.calls.Store.{StoreView};
 ghost use Rattle.prevalence_store.specs.Theorem.{Call, Headline, IsAfterSome, IsStoppedBetween};
 ghost use Rattle.prevalence_store.specs.Theorem.{Keeps, KeepsSome, MeansSome, Reopens, Run};
 ghost use Rattle.prevalence_store.specs.Theorem.{acknowledged_of, disk_after, forms_of};
-ghost use Rattle.prevalence_store.specs.declared.messages.request.Request.{Request};
-ghost use Rattle.prevalence_store.specs.messages.Calls.{AnswersRequests};
-ghost use Rattle.prevalence_store.specs.messages.Refusals.{AreRefusedBy};
 ghost use Rattle.plist_state.specs.State.{WorldState, initial};
 ghost use Rattle.user_macros.specs.Functions.{Functions};
 
@@ -144,13 +141,4 @@ pub fn recoveries<D: Disk>()
     ensures no_forms { (functions : Functions) (disk : D) (world : WorldState)
         → Keeps functions (D.state disk) world
         ↔ KeepsSome functions (D.state disk) world [] 0 }
-{}
-
-/// The number with which requests are refused tells why, and what stands after it: 60 a device fault, 64 that there is no room for what they wrote,
-/// any other but 90 that a form of the store's own was refused. Only after 60 the store has changed. For `answer_first_requests` it speaks of
-/// the front of the requests that was to be answered.
-pub fn refusals_have_causes<D: Disk, R>()
-    ensures { (functions : Functions) (old new : StoreView D R) (world : WorldState) (last : ℕ) (requests : List Request) (number : ℕ)
-        → AnswersRequests functions D.state old new world last requests (Err number)
-        → AreRefusedBy functions D.state old new world last requests number }
 {}

@@ -37,13 +37,16 @@
 //! - `Store::serve_wanted` is `serve` with the place of a refusal, counted in the input (`IsPlace`), and where what is refused
 //!   begins (`IsRefusedFrom`), and with an end at the first form that is refused if that is wanted (`ServesWanted`). If groups are wanted,
 //!   the forms under way at a fault may be some in place of one; all else is as without them, by the same relation.
+//! - `Store::together` takes a turn of the crate above (`Turn`), and logs the forms that it added to a batch together: all of them, or
+//!   none, each with its cause (`IsMade`, `IsNotMade`). All calls above that log a form are turns. Of what a turn makes, nothing is answered
+//!   before it is stored.
 //! - `refusal_name` gives the name of a refusal by its number, empty for a number that is none.
 //!
 //! # Modules
 //!
 //! - `store` with `open`, `execute`, `execute_all`, `snapshot` and `run`: the store. `batch`: forms that are evaluated one after the other
 //!   and logged together, one or many, all or none; `log`: the halves of `gate_log`, and whether the device has failed. `group`
-//!   evaluates texts;
+//!   adds texts to a batch;
 //!   `replay` makes the world again from the records of a log; `setting` says under what a text is read, by the mode, and what it is
 //!   as one form (`form_reader`).
 //! - `session`: `serve`, and its parts: `input` and `output`, the streams; `answer`, what becomes of a form that was read;
@@ -55,15 +58,16 @@
 //! - `whole_macros`: the macro functions of a store, of which none is missing.
 //! - `step`, `outcome`, `open_fault`: the words of the calls, with `Mode` and `Wanted` of session_words. `failure`: why a form is not accepted.
 //! - `laws`: the headline, openings in a row, that an image means one world, that files of version 1 mean what they meant, and
-//!   which numbers refuse a form, and what the number tells with which requests are refused.
+//!   which numbers refuse a form.
 //!
 //! # Laws for the crates above
 //!
 //! - proofs/Surviving.antt: what calls survive, and how that joins (`one_world`, `still`).
-//! - proofs/calls/StreamLemmas.antt: known bytes of readers and writers. proofs/meaning/Replaying.antt: the replay of records;
-//!   proofs/meaning/Covering.antt: the world that files mean names known macro functions alone.
-//! - proofs/requests/Positions.antt: the position as a property (`position_put`, `position_out`). proofs/steps/Grouping.antt: forms
-//!   that are taken together.
+//! - proofs/calls/StreamLemmas.antt: known bytes of readers and writers; proofs/calls/Executing.antt: what is known of a store that is open
+//!   (`known_world`). proofs/meaning/Replaying.antt: the replay of records; proofs/meaning/Covering.antt: the world that files mean names known
+//!   macro functions alone; proofs/meaning/Numbered.antt: the numbers with which a text is refused.
+//! - For turns: proofs/steps/Grouping.antt: forms that are taken together (`one_replayed`, `fit_both`, `marked_more`);
+//!   proofs/steps/Taking.antt: one of them (`one_record`).
 #![tactic(auto)]
 
 mod all_texts;
@@ -72,7 +76,6 @@ mod failure;
 mod group;
 mod laws;
 mod log;
-mod messages;
 mod one_text;
 mod open_fault;
 mod outcome;
@@ -85,17 +88,19 @@ mod store;
 mod turn;
 mod whole_macros;
 
+pub use batch::Batch;
+pub use failure::{Unadded, Unlogged};
 pub use laws::{
-    form_numbers, fresh_files, headline, one_world, recoveries, refusals_have_causes,
-    version_1_stays, what_is_answered_is_stored,
+    form_numbers, fresh_files, headline, one_world, recoveries, version_1_stays,
+    what_is_answered_is_stored,
 };
 pub use lisp_object::refusal::name_of as refusal_name;
-pub use messages::request::{
-    ANSWER_BYTES, Answer, NO_POSITION, OLD_NUMBER, QUESTION_WRITES, Replies, Request,
-};
 pub use open_fault::OpenFault;
 pub use outcome::{Ended, Ending, Outcome, Place};
 pub use recipient::{OutputFault, Recipient};
 pub use session_words::{Mode, Wanted};
+pub use setting::{WholeText, read_whole};
 pub use step::Step;
 pub use store::{Store, Unopened};
+pub use turn::Turn;
+pub use whole_macros::WholeMacros;

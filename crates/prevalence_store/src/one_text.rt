@@ -2,7 +2,6 @@
 ghost use Rattle.std.specs.Prelude.{◌≡◌};
 
 use crate::batch::Batch;
-use crate::group::evaluate;
 use crate::outcome::Outcome;
 use crate::turn::Turn;
 use crate::whole_macros::WholeMacros;
@@ -37,6 +36,6 @@ impl<R: MacroFunctions> Turn<R> for OneText<'_> {
         macros: &WholeMacros<R>,
         batch: &mut Batch,
     ) -> Result<Outcome, AllocError> {
-        evaluate(world, macros, self.mode, self.text, batch)
+        batch.add_text(world, macros, self.mode, self.text)
     }
 }

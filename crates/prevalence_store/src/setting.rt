@@ -53,19 +53,22 @@ pub(crate) fn base_in(world: &World, mode: Mode) -> u8
 
 /// What a text is that is to be one form.
 #[derive(Drop)]
-pub(crate) enum WholeText {
+pub enum WholeText {
     /// A form, and from where to where its own text goes.
     Form {
+        /// The form that was read.
         form: ReadForm,
+        /// Where its own text begins.
         start: usize,
+        /// Where its own text ends.
         end: usize,
     },
     /// It is refused with this number: it is not read, there is no object in it, or more comes after the object.
     Refused(u16),
 }
 
-/// What a text is that is to be one form.
-pub(crate) fn read_whole<R: MacroFunctions>(
+/// Reads a text that is to be one form, in a world.
+pub fn read_whole<R: MacroFunctions>(
     alloc: Global,
     world: &World,
     macros: &WholeMacros<R>,

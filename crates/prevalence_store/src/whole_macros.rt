@@ -1,9 +1,11 @@
 // The macro functions of a store.
+ghost use Rattle.std.specs.Prelude.{◌≡◌};
+
 use std::marker::Model;
 use user_macros::MacroFunctions;
 
 /// Macro functions of which each one that the meaning names is registered, and answers what it means.
-pub(crate) struct WholeMacros<R: MacroFunctions> {
+pub struct WholeMacros<R: MacroFunctions> {
     pub(crate) functions: R,
 }
 
@@ -18,4 +20,13 @@ impl<R: MacroFunctions> Model for WholeMacros<R> {
     ghost view = { λ m. m.functions };
 
     ghost invariant = { λ m. R.answers m.functions × (are_registered R.Meaning.functions (R.functions m.functions) ≡ true) };
+}
+
+impl<R: MacroFunctions> WholeMacros<R> {
+    /// What they mean.
+    pub fn meaning(&self) -> &R::Meaning
+        ensures { result.now ≡ R.meant self.now }
+    {
+        self.functions.meaning()
+    }
 }

@@ -3,7 +3,8 @@ ghost use Rattle.std.specs.Prelude.{◌<◌, ◌-◌, ◌^◌};
 
 use crate::again::AMPLE;
 use disk_trait::{Disk, MemoryDisk};
-use prevalence_store::{Request, Store};
+use messages::{Request, answer_first_requests, begin_messages};
+use prevalence_store::Store;
 use std::alloc::{AllocError, Global};
 use std::test::Fail;
 use user_macros::{MacroFunctions, Macros, NoFunctions};
@@ -18,7 +19,7 @@ fn answer_in_batches<D: Disk, M: MacroFunctions>(
     let mut batches = 0u64;
     let mut left = requests;
     'batches: while !left.is_empty() {
-        let Ok(replies) = store.answer_first_requests(last, left) else {
+        let Ok(replies) = answer_first_requests(store, last, left) else {
             return None;
         };
         left = &left[replies.answers.as_slice().len()..];
@@ -60,7 +61,7 @@ fn batches_of_long<D: Disk + Drop, M: MacroFunctions + Drop>(
         text: text.as_slice(),
     };
     let requests = [message, question, question, question, question];
-    let batches = match store.begin_messages() {
+    let batches = match begin_messages(&mut store) {
         Ok(last) => answer_in_batches(&mut store, last, &requests),
         Err(_) => None,
     };

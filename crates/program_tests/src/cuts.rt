@@ -1,12 +1,13 @@
 //! The same requests in one call and in two.
 ghost use Rattle.std.specs.Prelude.{◌≡◌, ◌<◌, ◌-◌, ◌^◌, ◌++◌, IfSome, Some, map};
 ghost use Rattle.plist_state.specs.State.{WorldState};
-ghost use Rattle.prevalence_store.specs.messages.Rounds.{told_in};
+ghost use Rattle.messages.specs.Rounds.{told_in};
 
 use crate::again::AMPLE;
 use disk_trait::{Disk, MemoryDisk};
 use message_laws::cuts_change_nothing;
-use prevalence_store::{Replies, Request, Store};
+use messages::{Replies, Request, answer_requests};
+use prevalence_store::Store;
 use std::alloc::{AllocError, Global};
 use std::test::Fail;
 use user_macros::{MacroFunctions, Macros, NoFunctions};
@@ -35,13 +36,13 @@ fn answered_in_two<D: Disk, E: Disk, M: MacroFunctions>(
         return None;
     };
     world.soundness();
-    let Ok(at_once) = one.answer_requests(last, whole) else {
+    let Ok(at_once) = answer_requests(one, last, whole) else {
         return None;
     };
-    let Ok(firsts) = other.answer_requests(last, first) else {
+    let Ok(firsts) = answer_requests(other, last, first) else {
         return None;
     };
-    let Ok(rests) = other.answer_requests(firsts.last, rest) else {
+    let Ok(rests) = answer_requests(other, firsts.last, rest) else {
         return None;
     };
     Some((at_once, (firsts, rests)))

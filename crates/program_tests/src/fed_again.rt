@@ -5,7 +5,7 @@ ghost use Rattle.feeding_laws.specs.Feeding.{AreAnsweredAgain, FeedsAgain, over}
 ghost use Rattle.message_frames.specs.Frames.{IsFrame, Sent, frame_bytes};
 ghost use Rattle.message_session.specs.Sessions.{text_limit};
 ghost use Rattle.plist_state.specs.State.{WorldState};
-ghost use Rattle.prevalence_store.specs.messages.Position.{position};
+ghost use Rattle.messages.specs.Position.{position};
 
 use disk_trait::{Disk, MemoryDisk};
 use feeding_laws::fed_sessions;

@@ -1,5 +1,5 @@
 //! Tests of the store, its log and its devices, through the public calls of the crates: what neither a run of the program nor a call by C can
-//! show. Then callers of the laws of store_laws, message_laws, feeding_laws, wider_functions and whole_export, over any disk, any macro
+//! show. Then callers of the laws of form_eval, store_laws, message_laws, feeding_laws, wider_functions and whole_export, over any disk, any macro
 //! functions and any input, and of those of crc32c, and runs of them.
 //!
 //! They are a crate of their own, at the top, so that no library is proved again for the sake of its tests, and that the store is compiled
@@ -19,6 +19,7 @@
 //! - `replicas`: two stores that are handed the same input
 //! - `migration`: a store that is opened on files of version 1
 //! - `exports`: a store that takes the export of a world; `same`: two stores with the same export
+//! - `decided`: a form that is asked of a world, of which the laws on forms that decide and that change places tell
 //! - `reopened`: a store that is opened with macro functions on files of a program without any
 //! - `sums`: the sum of a text, and that of the text once it is damaged
 //! - `keepers`: a session whose recipient keeps account of it, and what follows at each moment
@@ -47,6 +48,8 @@ mod asked;
 mod batches;
 #[cfg(test)]
 mod cuts;
+#[cfg(test)]
+mod decided;
 #[cfg(test)]
 mod disks;
 #[cfg(test)]

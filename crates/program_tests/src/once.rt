@@ -4,11 +4,12 @@ ghost use Rattle.disk_trait.specs.Disk.{Image, IsHonest};
 ghost use Rattle.lisp_object.specs.Object.{integer};
 ghost use Rattle.plist_state.specs.State.{WorldState};
 ghost use Rattle.prevalence_store.specs.meaning.Files.{MeansWorld};
-ghost use Rattle.prevalence_store.specs.messages.Position.{position_property};
+ghost use Rattle.messages.specs.Position.{position_property};
 
 use crate::again::AMPLE;
 use disk_trait::{Disk, MemoryDisk};
-use prevalence_store::{Replies, Request, Store};
+use messages::{Replies, Request, answer_requests, begin_messages};
+use prevalence_store::Store;
 use std::alloc::{AllocError, Global};
 use std::test::Fail;
 use store_laws::each_once;
@@ -34,7 +35,7 @@ fn answer_once<D: Disk, M: MacroFunctions>(
         → store.new.world ≡ Some now) }
 {
     store.keeps_its_world();
-    let Ok(replies) = store.answer_requests(last, requests) else {
+    let Ok(replies) = answer_requests(store, last, requests) else {
         return None;
     };
     each_once::<D, M>();
@@ -55,12 +56,12 @@ fn sent_twice<D: Disk + Drop, M: MacroFunctions + Drop>(
     let Ok(mut store) = Store::open(alloc, disk, macros, AMPLE) else {
         return Err(AllocError);
     };
-    let Ok(last) = store.begin_messages() else {
+    let Ok(last) = begin_messages(&mut store) else {
         let _closed = store.close();
         return Err(AllocError);
     };
     let first = answer_once(&mut store, last, &[request]);
-    let second = match store.position() {
+    let second = match messages::position(&store) {
         Ok(Some(position)) => answer_once(&mut store, position, &[request]),
         _ => None,
     };

@@ -1,12 +1,13 @@
 //! Requests that have no room.
 ghost use Rattle.std.specs.Prelude.{◌≡◌, ◌<◌, ◌-◌, ◌^◌, Some, true};
 ghost use Rattle.plist_state.specs.State.{WorldState};
-ghost use Rattle.prevalence_store.specs.messages.Refusals.{HasNoRoom};
+ghost use Rattle.messages.specs.Refusals.{HasNoRoom};
 
 use crate::batches::long_form;
 use disk_trait::{Disk, MemoryDisk};
 use lisp_object::refusal::LOG_FULL;
-use prevalence_store::{Request, Store, refusals_have_causes};
+use messages::{Request, answer_requests, begin_messages, refusals_have_causes};
+use prevalence_store::Store;
 use std::alloc::{AllocError, Global};
 use std::test::Fail;
 use user_macros::{MacroFunctions, Macros, NoFunctions};
@@ -28,7 +29,7 @@ fn has_no_room<D: Disk, M: MacroFunctions>(
         × HasNoRoom M.Meaning.functions D.state store.old store.new world last requests.now }
 {
     refusals_have_causes::<D, M>();
-    match store.answer_requests(last, requests) {
+    match answer_requests(store, last, requests) {
         Ok(_replies) => false,
         Err(number) => is_full(number),
     }
@@ -47,7 +48,7 @@ fn is_short_of_room<D: Disk + Drop, M: MacroFunctions + Drop>(
     let Ok(mut store) = Store::open(alloc, disk, macros, 4_096) else {
         return Err(AllocError);
     };
-    let begun = store.begin_messages();
+    let begun = begin_messages(&mut store);
     let long = Request {
         number: Some(1),
         text: text.as_slice(),

@@ -7,7 +7,8 @@ ghost use Rattle.store_laws.specs.Rounds.{HasCome, after_rounds, place_at};
 
 use crate::again::AMPLE;
 use disk_trait::{Disk, MemoryDisk};
-use prevalence_store::{Outcome, Replies, Request, Store};
+use messages::{Replies, Request, answer_requests, begin_messages};
+use prevalence_store::{Outcome, Store};
 use std::alloc::{AllocError, Global};
 use std::test::Fail;
 use store_laws::rounds;
@@ -26,13 +27,13 @@ fn answer_twice<D: Disk, M: MacroFunctions>(
         → IsHonest (D.state store.old.disk) → Keeps M.Meaning.functions (D.state store.old.disk) w
         → HasCome M.Meaning.functions D.state store.new (after_rounds M.Meaning.functions (place_at last w) (first.now ∷ second.now ∷ []))) }
 {
-    let Ok(replies) = store.answer_requests(last, first) else {
+    let Ok(replies) = answer_requests(store, last, first) else {
         return None;
     };
     let Outcome::Snapshotted = store.snapshot() else {
         return None;
     };
-    let Ok(last_replies) = store.answer_requests(replies.last, second) else {
+    let Ok(last_replies) = answer_requests(store, replies.last, second) else {
         return None;
     };
     rounds::<D, M>();
@@ -68,11 +69,11 @@ fn told_after<D: Disk + Drop, M: MacroFunctions + Drop>(
         message(6, b"(SETF (GET 'A 'B) 8)"),
         message(9, b"(GET 'A 'B)"),
     ];
-    let replies = match store.begin_messages() {
+    let replies = match begin_messages(&mut store) {
         Ok(last) => answer_twice(&mut store, last, &first, &second),
         Err(_) => None,
     };
-    let position = store.position();
+    let position = messages::position(&store);
     let _closed = store.close();
     match replies {
         Some(replies) => Ok((replies.last, position?)),

@@ -5,7 +5,7 @@ use Rattle.disk_trait.specs.Disk.{State}
 use Rattle.lisp_object.specs.declared.refusal.TheConstants.{OUTPUT, NO_MEMORY}
 use Rattle.plist_state.specs.State.{WorldState}
 use Rattle.world_text.specs.Snapshot.{snapshot}
-use Rattle.prevalence_store.specs.messages.Position.{position}
+use Rattle.messages.specs.Position.{position}
 use Rattle.user_macros.specs.Functions.{Functions}
 use Rattle.store_commands.specs.Commands.{TaskBreaksOff, TaskWrites, is_of_opening}
 use Rattle.store_commands.specs.Report.{DumpsWorld, IsReport, TellsHalfAndPosition}

@@ -1,7 +1,7 @@
 // What is told of the store that a disk holds.
 ghost use Rattle.std.specs.Prelude.{◌≡◌, ◌++◌, ◌<◌, ◌-◌, ◌^◌, IsSome, IfSome, IfOk, IfErr};
 ghost use Rattle.prevalence_store.specs.calls.Open.{IsUnopened};
-ghost use Rattle.prevalence_store.specs.messages.Position.{position};
+ghost use Rattle.messages.specs.Position.{position};
 ghost use Rattle.user_macros.specs.Functions.{are_registered};
 ghost use Rattle.world_text.specs.Snapshot.{snapshot};
 ghost use Rattle.store_commands.specs.Report.{IsReport, half_line_of, position_line, text_of};
@@ -99,7 +99,7 @@ fn write_verified<D: Disk, M: MacroFunctions, O: Write>(
     ensures { IfSome store.now.world (λ world. TellsText result (O.contents output.old) (O.contents output.new)
         (half_line_of store.now ++ position_line (position world))) }
 {
-    match store.position() {
+    match messages::position(store) {
         Ok(position) => write_position(store, position, output),
         Err(_) => Status::Fault(NO_MEMORY),
     }

@@ -3,18 +3,18 @@ use Rattle.std.proofs.Common.{◌≡◌, ℕ, ◌<◌, Bool, true, false, List, 
 use Rattle.disk_trait.specs.Disk.{Image, State, IsHonest, IsSound}
 use Rattle.lisp_object.specs.Object.{integer}
 use Rattle.plist_state.specs.State.{WorldState}
-use Rattle.prevalence_store.specs.declared.messages.request.Request.{Request}
-use Rattle.prevalence_store.specs.declared.messages.request.Replies.{Replies}
+use Rattle.messages.specs.declared.request.Request.{Request}
+use Rattle.messages.specs.declared.request.Replies.{Replies}
 use Rattle.prevalence_store.specs.meaning.Acceptance.{after}
 use Rattle.prevalence_store.specs.meaning.Files.{MeansWorld}
 use Rattle.prevalence_store.specs.calls.ExecuteAll.{MeansAllOrNone}
 use Rattle.prevalence_store.specs.calls.Store.{StoreView}
-use Rattle.prevalence_store.specs.messages.Answers.{Round, answered, begun, closed, each_request}
-use Rattle.prevalence_store.specs.messages.Calls.{AnswersRequests, AreAnswered, Fail, entries_by, left_after}
-use Rattle.prevalence_store.specs.messages.Position.{position_property}
+use Rattle.messages.specs.Answers.{Round, answered, begun, closed, each_request}
+use Rattle.messages.specs.Calls.{AnswersRequests, AreAnswered, Fail, entries_by, left_after}
+use Rattle.messages.specs.Position.{position_property}
 use Rattle.prevalence_store.specs.steps.Failure.{is_device}
 use Rattle.prevalence_store.specs.Theorem.{Keeps}
-use Rattle.prevalence_store.proofs.requests.Positions.{position_put}
+use Rattle.messages.proofs.Positions.{position_put}
 use Rattle.prevalence_store.proofs.Surviving.{one_world, still}
 use Rattle.store_laws.specs.Messages.{IsBeforeOrAfter}
 use Rattle.user_macros.specs.Functions.{Functions}

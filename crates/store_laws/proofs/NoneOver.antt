@@ -7,12 +7,12 @@ use Rattle.std.proofs.lemmas.List.{append_cancel_left}
 use Rattle.std.proofs.lemmas.List.Sums.{fold-append}
 use Rattle.lisp_object.specs.Object.{integer}
 use Rattle.session_words.specs.declared.mode.Mode.TheVariants.{Current}
-use Rattle.prevalence_store.specs.declared.messages.request.Request.{Request}
-use Rattle.prevalence_store.specs.declared.messages.request.TheConstants.{OLD_NUMBER}
+use Rattle.messages.specs.declared.request.Request.{Request}
+use Rattle.messages.specs.declared.request.TheConstants.{OLD_NUMBER}
 use Rattle.prevalence_store.specs.calls.ExecuteAll.{left_by, told_of}
 use Rattle.prevalence_store.specs.meaning.Acceptance.{accepts}
-use Rattle.prevalence_store.specs.messages.Answers.{Round, answer_in, answered, by_number, cleared, closed, each_request, one_request, refusal_text, with_message, with_old, wrote_by}
-use Rattle.prevalence_store.specs.messages.Position.{position_property}
+use Rattle.messages.specs.Answers.{Round, answer_in, answered, by_number, cleared, closed, each_request, one_request, refusal_text, with_message, with_old, wrote_by}
+use Rattle.messages.specs.Position.{position_property}
 use Rattle.store_laws.specs.Rounds.{HasWritten, IsUpTo, Place, after_rounds, begun_from, with_round}
 use Rattle.store_laws.proofs.RoundsDone.{rounds_append}
 use Rattle.user_macros.specs.Functions.{Functions}

@@ -9,13 +9,13 @@ use Rattle.lisp_object.specs.Object.{integer}
 use Rattle.plist_state.specs.State.{WorldState}
 use Rattle.prevalence_store.specs.Theorem.{MeansSome, Survives}
 use Rattle.prevalence_store.specs.calls.Store.{StoreView}
-use Rattle.prevalence_store.specs.declared.messages.request.Replies.{Replies}
-use Rattle.prevalence_store.specs.declared.messages.request.Request.{Request}
+use Rattle.messages.specs.declared.request.Replies.{Replies}
+use Rattle.messages.specs.declared.request.Request.{Request}
 use Rattle.prevalence_store.specs.meaning.Acceptance.{after}
 use Rattle.prevalence_store.specs.meaning.Files.{MeansWorld}
-use Rattle.prevalence_store.specs.messages.Answers.{Round, answered, each_request}
-use Rattle.prevalence_store.specs.messages.Calls.{AnswersRequests, AreAnswered, left_after}
-use Rattle.prevalence_store.specs.messages.Position.{position_property}
+use Rattle.messages.specs.Answers.{Round, answered, each_request}
+use Rattle.messages.specs.Calls.{AnswersRequests, AreAnswered, left_after}
+use Rattle.messages.specs.Position.{position_property}
 use Rattle.prevalence_store.specs.steps.Failure.{is_device}
 use Rattle.prevalence_store.proofs.Surviving.{one_world}
 use Rattle.store_laws.specs.Messages.{IsBeforeOrAfter}

@@ -6,11 +6,11 @@ use Rattle.plist_state.specs.State.{WorldState}
 use Rattle.prevalence_store.specs.Theorem.{Keeps}
 use Rattle.prevalence_store.specs.calls.Execute.{SurvivesAs}
 use Rattle.prevalence_store.specs.calls.Store.{StoreView}
-use Rattle.prevalence_store.specs.declared.messages.request.Replies.{Replies}
-use Rattle.prevalence_store.specs.declared.messages.request.Request.{Request}
-use Rattle.prevalence_store.specs.messages.Answers.{Round, answered, begun, each_request, one_request}
-use Rattle.prevalence_store.specs.messages.Calls.{AnswersRequests, left_after}
-use Rattle.prevalence_store.specs.messages.Position.{position_property}
+use Rattle.messages.specs.declared.request.Replies.{Replies}
+use Rattle.messages.specs.declared.request.Request.{Request}
+use Rattle.messages.specs.Answers.{Round, answered, begun, each_request, one_request}
+use Rattle.messages.specs.Calls.{AnswersRequests, left_after}
+use Rattle.messages.specs.Position.{position_property}
 use Rattle.user_macros.specs.Functions.{Functions}
 
 -- How far messages have come: the world, the number of the last of them, and the position.

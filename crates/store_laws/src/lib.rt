@@ -24,7 +24,7 @@
 
 mod batch;
 mod history;
-mod messages;
+mod once;
 mod outcome;
 mod round;
 mod session;
@@ -32,7 +32,7 @@ mod version_1;
 
 pub use batch::batches;
 pub use history::histories;
-pub use messages::each_once;
+pub use once::each_once;
 pub use outcome::{groups_change_nothing, one_outcome};
 pub use round::rounds;
 pub use session::sessions;

@@ -4,7 +4,7 @@ ghost use Rattle.disk_trait.specs.Disk.{Image, IsHonest};
 ghost use Rattle.plist_state.specs.State.{WorldState};
 ghost use Rattle.prevalence_store.specs.Theorem.{Keeps};
 ghost use Rattle.prevalence_store.specs.calls.Store.{StoreView};
-ghost use Rattle.prevalence_store.specs.declared.messages.request.Request.{Request};
+ghost use Rattle.messages.specs.declared.request.Request.{Request};
 ghost use Rattle.prevalence_store.specs.meaning.Files.{MeansWorld};
 ghost use Rattle.store_laws.specs.Rounds.{AreSteps, HasCome, HasWritten, IsStep, IsThere, IsUpTo, Place, Step, after_rounds, begun_in, place_at, rounds_of, store_after, store_by};
 ghost use Rattle.user_macros.specs.Functions.{Functions};

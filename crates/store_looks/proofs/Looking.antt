@@ -1,9 +1,10 @@
 -- From what was seen to what a look promises.
-use Rattle.std.proofs.Common.{◌≡◌, ◌∙◌, ℕ, Bool, List, [], Option, Some, Result, Ok, Err, MatchResult, refl, sym, subst, ap, inl, inr, append-nil}
+use Rattle.std.proofs.Common.{◌≡◌, ◌∙◌, ℕ, Bool, false, true, List, [], Option, Some, Result, Ok, Err, MatchResult, refl, sym, subst, ap, inl, inr, append-nil}
 use Rattle.std.specs.Borrow.{Bor}
 use Rattle.std.specs.Global.{Vec}
 use Rattle.std.specs.Prelude.{IfErr, IfOk, IfSome}
 use Rattle.clap.specs.Words.{Text}
+use Rattle.command_words.specs.declared.looks.InfoPart.{InfoPart}
 use Rattle.command_words.specs.declared.looks.Look.{Look}
 use Rattle.command_words.specs.declared.looks.Look.TheVariants.{Backup, Dump, Info, Log, Show}
 use Rattle.disk_trait.specs.declared.host.HostError.{HostError}
@@ -29,12 +30,13 @@ use Rattle.store_commands.specs.Texts.{TellsText}
 use Rattle.store_commands.specs.declared.status.Status.{Status}
 use Rattle.store_commands.specs.declared.status.Status.TheVariants as statuses
 use Rattle.store_looks.specs.Looks.{PrintsText}
-use Rattle.store_looks.specs.Told.{BacksUp, IsSelection, Looks, LooksAt, System, TellsDump, TellsFigures, TellsLog, TellsLook, TellsShown, Unopens, WithholdsBackup, WithholdsDump, WithholdsFigures, WithholdsLog, WithholdsLook, WithholdsShown, part_of, status_in}
+use Rattle.store_looks.specs.Told.{BacksUp, IsSelection, Looks, LooksAt, System, TellsDump, TellsFigures, TellsFileFigures, TellsInfo, TellsLog, TellsLook, TellsShown, Unopens, WithholdsBackup, WithholdsDump, WithholdsFigures, WithholdsFileFigures, WithholdsInfo, WithholdsLog, WithholdsLook, WithholdsShown, notation_of, part_of, status_in}
 use Rattle.store_looks.specs.Unlooked.{IsOfBackup, of_log, of_show}
-use Rattle.store_reports.specs.Figures.{AreFiguresOf, info_text}
+use Rattle.store_reports.specs.Figures.{AreFiguresOf, file_info_text, info_text}
 use Rattle.store_reports.specs.Shown.{IsShown, IsUnshown}
 use Rattle.store_reports.specs.declared.backups.BackupError.{BackupError}
 use Rattle.store_reports.specs.declared.figures.HalfFigures.{HalfFigures}
+use Rattle.store_reports.specs.declared.numbers.Notation.{Notation}
 use Rattle.store_reports.specs.declared.selection.Selection.{Selection}
 use Rattle.store_reports.specs.declared.showing.ShowError.{ShowError}
 use Rattle.store_looks.specs.declared.unlooked.Unlooked.{Unlooked}
@@ -49,9 +51,10 @@ nothing_prints held written same = ([], λ had holds. same ∙ holds ∙ ap (λ 
 module _ (functions : Functions) {R : Type 0} (macros : R) (held written : Option (List ℕ)) (system : System) (folder : Text) where
   -- each look that tells something writes one text
   told_prints : (look : Look) (sight : Sight) (status : Status) → TellsLook functions macros held written system folder look sight status → PrintsText held written status
-  unfolding TellsLook TellsShown TellsDump BacksUp TellsLog
+  unfolding TellsLook TellsInfo TellsShown TellsDump BacksUp TellsLog
   told_prints (Show shown) sight status told = (told.2.text, told.2.tells)
-  told_prints Info sight status told = (told.tells.text, told.tells.tells)
+  told_prints (Info part) sight status (inl (_, told)) = (_, told.tells)
+  told_prints (Info part) sight status (inr (_, told)) = (told.tells.text, told.tells.tells)
   told_prints (Log records) sight status told = (told.0, told.2)
   told_prints (Backup to) sight status told = subst (PrintsText held written) (sym told.0.1) (nothing_prints held written told.1)
   told_prints (Dump place) sight status told = (snapshot told.2.1.is_opened.world, told.2.1.tells)
@@ -104,15 +107,17 @@ module _ (functions : Functions) {R : Type 0} (macros : R) (held written : Optio
           → MatchResult ended (TellsDump functions macros held written place sight) (WithholdsDump functions macros whole place sight) → CameTo look sight ended
       dump_told place is ended dumps = subst (λ (l : Look). CameTo l sight ended) (sym is) (by_dump place ended dumps)
 
-      by_figures : (ended : Result Status Unlooked)
-          → MatchResult ended (TellsFigures functions macros held written (system.measures folder) sight) (WithholdsFigures functions macros whole (system.measures folder) sight) → CameTo Info sight ended
+      by_figures : (part : InfoPart) (ended : Result Status Unlooked)
+          → MatchResult ended (TellsInfo functions macros held written part (system.measures folder) sight) (WithholdsInfo functions macros whole part (system.measures folder) sight)
+          → CameTo (Info part) sight ended
       unfolding TellsLook WithholdsLook
-      by_figures (Ok status) tells = tells
-      by_figures (Err why) tells = tells
+      by_figures part (Ok status) tells = tells
+      by_figures part (Err why) tells = tells
 
-      pub figures_told : look ≡ Info → (ended : Result Status Unlooked)
-          → MatchResult ended (TellsFigures functions macros held written (system.measures folder) sight) (WithholdsFigures functions macros whole (system.measures folder) sight) → CameTo look sight ended
-      figures_told is ended tells = subst (λ (l : Look). CameTo l sight ended) (sym is) (by_figures ended tells)
+      pub figures_told : (part : InfoPart) → look ≡ Info part → (ended : Result Status Unlooked)
+          → MatchResult ended (TellsInfo functions macros held written part (system.measures folder) sight) (WithholdsInfo functions macros whole part (system.measures folder) sight)
+          → CameTo look sight ended
+      figures_told part is ended tells = subst (λ (l : Look). CameTo l sight ended) (sym is) (by_figures part ended tells)
 
       by_log : (records : Records) (ended : Result Status Unlooked) → IfOk ended (TellsLog held written records sight) → IfErr ended (WithholdsLog records sight) → CameTo (Log records) sight ended
       unfolding TellsLook WithholdsLook
@@ -164,14 +169,14 @@ module _ (functions : Functions) {R : Type 0} (macros : R) (store : StoreView Si
         inr (selection, asked, (error, record { opened = store; is_opened = opened; is = not }, given))
 
   -- figures were told of a sight that is as it was
-  pub info_done : (measured : Result Figures HostError → Type 0) (sight same : Sight) (half : HalfFigures) (files : Figures) → measured (Ok files) → AreFiguresOf (state_of sight).reads half → (state_of same).reads ≡ (state_of sight).reads
+  pub info_done : (notation : Notation) (measured : Result Figures HostError → Type 0) (sight same : Sight) (half : HalfFigures) (files : Figures) → measured (Ok files) → AreFiguresOf (state_of sight).reads half → (state_of same).reads ≡ (state_of sight).reads
       → (opened : IsOpened functions state_of same macros half_limit store) (E : Type 0) (result : Result (Vec ℕ) E) (text : Vec ℕ) (lines : List ℕ) → lines ≡ text.items
-      → IfSome store.world (λ world. IfOk result (λ t. t.items ≡ info_text half world files)) → result ≡ Ok text
-      → (held written : Option (List ℕ)) (status : Status) → TellsText status held written lines → TellsFigures functions macros held written measured sight status
-  info_done measured sight same half files are_measured figures reads opened E result text lines equal told is held written status tells =
-      let of_world : IfOk result (λ t. t.items ≡ info_text half opened.world files) =
-      at_world (λ world. IfOk result (λ t. t.items ≡ info_text half world files)) store.world opened.world opened.known told in
-      let text_is : text.items ≡ info_text half opened.world files = subst (λ (r : Result (Vec ℕ) E). IfOk r (λ t. t.items ≡ info_text half opened.world files)) is of_world in
+      → IfSome store.world (λ world. IfOk result (λ t. t.items ≡ info_text notation half world files)) → result ≡ Ok text
+      → (held written : Option (List ℕ)) (status : Status) → TellsText status held written lines → TellsFigures functions macros held written notation measured sight status
+  info_done notation measured sight same half files are_measured figures reads opened E result text lines equal told is held written status tells =
+      let of_world : IfOk result (λ t. t.items ≡ info_text notation half opened.world files) =
+      at_world (λ world. IfOk result (λ t. t.items ≡ info_text notation half world files)) store.world opened.world opened.known told in
+      let text_is : text.items ≡ info_text notation half opened.world files = subst (λ (r : Result (Vec ℕ) E). IfOk r (λ t. t.items ≡ info_text notation half opened.world files)) is of_world in
       record {
         half = half;
         figures = figures;
@@ -184,10 +189,14 @@ module _ (functions : Functions) {R : Type 0} (macros : R) (store : StoreView Si
 
 -- the lines of records were written, or not
 module _ (sight : Sight) where
-  pub log_done : (records : Records) (text lines : List ℕ) → lines ≡ text → IsLogText (part_of records) (state_of sight).reads text → (held written : Option (List ℕ)) (status : Status)
+  pub log_done : (records : Records) (notation : Notation) (text lines : List ℕ) → notation ≡ notation_of records.json → lines ≡ text
+      → IsLogText (record (part_of records) { notation = notation }) (state_of sight).reads text → (held written : Option (List ℕ)) (status : Status)
       → TellsText status held written lines → TellsLog held written records sight status
   unfolding TellsLog
-  log_done records text lines same is held written status tells = (lines, subst (IsLogText (part_of records) (state_of sight).reads) (sym same) is, tells)
+  log_done records notation text lines asked same is held written status tells =
+      let of_lines : IsLogText (record (part_of records) { notation = notation }) (state_of sight).reads lines =
+      subst (IsLogText (record (part_of records) { notation = notation }) (state_of sight).reads) (sym same) is in
+      (lines, subst (λ (n : Notation). IsLogText (record (part_of records) { notation = n }) (state_of sight).reads lines) asked of_lines, tells)
 
   pub log_failed : (records : Records) (error : LogError) (why : Unlooked) → IsNoPlace (least records.from.number) records.from.generation error (state_of sight).reads → why ≡ of_log error
       → WithholdsLog records sight why
@@ -260,6 +269,43 @@ module _ (functions : Functions) {R : Type 0} (macros : R) (sight : Sight) where
     pub info_memory : (why : Unlooked) → why ≡ unlooked.Fault NO_MEMORY → WithholdsFigures functions macros whole measured sight why
     unfolding WithholdsFigures
     info_memory why is = inr (inr (sight, refl, inr is))
+
+module _ (sight : Sight) (measured : Result Figures HostError → Type 0) where
+  -- figures that need no world
+  pub files_done : (notation : Notation) (half : HalfFigures) (files : Figures) (text lines : List ℕ) → measured (Ok files) → AreFiguresOf (state_of sight).reads half → lines ≡ text
+      → text ≡ file_info_text notation half files → (held written : Option (List ℕ)) (status : Status) → TellsText status held written lines
+      → TellsFileFigures held written notation measured sight status
+  files_done notation half files text lines are_measured figures same is held written status tells =
+      record { half = half; figures = figures; files = files; are_measured = are_measured; tells = subst (TellsText status held written) (same ∙ is) tells }
+
+  -- none of them
+  pub files_unread : (error : HostError) (why : Unlooked) → measured (Err error) → why ≡ unlooked.Host error → WithholdsFileFigures measured sight why
+  unfolding WithholdsFileFigures
+  files_unread error why not is = inl (error, not, is)
+
+  pub files_failed : (error : LogError) (why : Unlooked) → IsNoLog error (state_of sight).reads → why ≡ of_log error → WithholdsFileFigures measured sight why
+  unfolding WithholdsFileFigures
+  files_failed error why none is = inr (inl (error, none, is))
+
+  pub files_memory : (why : Unlooked) → why ≡ unlooked.Fault NO_MEMORY → WithholdsFileFigures measured sight why
+  unfolding WithholdsFileFigures
+  files_memory why is = inr (inr is)
+
+  -- by what is asked for
+  module _ (functions : Functions) {R : Type 0} (macros : R) (whole : Bool) (held written : Option (List ℕ)) (part : InfoPart) (notation : Notation) (is : notation ≡ notation_of part.json) where
+    pub files_told : part.files ≡ true → (ended : Result Status Unlooked)
+        → MatchResult ended (TellsFileFigures held written notation measured sight) (WithholdsFileFigures measured sight)
+        → MatchResult ended (TellsInfo functions macros held written part measured sight) (WithholdsInfo functions macros whole part measured sight)
+    unfolding TellsInfo WithholdsInfo
+    files_told asked (Ok status) tells = inl (asked, subst (λ (n : Notation). TellsFileFigures held written n measured sight status) is tells)
+    files_told asked (Err why) tells = inl (asked, tells)
+
+    pub world_told : part.files ≡ false → (ended : Result Status Unlooked)
+        → MatchResult ended (TellsFigures functions macros held written notation measured sight) (WithholdsFigures functions macros whole measured sight)
+        → MatchResult ended (TellsInfo functions macros held written part measured sight) (WithholdsInfo functions macros whole part measured sight)
+    unfolding TellsInfo WithholdsInfo
+    world_told asked (Ok status) tells = inr (asked, subst (λ (n : Notation). TellsFigures functions macros held written n measured sight status) is tells)
+    world_told asked (Err why) tells = inr (asked, tells)
 
 -- the whole look
 module _ (functions : Functions) {R : Type 0} (macros : R) (whole : Bool) (system : System) (lacks_seeds : Type 0) (opens : Text → Result Sight HostError → Type 0) (words : List Text) (held written : Option (List ℕ)) where

@@ -1,7 +1,8 @@
 -- What each look tells of what was seen.
-use Rattle.std.specs.Prelude.{◌≡◌, ◌≢◌, ◌⊎◌, ℕ, Bool, true, List, [], Option, Result, Ok, Err, MatchResult, if◌then◌else◌}
+use Rattle.std.specs.Prelude.{◌≡◌, ◌≢◌, ◌⊎◌, ℕ, Bool, false, true, List, [], Option, Result, Ok, Err, MatchResult, if◌then◌else◌}
 use Rattle.clap.specs.Words.{Text}
 use Rattle.command_words.specs.LookLine.{AsksToLook, text_of}
+use Rattle.command_words.specs.declared.looks.InfoPart.{InfoPart}
 use Rattle.command_words.specs.declared.looks.Look.{Look}
 use Rattle.command_words.specs.declared.looks.Look.TheVariants.{Backup, Dump, Info, Log, Show}
 use Rattle.command_words.specs.declared.looks.RecordPlace.{RecordPlace}
@@ -32,14 +33,16 @@ use Rattle.store_looks.specs.Unlooked.{IsOfBackup, of_log, of_show, status_of}
 use Rattle.store_looks.specs.declared.unlooked.Unlooked.{Unlooked}
 use Rattle.store_looks.specs.declared.unlooked.Unlooked.TheVariants as unlooked
 use Rattle.store_reports.specs.Backup.{IsMade, IsUnmade}
-use Rattle.store_reports.specs.Figures.{AreFiguresOf, info_text}
+use Rattle.store_reports.specs.Figures.{AreFiguresOf, file_info_text, info_text}
 use Rattle.store_reports.specs.Log.{IsLogText, least}
 use Rattle.store_reports.specs.Places.{Deed}
 use Rattle.store_reports.specs.Shown.{IsShown, IsUnshown}
 use Rattle.store_reports.specs.declared.backups.BackupError.{BackupError}
 use Rattle.store_reports.specs.declared.figures.HalfFigures.{HalfFigures}
 use Rattle.store_reports.specs.declared.log.LogPart.{LogPart}
-use Rattle.store_reports.specs.declared.selection.Layout.TheVariants.{Forms, Lines}
+use Rattle.store_reports.specs.declared.numbers.Notation.{Notation}
+use Rattle.store_reports.specs.declared.numbers.Notation.TheVariants as notations
+use Rattle.store_reports.specs.declared.selection.Layout.TheVariants.{Forms, Json, Lines}
 use Rattle.store_reports.specs.declared.selection.Selection.{Selection}
 use Rattle.store_reports.specs.declared.showing.ShowError.{ShowError}
 use Rattle.user_macros.specs.Functions.{Functions}
@@ -73,13 +76,23 @@ system_of measures state does = record {
 
 -- the same texts
 pub record IsSelection (shown : Shown) (selection : Selection) : Type 0 where
+  pub symbol : text_of selection.symbol ≡ text_of shown.symbol
   pub in_package : text_of selection.package ≡ text_of shown.package
   pub indicator : text_of selection.indicator ≡ text_of shown.indicator
   pub like : text_of selection.like ≡ text_of shown.like
-  pub layout : selection.layout ≡ (if shown.forms then Forms else Lines)
+  pub layout : selection.layout ≡ (if shown.json then Json else (if shown.forms then Forms else Lines))
+
+-- how figures and records are written
+abbrev pub notation_of : Bool → Notation
+notation_of json = if json then notations.Json else notations.Lines
 
 abbrev pub part_of : Records → LogPart
-part_of records = record { from = records.from.number; generation = records.from.generation; with_generation = records.places }
+part_of records = record {
+  from = records.from.number;
+  generation = records.from.generation;
+  with_generation = records.places;
+  notation = notation_of records.json;
+}
 
 -- ---- the records of what was seen
 
@@ -91,6 +104,22 @@ TellsLog held written records sight status =
 unfoldable pub WithholdsLog : Records → Sight → Unlooked → Type 0
 WithholdsLog records sight why =
     (error : LogError) × IsNoPlace (least records.from.number) records.from.generation error (state_of sight).reads × (why ≡ of_log error)
+
+-- ---- the files that were seen
+
+-- the figures of the half in use that was seen, and of the files as they were measured
+pub record TellsFileFigures (held written : Option (List ℕ)) (notation : Notation) (measured : Result Figures HostError → Type 0) (sight : Sight) (status : Status) : Type 0 where
+  pub half : HalfFigures
+  pub figures : AreFiguresOf (state_of sight).reads half
+  pub files : Figures
+  pub are_measured : measured (Ok files)
+  pub tells : TellsText status held written (file_info_text notation half files)
+
+-- the files were not measured, or the log of the sight was not opened
+unfoldable pub WithholdsFileFigures : (Result Figures HostError → Type 0) → Sight → Unlooked → Type 0
+WithholdsFileFigures measured sight why =
+    ((error : HostError) × measured (Err error) × (why ≡ unlooked.Host error))
+    ⊎ (((error : LogError) × IsNoLog error (state_of sight).reads × (why ≡ of_log error)) ⊎ (why ≡ unlooked.Fault NO_MEMORY))
 
 -- ---- a store that was seen is opened in memory, with these macro functions
 
@@ -117,14 +146,20 @@ module _ (functions : Functions) {R : Type 0} (macros : R) where
 
   module _ (held written : Option (List ℕ)) where
     -- the figures of the half in use that was seen, of its world, and of the files as they were measured
-    pub record TellsFigures (measured : Result Figures HostError → Type 0) (sight : Sight) (status : Status) : Type 0 where
+    pub record TellsFigures (notation : Notation) (measured : Result Figures HostError → Type 0) (sight : Sight) (status : Status) : Type 0 where
       pub half : HalfFigures
       pub figures : AreFiguresOf (state_of sight).reads half
       pub files : Figures
       pub are_measured : measured (Ok files)
       pub same : Sight
       pub reads : (state_of same).reads ≡ (state_of sight).reads
-      pub tells : Tells (λ world text. text ≡ info_text half world files) same held written status
+      pub tells : Tells (λ world text. text ≡ info_text notation half world files) same held written status
+
+    -- those of the half in use that was seen and of the files, or these with those of its world
+    unfoldable pub TellsInfo : InfoPart → (Result Figures HostError → Type 0) → Sight → Status → Type 0
+    TellsInfo part measured sight status =
+        ((part.files ≡ true) × TellsFileFigures held written (notation_of part.json) measured sight status)
+        ⊎ ((part.files ≡ false) × TellsFigures (notation_of part.json) measured sight status)
 
     -- the properties that are asked for
     unfoldable pub TellsShown : Shown → Sight → Status → Type 0
@@ -139,7 +174,7 @@ module _ (functions : Functions) {R : Type 0} (macros : R) where
 
     unfoldable pub TellsLook : System → Text → Look → Sight → Status → Type 0
     TellsLook system folder (Show shown) sight status = TellsShown shown sight status
-    TellsLook system folder Info sight status = TellsFigures (system.measures folder) sight status
+    TellsLook system folder (Info part) sight status = TellsInfo part (system.measures folder) sight status
     TellsLook system folder (Log records) sight status = TellsLog held written records sight status
     TellsLook system folder (Backup to) sight status = BacksUp (system.made to.now) sight status × (written ≡ held)
     TellsLook system folder (Dump place) sight status = TellsDump place sight status
@@ -157,6 +192,10 @@ module _ (functions : Functions) {R : Type 0} (macros : R) (whole : Bool) where
       ((error : HostError) × measured (Err error) × (why ≡ unlooked.Host error))
       ⊎ (((error : LogError) × IsNoLog error (state_of sight).reads × (why ≡ of_log error))
       ⊎ ((same : Sight) × ((state_of same).reads ≡ (state_of sight).reads) × (Unopens functions whole same why ⊎ (why ≡ unlooked.Fault NO_MEMORY))))
+
+  unfoldable pub WithholdsInfo : InfoPart → (Result Figures HostError → Type 0) → Sight → Unlooked → Type 0
+  WithholdsInfo part measured sight why =
+      ((part.files ≡ true) × WithholdsFileFigures measured sight why) ⊎ ((part.files ≡ false) × WithholdsFigures measured sight why)
 
   unfoldable pub WithholdsShown : Shown → Sight → Unlooked → Type 0
   WithholdsShown shown sight why =
@@ -177,7 +216,7 @@ module _ (functions : Functions) {R : Type 0} (macros : R) (whole : Bool) where
 
   unfoldable pub WithholdsLook : System → Text → Look → Sight → Unlooked → Type 0
   WithholdsLook system folder (Show shown) sight why = WithholdsShown shown sight why
-  WithholdsLook system folder Info sight why = WithholdsFigures (system.measures folder) sight why
+  WithholdsLook system folder (Info part) sight why = WithholdsInfo part (system.measures folder) sight why
   WithholdsLook system folder (Log records) sight why = WithholdsLog records sight why
   WithholdsLook system folder (Backup to) sight why = WithholdsBackup (system.unmade to.now) sight why
   WithholdsLook system folder (Dump place) sight why = WithholdsDump place sight why

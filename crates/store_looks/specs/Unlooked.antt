@@ -36,6 +36,7 @@ of_log (telling.OtherGeneration generation) = NoPlace (telling.OtherGeneration g
 abbrev pub of_show : ShowError → Unlooked
 of_show showing.OutOfMemory = Fault NO_MEMORY
 of_show showing.NoPackage = Show showing.NoPackage
+of_show showing.NoSymbol = Show showing.NoSymbol
 of_show showing.NoIndicator = Show showing.NoIndicator
 
 -- a backup that was not made; one that differs from its world is a fault of the device

@@ -12,7 +12,7 @@ ghost use Rattle.command_words.specs.LookLine.{AsksToLook};
 ghost use Rattle.store_reports.specs.Backup.{IsMade, IsUnmade};
 ghost use Rattle.store_commands.specs.Texts.{TellsText};
 ghost use Rattle.store_looks.specs.Looks.{EndsUnlooked, Prints};
-ghost use Rattle.store_looks.specs.Told.{BacksUp, Looks, LooksAt, Sees, TellsDump, TellsLog, TellsLook, Unopens, WithholdsBackup, WithholdsDump, WithholdsLog, WithholdsLook, system_of};
+ghost use Rattle.store_looks.specs.Told.{BacksUp, Looks, LooksAt, Sees, TellsDump, TellsLog, TellsLook, Unopens, WithholdsBackup, WithholdsDump, WithholdsLog, WithholdsLook, notation_of, system_of};
 ghost use Rattle.store_looks.specs.Unlooked.{status_of};
 ghost use Rattle.user_macros.specs.Functions.{are_registered};
 
@@ -36,7 +36,7 @@ use store_commands::{
     Folders, HALF_LIMIT, Opening, Status, TellsCause, Told, answer_words, end_with, end_with_told,
     open_folder, report_on, status_of_output,
 };
-use store_reports::{BackupError, LogPart, Places, backup, log_lines};
+use store_reports::{BackupError, LogPart, Notation, Places, backup, log_lines};
 use user_macros::MacroFunctions;
 
 /// Looks into the store in a folder, as the words ask (`Way::Look` of `command_words`), and answers how that ended. The first word is the
@@ -194,7 +194,15 @@ where
     match looked.look {
         Look::Dump(place) => dump(rt.alloc(), sight, macros, seed, place, output),
         Look::Show(shown) => show_on(rt.alloc(), sight, macros, seed, shown, output),
-        Look::Info => info_on(rt, looked.folder, sight, macros, seed, output),
+        Look::Info(part) => {
+            let opening = Opening {
+                alloc: rt.alloc(),
+                disk: sight,
+                macros,
+                seed,
+            };
+            info_on(rt, looked.folder, part, opening, output)
+        }
         Look::Log(records) => log_on(rt.alloc(), sight, records, output),
         Look::Backup(to) => back_up(rt.alloc(), rt, sight, macros, seed, to),
     }
@@ -240,6 +248,17 @@ where
     }
 }
 
+/// How figures and records are written.
+pub(crate) fn notation_for(json: bool) -> Notation
+    ensures { result ≡ notation_of json }
+{
+    if json {
+        Notation::Json
+    } else {
+        Notation::Lines
+    }
+}
+
 // Writes the lines of records.
 fn log_on<O: Write>(
     alloc: Global,
@@ -256,6 +275,7 @@ fn log_on<O: Write>(
         from: records.from.number,
         generation: records.from.generation,
         with_generation: records.places,
+        notation: notation_for(records.json),
     };
     let lines = log_lines(alloc, sight, &part)?;
     Ok(write_told(output, lines.as_slice()))

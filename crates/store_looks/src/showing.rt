@@ -65,12 +65,15 @@ fn shown_in<M: MacroFunctions>(
 fn selection_of(shown: Shown<'_>) -> Selection<'_>
     ensures { IsSelection shown.entry result }
 {
-    let layout = if shown.forms {
+    let layout = if shown.json {
+        Layout::Json
+    } else if shown.forms {
         Layout::Forms
     } else {
         Layout::Lines
     };
     Selection {
+        symbol: bytes_of(shown.symbol),
         package: bytes_of(shown.package),
         indicator: bytes_of(shown.indicator),
         like: bytes_of(shown.like),

@@ -12,12 +12,14 @@ use crate::opening::Telling;
 use command_words::{Way, asks_for_quiet, way_of};
 use lisp_object::refusal::NO_MEMORY;
 use message_command::run_messages;
-use program_streams::{Cleared, Progress, Refusals, Uninterrupted, write_counts};
+use program_streams::{
+    BesidePipe, Cleared, Pipe, Progress, Refusals, TypedLines, Uninterrupted, write_counts,
+};
 use readtable_core::FnName;
 use six_functions::{SixFunctions, macro_functions};
 use std::alloc::AllocError;
 use std::cell::Cell;
-use std::io::{ErrorKind, IsTerminal, Stdout, Write};
+use std::io::{ErrorKind, IsTerminal, Stderr, Stdin, Stdout, Write};
 use std::path::Path;
 use std::process::ExitCode;
 use std::random::RandomSource;
@@ -82,27 +84,68 @@ fn serve_words<M: MacroFunctions + Drop, F: Write>(
     }
     let mut output = Uninterrupted::new(rt.stdout());
     match way_of(words) {
-        Way::Look => look(rt, &Looking::new(rt), macros, words, &mut output, faults),
-        Way::Check => {
-            let mut input = Uninterrupted::new(rt.stdin());
-            check(rt, macros, words, &mut input, &mut output, faults)
-        }
+        way @ (Way::Look | Way::Check | Way::See) => tell(rt, way, macros, words, faults),
         Way::Messages => {
             let mut input = Uninterrupted::new(rt.stdin());
             let folders = Telling::new(rt, rt);
             run_messages(&folders, macros, words, &mut input, &mut output, faults)
         }
-        Way::See => serve_pipe(
+        Way::Serve if asks_for_quiet(words) => serve_quietly(rt, macros, words, faults),
+        Way::Serve if rt.stdin().is_terminal() => serve_at_terminal(rt, macros, words, faults),
+        Way::Serve => serve_pipe(
             rt,
-            &Telling::new(rt, &Looking::new(rt)),
+            &Telling::new(rt, rt),
             macros,
             words,
             output,
+            rt.stderr(),
         ),
-        Way::Serve if asks_for_quiet(words) => serve_quietly(rt, macros, words, faults),
-        Way::Serve if rt.stdin().is_terminal() => serve_at_terminal(rt, macros, words, faults),
-        Way::Serve => serve_pipe(rt, &Telling::new(rt, rt), macros, words, output),
     }
+}
+
+// Tells what the words ask for, in this way. If the reader of the output goes before its end, as `head` does, that is no fault.
+fn tell<M: MacroFunctions + Drop, F: Write>(
+    rt: &HostRuntime,
+    way: Way,
+    macros: M,
+    words: &[String],
+    faults: &mut F,
+) -> Status
+    requires answers { M.answers macros }
+{
+    let closed = Cell::new(false);
+    let mut output = Pipe::new(Uninterrupted::new(rt.stdout()), &closed);
+    let status = match way {
+        Way::Look => {
+            let mut faults = BesidePipe::new(&mut *faults, &closed);
+            look(
+                rt,
+                &Looking::new(rt),
+                macros,
+                words,
+                &mut output,
+                &mut faults,
+            )
+        }
+        Way::Check => {
+            let mut faults = BesidePipe::new(&mut *faults, &closed);
+            let mut input = Uninterrupted::new(rt.stdin());
+            check(rt, macros, words, &mut input, &mut output, &mut faults)
+        }
+        _ => {
+            let folders = Looking::new(rt);
+            let faults = BesidePipe::new(rt.stderr(), &closed);
+            serve_pipe(
+                rt,
+                &Telling::new(rt, &folders),
+                macros,
+                words,
+                output,
+                faults,
+            )
+        }
+    };
+    if closed.get() { Status::Done } else { status }
 }
 
 // The same with refusals alone on standard output, and a count at the end on standard error.
@@ -118,7 +161,14 @@ fn serve_quietly<M: MacroFunctions + Drop, F: Write>(
     let status = if rt.stdin().is_terminal() {
         serve_quietly_at_terminal(rt, macros, words, &mut output, faults)
     } else {
-        serve_pipe(rt, &Telling::new(rt, rt), macros, words, &mut output)
+        serve_pipe(
+            rt,
+            &Telling::new(rt, rt),
+            macros,
+            words,
+            &mut output,
+            rt.stderr(),
+        )
     };
     match status {
         Status::Helped | Status::WordsRefused => {}
@@ -131,17 +181,19 @@ fn serve_quietly<M: MacroFunctions + Drop, F: Write>(
 
 // The same where standard input is no terminal, and folders are opened by another system. At a terminal standard error has a line on how far
 // it is.
-fn serve_pipe<R, M, O>(
+fn serve_pipe<R, M, O, F>(
     rt: &HostRuntime,
     folders: &R,
     macros: M,
     words: &[String],
     output: O,
+    faults: F,
 ) -> Status
 where
     R: Folders + RandomSource + AllocGlobal,
     M: MacroFunctions + Drop,
     O: Write + Drop,
+    F: Write + Drop,
     requires answers { M.answers macros }
 {
     let (heard, stands) = (Cell::new(Heard::Nothing), Cell::new(false));
@@ -153,7 +205,7 @@ where
     };
     let mut input = Piped::new(Lines::new(rt.alloc(), progress), &heard);
     let mut output = Answers::new(output, &heard);
-    let mut faults = Cleared::new(rt.stderr(), &stands);
+    let mut faults = Cleared::new(faults, &stands);
     let status = program(folders, macros, words, &mut input, &mut output, &mut faults);
     faults.clear();
     status
@@ -172,6 +224,11 @@ fn size_of_input(rt: &HostRuntime) -> Option<u64> {
     }
 }
 
+// Standard input, if it is a terminal.
+fn typed_lines(rt: &HostRuntime) -> TypedLines<Uninterrupted<Stdin>, Stderr> {
+    TypedLines::new(Uninterrupted::new(rt.stdin()), rt.stderr())
+}
+
 // The same at a terminal, whose prompts go to standard error.
 fn serve_at_terminal<M: MacroFunctions + Drop, F: Write>(
     rt: &HostRuntime,
@@ -182,7 +239,7 @@ fn serve_at_terminal<M: MacroFunctions + Drop, F: Write>(
     requires answers { M.answers macros }
 {
     let heard = Cell::new(Heard::Nothing);
-    let lines = Lines::new(rt.alloc(), Uninterrupted::new(rt.stdin()));
+    let lines = Lines::new(rt.alloc(), typed_lines(rt));
     let mut input = Terminal::new(lines, rt.stderr(), &heard);
     let mut output = Answers::new(Uninterrupted::new(rt.stdout()), &heard);
     let folders = Telling::new(rt, rt);
@@ -200,7 +257,7 @@ fn serve_quietly_at_terminal<M: MacroFunctions + Drop, F: Write>(
     requires answers { M.answers macros }
 {
     let heard = Cell::new(Heard::Nothing);
-    let lines = Lines::new(rt.alloc(), Uninterrupted::new(rt.stdin()));
+    let lines = Lines::new(rt.alloc(), typed_lines(rt));
     let mut input = Terminal::new(lines, rt.stderr(), &heard);
     let mut output = Answers::new(&mut *output, &heard);
     let folders = Telling::new(rt, rt);

@@ -12,8 +12,11 @@ use Rattle.package_table.specs.Table.{Table}
 use Rattle.plist_state.specs.Changes.{plist}
 use Rattle.plist_state.specs.Readers.{symbols_with_properties}
 use Rattle.plist_state.specs.State.{WorldState}
+use Rattle.store_reports.specs.Json.{json_number}
 use Rattle.store_reports.specs.declared.figures.Counts.{Counts}
 use Rattle.store_reports.specs.declared.figures.HalfFigures.{HalfFigures}
+use Rattle.store_reports.specs.declared.numbers.Notation.{Notation}
+use Rattle.store_reports.specs.declared.numbers.Notation.TheVariants.{Json, Lines}
 
 -- these bytes mean contents, or no half is open, and the figures are of these
 pub record AreFiguresOf (image : Image) (figures : HalfFigures) : Type 0 where
@@ -26,20 +29,29 @@ pub record AreFiguresOf (image : Image) (figures : HalfFigures) : Type 0 where
   pub bytes : figures.bytes ≡ size_in contents
   pub first_bytes : figures.first_bytes ≡ first_size_in contents
 
--- ---- the figures of a store, a line each
+-- ---- the figures of a store
 
--- a name, a number, and the end of the line
-abbrev pub figure : List ℕ → ℕ → List ℕ
-figure name value = name ++ 32 ∷ decimal value ++ 10 ∷ []
+-- a name and a number: a line, or a member of an object that is not its first one
+abbrev pub figure : Notation → List ℕ → ℕ → List ℕ
+figure Lines name value = name ++ 32 ∷ decimal value ++ 10 ∷ []
+figure Json name value = codes ",\"" ++ name ++ codes "\":" ++ json_number value
 
--- no line where it is not known
-abbrev pub known_figure : List ℕ → Option ℕ → List ℕ
-known_figure name None = []
-known_figure name (Some value) = figure name value
+-- nothing where it is not known
+abbrev pub known_figure : Notation → List ℕ → Option ℕ → List ℕ
+known_figure notation name None = []
+known_figure notation name (Some value) = figure notation name value
 
-abbrev pub half_line : Half → List ℕ
-half_line A = codes "half A" ++ 10 ∷ []
-half_line B = codes "half B" ++ 10 ∷ []
+-- what comes first: which half it is
+abbrev pub half_line : Notation → Half → List ℕ
+half_line Lines A = codes "half A" ++ 10 ∷ []
+half_line Lines B = codes "half B" ++ 10 ∷ []
+half_line Json A = codes "{\"half\":\"A\""
+half_line Json B = codes "{\"half\":\"B\""
+
+-- and last
+abbrev pub end_of_figures : Notation → List ℕ
+end_of_figures Lines = []
+end_of_figures Json = codes "}\n"
 
 -- as much of a number as one of 64 bits can tell
 abbrev pub told_number : ℕ → ℕ
@@ -61,32 +73,43 @@ counts_in world = record {
   properties = told_number (property_count world);
 }
 
--- of the half in use: its records, and the bytes with and before them
-abbrev pub sizes_text : HalfFigures → List ℕ
-sizes_text half = figure (codes "records") half.records ++ figure (codes "bytes") half.bytes ++ figure (codes "first-bytes") half.first_bytes
+module _ (notation : Notation) where
+  -- of the half in use: its records, and the bytes with and before them
+  abbrev pub sizes_text : HalfFigures → List ℕ
+  sizes_text half =
+      figure notation (codes "records") half.records
+      ++ figure notation (codes "bytes") half.bytes
+      ++ figure notation (codes "first-bytes") half.first_bytes
 
-abbrev pub half_text : HalfFigures → List ℕ
-half_text half =
-    half_line half.half ++ figure (codes "version") half.version ++ figure (codes "generation") half.generation ++ sizes_text half
+  abbrev pub half_text : HalfFigures → List ℕ
+  half_text half =
+      half_line notation half.half
+      ++ figure notation (codes "version") half.version
+      ++ figure notation (codes "generation") half.generation
+      ++ sizes_text half
 
--- of the world
-abbrev pub counts_text : Counts → List ℕ
-counts_text counts =
-    figure (codes "packages") counts.packages
-    ++ figure (codes "symbols") counts.symbols
-    ++ figure (codes "symbols-with-properties") counts.owners
-    ++ figure (codes "properties") counts.properties
+  -- of the world
+  abbrev pub counts_text : Counts → List ℕ
+  counts_text counts =
+      figure notation (codes "packages") counts.packages
+      ++ figure notation (codes "symbols") counts.symbols
+      ++ figure notation (codes "symbols-with-properties") counts.owners
+      ++ figure notation (codes "properties") counts.properties
 
-abbrev pub world_text : WorldState → List ℕ
-world_text world = counts_text (counts_in world)
+  abbrev pub world_text : WorldState → List ℕ
+  world_text world = counts_text (counts_in world)
 
--- of the files
-abbrev pub files_text : Figures → List ℕ
-files_text files =
-    figure (codes "half-a-bytes") files.bytes_a
-    ++ figure (codes "half-b-bytes") files.bytes_b
-    ++ known_figure (codes "half-a-age") files.age_a
-    ++ known_figure (codes "half-b-age") files.age_b
+  -- of the files
+  abbrev pub files_text : Figures → List ℕ
+  files_text files =
+      figure notation (codes "half-a-bytes") files.bytes_a
+      ++ figure notation (codes "half-b-bytes") files.bytes_b
+      ++ known_figure notation (codes "half-a-age") files.age_a
+      ++ known_figure notation (codes "half-b-age") files.age_b
 
-abbrev pub info_text : HalfFigures → WorldState → Figures → List ℕ
-info_text half world files = half_text half ++ world_text world ++ files_text files
+  abbrev pub info_text : HalfFigures → WorldState → Figures → List ℕ
+  info_text half world files = half_text half ++ world_text world ++ files_text files ++ end_of_figures notation
+
+  -- the same without the world
+  abbrev pub file_info_text : HalfFigures → Figures → List ℕ
+  file_info_text half files = half_text half ++ files_text files ++ end_of_figures notation

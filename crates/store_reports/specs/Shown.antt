@@ -1,5 +1,5 @@
 -- Which properties of a world are shown, and how.
-use Rattle.std.specs.Prelude.{◌≡◌, ◌≢◌, ℕ, Bool, true, false, ◌&&◌, ◌||◌, bytes_eq, if◌then◌else◌, List, [], ◌∷◌, ◌++◌, length, take, codes, is_some, Option, Result, Ok, Err}
+use Rattle.std.specs.Prelude.{◌≡◌, ◌≢◌, ℕ, Bool, true, false, ◌&&◌, ◌||◌, bytes_eq, ◌-◌, if◌then◌else◌, List, [], ◌∷◌, ◌++◌, length, drop, take, codes, is_some, Option, Result, Ok, Err}
 use Rattle.std.specs.Borrow.{Bor}
 use Rattle.std.specs.FinMap as finite
 use Rattle.std.specs.Global.{Vec}
@@ -8,6 +8,7 @@ use Rattle.std.specs.Option.{option_map_or}
 use Rattle.std.specs.Str.{str_eq_ignore_ascii_case}
 use Rattle.lisp_object.specs.Ascii.{is_ascii}
 use Rattle.lisp_object.specs.Object.{Object, symbol}
+use Rattle.package_table.specs.Readers.{own_names, package_names}
 use Rattle.package_table.specs.Table.{Name, Table, common_lisp_user}
 use Rattle.canon_printer.specs.Printed.{printed}
 use Rattle.plist_state.specs.Properties.{Symbol}
@@ -15,8 +16,9 @@ use Rattle.plist_state.specs.State.{WorldState}
 use Rattle.plist_state.specs.Changes.{plist}
 use Rattle.plist_state.specs.Readers.{symbols_with_properties}
 use Rattle.store_reports.specs.Escaped.{escaped}
+use Rattle.store_reports.specs.Json.{string_member}
 use Rattle.store_reports.specs.declared.selection.Layout.{Layout}
-use Rattle.store_reports.specs.declared.selection.Layout.TheVariants.{Lines, Forms}
+use Rattle.store_reports.specs.declared.selection.Layout.TheVariants.{Forms, Json, Lines}
 use Rattle.store_reports.specs.declared.selection.Selection.{Selection}
 use Rattle.store_reports.specs.declared.showing.ShowError.{ShowError}
 use Rattle.store_reports.specs.declared.showing.ShowError.TheVariants as showing
@@ -31,14 +33,42 @@ is_named wanted name = option_map_or (λ (w : Bor Name). bytes_eq w.now name) wa
 abbrev pub begins_with : List ℕ → List ℕ → Bool
 begins_with part text = str_eq_ignore_ascii_case (take (length part) text) part
 
+-- it ends with one
+abbrev pub ends_with : List ℕ → List ℕ → Bool
+ends_with part text = str_eq_ignore_ascii_case (drop (length text - length part) text) part
+
 -- a text has a part in it somewhere
 unfoldable pub has_part : List ℕ → List ℕ → Bool
 has_part part [] = begins_with part []
 has_part part (c ∷ cs) = begins_with part (c ∷ cs) || has_part part cs
 
--- the symbols of a package, and those whose names have a part in them
+-- a pattern begins with a star, or ends with one
+abbrev pub has_star_before : List ℕ → Bool
+has_star_before pattern = bytes_eq (take 1 pattern) (42 ∷ [])
+
+abbrev pub has_star_after : List ℕ → Bool
+has_star_after pattern = bytes_eq (drop (length pattern - 1) pattern) (42 ∷ [])
+
+-- a pattern without these
+abbrev pub without_star_before : List ℕ → List ℕ
+without_star_before pattern = if has_star_before pattern then drop 1 pattern else pattern
+
+abbrev pub without_star_after : List ℕ → List ℕ
+without_star_after pattern = if has_star_after pattern then take (length pattern - 1) pattern else pattern
+
+-- A name is like a pattern, in upper or lower case. A star at the front or at the end of the pattern stands for any text there. Of `*` alone the
+-- one star is at the end.
+abbrev pub is_like : List ℕ → List ℕ → Bool
+is_like pattern name =
+    let front = without_star_after pattern in
+    let part = without_star_before front in
+    if has_star_after pattern
+    then (if has_star_before front then has_part part name else begins_with part name)
+    else (if has_star_before front then ends_with part name else str_eq_ignore_ascii_case name part)
+
+-- the symbols of a package, and those whose names are like a pattern
 unfoldable pub takes_symbol : Selection → Symbol → Bool
-takes_symbol wanted x = is_named wanted.package x.0 && option_map_or (λ (part : Bor (List ℕ)). has_part part.now x.1) wanted.like true
+takes_symbol wanted x = is_named wanted.package x.0 && option_map_or (λ (pattern : Bor (List ℕ)). is_like pattern.now x.1) wanted.like true
 
 -- ---- how
 
@@ -46,10 +76,20 @@ takes_symbol wanted x = is_named wanted.package x.0 && option_map_or (λ (part :
 unfoldable pub shown_symbol : Table → Symbol → List ℕ
 shown_symbol t x = if list_all is_ascii x.0 && list_all is_ascii x.1 then printed t common_lisp_user (symbol x.0 x.1) else []
 
--- the texts of a symbol, an indicator and a value, as a line or as the form that sets the property
+-- the texts of a symbol, an indicator and a value, as a line, as the form that sets the property, or as an object
 unfoldable pub property_text : Layout → List ℕ → List ℕ → List ℕ → List ℕ
 property_text Lines x indicator value = escaped x ++ 32 ∷ [] ++ escaped indicator ++ 32 ∷ [] ++ escaped value ++ 10 ∷ []
 property_text Forms x indicator value = codes "(SETF (GET '" ++ x ++ codes " '" ++ indicator ++ codes ") '" ++ value ++ codes ")\n"
+property_text Json x indicator value =
+    123 ∷ [] ++ string_member (codes "symbol") x ++ 44 ∷ [] ++ string_member (codes "indicator") indicator
+    ++ 44 ∷ [] ++ string_member (codes "value") value ++ 125 ∷ 10 ∷ []
+
+-- the home of a symbol, so; among forms it is a comment
+unfoldable pub home_text : Layout → List ℕ → List ℕ → List ℕ
+home_text Lines x home = codes "home " ++ escaped home ++ 10 ∷ []
+home_text Forms x home = codes "; home " ++ escaped home ++ 10 ∷ []
+home_text Json x home =
+    123 ∷ [] ++ string_member (codes "symbol") x ++ 44 ∷ [] ++ string_member (codes "home") home ++ 125 ∷ 10 ∷ []
 
 module _ (wanted : Selection) (t : Table) (x : List ℕ) where
   -- a property of the symbol of this text, where its indicator has the name that is asked for
@@ -66,23 +106,43 @@ module _ (wanted : Selection) (world : WorldState) where
   unfoldable pub shown_text : List ℕ
   shown_text = flat_map shown_list (symbols_with_properties world)
 
+  -- the home of a symbol that is shown as this text, and its properties
+  unfoldable pub shown_home : List ℕ → Symbol → List ℕ
+  shown_home text x =
+      if takes_symbol wanted x && bytes_eq (shown_symbol world.packages x) text
+      then home_text wanted.layout (shown_symbol world.packages x) x.0 ++ shown_list x
+      else []
+
+  -- of those at home in a package, and in all packages
+  unfoldable pub shown_homes : List ℕ → Name → List ℕ
+  shown_homes text home = flat_map (λ name. shown_home text (home, name)) (own_names world.packages home)
+
+  unfoldable pub shown_by_home : List ℕ → List ℕ
+  shown_by_home text = flat_map (shown_homes text) (package_names world.packages)
+
+  -- what is asked for: a symbol, or properties
+  abbrev pub asked_text : List ℕ
+  asked_text = option_map_or (λ (text : Bor (List ℕ)). shown_by_home text.now) wanted.symbol shown_text
+
   -- the package that is asked for is there, if one is
   abbrev pub has_wanted : Bool
   has_wanted = option_map_or (λ (name : Bor Name). finite.contains_key world.packages name.now) wanted.package true
 
-  -- the properties that are asked for are shown; of an indicator that is asked for there are some
+  -- what is asked for is shown; of a symbol or an indicator that is asked for there is something
   pub record IsShown (text : List ℕ) : Type 0 where
     pub there : has_wanted ≡ true
-    pub is : text ≡ shown_text
-    pub some : is_some wanted.indicator ≡ true → text ≢ []
+    pub is : text ≡ asked_text
+    pub symbol : is_some wanted.symbol ≡ true → text ≢ []
+    pub indicator : is_some wanted.indicator ≡ true → text ≢ []
 
   -- why none are shown
   abbrev pub IsUnshown : ShowError → Type 0
   IsUnshown showing.OutOfMemory = Unit {0}
   IsUnshown showing.NoPackage = has_wanted ≡ false
-  IsUnshown showing.NoIndicator = (has_wanted ≡ true) × (is_some wanted.indicator ≡ true) × (shown_text ≡ [])
+  IsUnshown showing.NoSymbol = (has_wanted ≡ true) × (is_some wanted.symbol ≡ true) × (asked_text ≡ [])
+  IsUnshown showing.NoIndicator = (has_wanted ≡ true) × (is_some wanted.symbol ≡ false) × (is_some wanted.indicator ≡ true) × (asked_text ≡ [])
 
--- a text of some properties, or a refusal of none
-abbrev pub GivesSome : List ℕ → Result (Vec ℕ) ShowError → Type 0
-GivesSome text (Ok given) = (given.items ≡ text) × (text ≢ [])
-GivesSome text (Err error) = (error ≡ showing.NoIndicator) × (text ≡ [])
+-- a text of something, or this refusal of nothing
+abbrev pub GivesSome : ShowError → List ℕ → Result (Vec ℕ) ShowError → Type 0
+GivesSome none text (Ok given) = (given.items ≡ text) × (text ≢ [])
+GivesSome none text (Err error) = (error ≡ none) × (text ≡ [])

@@ -28,8 +28,8 @@ fn push_byte(line: &mut Vec<u8>, byte: u8) -> Result<(), AllocError>
     }
 }
 
-// A digit in base 16.
-fn digit(value: u8) -> u8
+/// A digit in base 16.
+pub(crate) fn digit(value: u8) -> u8
     requires { value < 16 }
     ensures { result ≡ hexadecimal value }
 {

@@ -3,9 +3,9 @@ ghost use Rattle.std.specs.Prelude.{◌≡◌, ◌+◌, ◌-◌, ◌^◌, ◌<�
 ghost use Rattle.log_look.specs.Cut.{IsUnopened};
 ghost use Rattle.package_table.specs.Readers.{package_names};
 ghost use Rattle.plist_state.specs.Readers.{borrowed_symbols, symbols_with_properties};
-ghost use Rattle.store_reports.specs.Figures.{AreFiguresOf, counts_in, files_text, half_line, half_text, info_text, sizes_text, known_figure, property_count, symbol_count, told_number, world_text};
+ghost use Rattle.store_reports.specs.Figures.{AreFiguresOf, counts_in, end_of_figures, file_info_text, files_text, half_line, half_text, info_text, sizes_text, known_figure, property_count, symbol_count, told_number, world_text};
 
-use crate::numbers::push_figure;
+use crate::numbers::{Notation, push_figure};
 use disk_trait::{Disk, Half};
 use log_look::{Figures, LogError, Sight, open_sight};
 use package_table::Packages;
@@ -85,51 +85,95 @@ fn property_count(world: &World, owners: &[(&[u8], &[u8])]) -> u64
     count
 }
 
-/// The figures of a store, a line each: a name and a number. Ages are in seconds; the line of one that is not known is left out.
+/// The figures of a store: names and numbers, a line each, or one object. Ages are in seconds; one that is not known is left out.
 ///
 /// # Errors
 ///
 /// Out of memory.
 pub fn info(
     alloc: Global,
+    notation: Notation,
     half: &HalfFigures,
     world: &World,
     files: &Figures,
 ) -> Result<Vec<u8>, AllocError>
-    ensures { IfOk result (λ text. text.items ≡ info_text half.now world.now.0 files.now) }
+    ensures { IfOk result (λ text. text.items ≡ info_text notation half.now world.now.0 files.now) }
 {
     let mut text = Vec::new(alloc);
-    push_half(alloc, &mut text, half)?;
-    push_world(alloc, &mut text, world)?;
-    push_files(alloc, &mut text, files)?;
+    push_half(alloc, &mut text, notation, half)?;
+    push_world(alloc, &mut text, notation, world)?;
+    push_files(alloc, &mut text, notation, files)?;
+    push_end(&mut text, notation)?;
     Ok(text)
 }
 
-fn push_letter(text: &mut Vec<u8>, half: Half) -> Result<(), AllocError>
-    ensures { OnOk result (text.new.items ≡ text.old.items ++ half_line half) }
+/// The same without those of the world.
+///
+/// # Errors
+///
+/// Out of memory.
+pub fn file_info(
+    alloc: Global,
+    notation: Notation,
+    half: &HalfFigures,
+    files: &Figures,
+) -> Result<Vec<u8>, AllocError>
+    ensures { IfOk result (λ text. text.items ≡ file_info_text notation half.now files.now) }
 {
-    let line: &[u8] = match half {
-        Half::A => b"half A\n",
-        Half::B => b"half B\n",
+    let mut text = Vec::new(alloc);
+    push_half(alloc, &mut text, notation, half)?;
+    push_files(alloc, &mut text, notation, files)?;
+    push_end(&mut text, notation)?;
+    Ok(text)
+}
+
+fn push_letter(text: &mut Vec<u8>, notation: Notation, half: Half) -> Result<(), AllocError>
+    ensures { OnOk result (text.new.items ≡ text.old.items ++ half_line notation half) }
+{
+    let line: &[u8] = match (notation, half) {
+        (Notation::Lines, Half::A) => b"half A\n",
+        (Notation::Lines, Half::B) => b"half B\n",
+        (Notation::Json, Half::A) => b"{\"half\":\"A\"",
+        (Notation::Json, Half::B) => b"{\"half\":\"B\"",
     };
     text.extend_from_slice(line)
 }
 
-fn push_half(alloc: Global, text: &mut Vec<u8>, half: &HalfFigures) -> Result<(), AllocError>
-    ensures { OnOk result (text.new.items ≡ text.old.items ++ half_text half.now) }
+fn push_end(text: &mut Vec<u8>, notation: Notation) -> Result<(), AllocError>
+    ensures { OnOk result (text.new.items ≡ text.old.items ++ end_of_figures notation) }
 {
-    push_letter(text, half.half)?;
-    push_figure(alloc, text, b"version", half.version as u64)?;
-    push_figure(alloc, text, b"generation", half.generation)?;
-    push_sizes(alloc, text, half)
+    let end: &[u8] = match notation {
+        Notation::Lines => b"",
+        Notation::Json => b"}\n",
+    };
+    text.extend_from_slice(end)
 }
 
-fn push_sizes(alloc: Global, text: &mut Vec<u8>, half: &HalfFigures) -> Result<(), AllocError>
-    ensures { OnOk result (text.new.items ≡ text.old.items ++ sizes_text half.now) }
+fn push_half(
+    alloc: Global,
+    text: &mut Vec<u8>,
+    notation: Notation,
+    half: &HalfFigures,
+) -> Result<(), AllocError>
+    ensures { OnOk result (text.new.items ≡ text.old.items ++ half_text notation half.now) }
 {
-    push_figure(alloc, text, b"records", half.records)?;
-    push_figure(alloc, text, b"bytes", half.bytes)?;
-    push_figure(alloc, text, b"first-bytes", half.first_bytes)
+    push_letter(text, notation, half.half)?;
+    push_figure(alloc, text, notation, b"version", half.version as u64)?;
+    push_figure(alloc, text, notation, b"generation", half.generation)?;
+    push_sizes(alloc, text, notation, half)
+}
+
+fn push_sizes(
+    alloc: Global,
+    text: &mut Vec<u8>,
+    notation: Notation,
+    half: &HalfFigures,
+) -> Result<(), AllocError>
+    ensures { OnOk result (text.new.items ≡ text.old.items ++ sizes_text notation half.now) }
+{
+    push_figure(alloc, text, notation, b"records", half.records)?;
+    push_figure(alloc, text, notation, b"bytes", half.bytes)?;
+    push_figure(alloc, text, notation, b"first-bytes", half.first_bytes)
 }
 
 // How much is in a world.
@@ -156,36 +200,53 @@ fn counts_of(alloc: Global, world: &World) -> Result<Counts, AllocError>
     })
 }
 
-fn push_world(alloc: Global, text: &mut Vec<u8>, world: &World) -> Result<(), AllocError>
-    ensures { OnOk result (text.new.items ≡ text.old.items ++ world_text world.now.0) }
+fn push_world(
+    alloc: Global,
+    text: &mut Vec<u8>,
+    notation: Notation,
+    world: &World,
+) -> Result<(), AllocError>
+    ensures { OnOk result (text.new.items ≡ text.old.items ++ world_text notation world.now.0) }
 {
     let counts = counts_of(alloc, world)?;
-    push_figure(alloc, text, b"packages", counts.packages)?;
-    push_figure(alloc, text, b"symbols", counts.symbols)?;
-    push_figure(alloc, text, b"symbols-with-properties", counts.owners)?;
-    push_figure(alloc, text, b"properties", counts.properties)
+    push_figure(alloc, text, notation, b"packages", counts.packages)?;
+    push_figure(alloc, text, notation, b"symbols", counts.symbols)?;
+    push_figure(
+        alloc,
+        text,
+        notation,
+        b"symbols-with-properties",
+        counts.owners,
+    )?;
+    push_figure(alloc, text, notation, b"properties", counts.properties)
 }
 
-fn push_files(alloc: Global, text: &mut Vec<u8>, files: &Figures) -> Result<(), AllocError>
-    ensures { OnOk result (text.new.items ≡ text.old.items ++ files_text files.now) }
+fn push_files(
+    alloc: Global,
+    text: &mut Vec<u8>,
+    notation: Notation,
+    files: &Figures,
+) -> Result<(), AllocError>
+    ensures { OnOk result (text.new.items ≡ text.old.items ++ files_text notation files.now) }
 {
-    push_figure(alloc, text, b"half-a-bytes", files.bytes_a)?;
-    push_figure(alloc, text, b"half-b-bytes", files.bytes_b)?;
-    push_known(alloc, text, b"half-a-age", files.age_a)?;
-    push_known(alloc, text, b"half-b-age", files.age_b)
+    push_figure(alloc, text, notation, b"half-a-bytes", files.bytes_a)?;
+    push_figure(alloc, text, notation, b"half-b-bytes", files.bytes_b)?;
+    push_known(alloc, text, notation, b"half-a-age", files.age_a)?;
+    push_known(alloc, text, notation, b"half-b-age", files.age_b)
 }
 
-// A line of a number, where it is known.
+// Adds a number, where it is known.
 fn push_known(
     alloc: Global,
     text: &mut Vec<u8>,
+    notation: Notation,
     name: &[u8],
     number: Option<u64>,
 ) -> Result<(), AllocError>
-    ensures { OnOk result (text.new.items ≡ text.old.items ++ known_figure name.now number) }
+    ensures { OnOk result (text.new.items ≡ text.old.items ++ known_figure notation name.now number) }
 {
     match number {
-        Some(number) => push_figure(alloc, text, name, number),
+        Some(number) => push_figure(alloc, text, notation, name, number),
         None => Ok(()),
     }
 }

@@ -1,8 +1,20 @@
 //! Numbers, as they are written.
-ghost use Rattle.std.specs.Prelude.{◌≡◌, ◌++◌, [], ◌∷◌, decimal, OnOk};
+ghost use Rattle.std.specs.Prelude.{◌≡◌, ◌++◌, [], ◌∷◌, codes, decimal, OnOk};
 ghost use Rattle.store_reports.specs.Figures.{figure};
+ghost use Rattle.store_reports.specs.Json.{json_number};
+ghost use Rattle.store_reports.specs.declared.numbers.Notation.TheVariants as notations;
 
+use crate::json::push_json_number;
 use std::alloc::{AllocError, Global};
+
+/// How figures and records are written.
+#[derive(Clone, Copy, Debug, PartialEq, Eq)]
+pub enum Notation {
+    /// In lines of words.
+    Lines,
+    /// In objects of JSON.
+    Json,
+}
 
 /// Adds a number in base 10.
 pub(crate) fn push_number(alloc: Global, text: &mut Vec<u8>, number: u64) -> Result<(), AllocError>
@@ -12,18 +24,42 @@ pub(crate) fn push_number(alloc: Global, text: &mut Vec<u8>, number: u64) -> Res
     text.extend_from_slice(digits.as_bytes())
 }
 
-/// Adds a line: a name and a number.
+/// Adds a name and a number: a line, or a member of an object that is not its first one.
 pub(crate) fn push_figure(
     alloc: Global,
     text: &mut Vec<u8>,
+    notation: Notation,
     name: &[u8],
     number: u64,
 ) -> Result<(), AllocError>
-    ensures { OnOk result (text.new.items ≡ text.old.items ++ figure name.now number) }
+    ensures { OnOk result (text.new.items ≡ text.old.items ++ figure notation name.now number) }
+{
+    match notation {
+        Notation::Lines => push_line(alloc, text, name, number),
+        Notation::Json => push_member(alloc, text, name, number),
+    }
+}
+
+fn push_line(alloc: Global, text: &mut Vec<u8>, name: &[u8], number: u64) -> Result<(), AllocError>
+    ensures { OnOk result (text.new.items ≡ text.old.items ++ figure notations.Lines name.now number) }
 {
     text.extend_from_slice(name)?;
     text.push(b' ')?;
     push_number(alloc, text, number)?;
     text.push(b'\n')?;
     Ok(())
+}
+
+fn push_member(
+    alloc: Global,
+    text: &mut Vec<u8>,
+    name: &[u8],
+    number: u64,
+) -> Result<(), AllocError>
+    ensures { OnOk result (text.new.items ≡ text.old.items ++ figure notations.Json name.now number) }
+{
+    text.extend_from_slice(b",\"")?;
+    text.extend_from_slice(name)?;
+    text.extend_from_slice(b"\":")?;
+    push_json_number(alloc, text, number)
 }

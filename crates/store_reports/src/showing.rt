@@ -4,10 +4,12 @@ ghost use Rattle.std.specs.List.{flat_map};
 ghost use Rattle.lisp_object.specs.Datum.{is_proper};
 ghost use Rattle.plist_state.specs.Readers.{borrowed_symbols};
 ghost use Rattle.plist_state.specs.Shown.{property_of};
-ghost use Rattle.store_reports.specs.Shown.{has_wanted, property_text, shown_list, shown_property, shown_symbol, shown_text, IsShown, GivesSome, IsUnshown};
+ghost use Rattle.store_reports.specs.Shown.{asked_text, has_wanted, property_text, shown_list, shown_property, shown_symbol, shown_text, IsShown, GivesSome, IsUnshown};
 ghost use Rattle.store_reports.specs.declared.showing.ShowError.TheVariants as showing;
 
 use crate::escaped::push_escaped;
+use crate::homes::{AskedSymbol, shown_by_home};
+use crate::json::push_string_member;
 use crate::selection::{Layout, Selection};
 use canon_printer::print;
 use lisp_object::{Bytes, Datum};
@@ -26,6 +28,9 @@ pub enum ShowError {
     /// There is no package of the name that is asked for.
     #[error("there is no package of this name (a name is given as the store has it, mostly in upper case)")]
     NoPackage,
+    /// No symbol that is asked for is printed so.
+    #[error("there is no such symbol (a symbol is given as it is printed, mostly in upper case)")]
+    NoSymbol,
     /// No property that is asked for has an indicator of this name.
     #[error("no property has an indicator of this name (a name is given without its package, mostly in upper case)")]
     NoIndicator,
@@ -40,12 +45,12 @@ impl From<AllocError> for ShowError {
 }
 
 /// Those properties of a world that are asked for, in the order of the world: of the symbols by their homes and names, and of each in
-/// the order of its list.
+/// the order of its list. Where a symbol is asked for, its home comes first.
 ///
 /// # Errors
 ///
-/// `NoPackage` where a package is asked for that there is not; `NoIndicator` where an indicator is asked for that none of the
-/// properties has. Out of memory.
+/// `NoPackage` where a package is asked for that there is not; `NoSymbol` where a symbol is; `NoIndicator` where an indicator is asked for
+/// that none of the properties has. Out of memory.
 pub fn show(alloc: Global, world: &World, selection: &Selection<'_>) -> Result<Vec<u8>, ShowError>
     ensures shown { IfOk result (λ text. IsShown selection.now world.now.0 text.items) }
     ensures refused { IfErr result (IsUnshown selection.now world.now.0) }
@@ -53,21 +58,38 @@ pub fn show(alloc: Global, world: &World, selection: &Selection<'_>) -> Result<V
     if !has_wanted(world, selection) {
         return Err(ShowError::NoPackage);
     }
-    let text = shown_text(alloc, world, selection)?;
+    let text = asked_text(alloc, world, selection)?;
+    if selection.symbol.is_some() {
+        return some_text(text, ShowError::NoSymbol);
+    }
     if selection.indicator.is_some() {
-        return some_text(text);
+        return some_text(text, ShowError::NoIndicator);
     }
     Ok(text)
 }
 
-// The text of some properties.
-fn some_text(text: Vec<u8>) -> Result<Vec<u8>, ShowError>
-    ensures { GivesSome text.items result }
+// A text of something, or this refusal.
+fn some_text(text: Vec<u8>, none: ShowError) -> Result<Vec<u8>, ShowError>
+    ensures { GivesSome none text.items result }
 {
     if text.is_empty() {
-        return Err(ShowError::NoIndicator);
+        return Err(none);
     }
     Ok(text)
+}
+
+// The symbol that is asked for, or the properties.
+fn asked_text(
+    alloc: Global,
+    world: &World,
+    selection: &Selection<'_>,
+) -> Result<Vec<u8>, AllocError>
+    ensures { IfOk result (λ text. text.items ≡ asked_text selection.now world.now.0) }
+{
+    match selection.symbol {
+        Some(symbol) => shown_by_home(alloc, world, &AskedSymbol { selection, symbol }),
+        None => shown_text(alloc, world, selection),
+    }
 }
 
 // The properties that are asked for.
@@ -113,9 +135,9 @@ fn push_lists(
     Ok(())
 }
 
-// Adds those properties of a symbol that are asked for.
+/// Adds those properties of a symbol that are asked for.
 #[tactic(auto, unfolding(crate::specs::Shown::shown_list))]
-fn push_list(
+pub(crate) fn push_list(
     alloc: Global,
     text: &mut Vec<u8>,
     world: &World,
@@ -203,7 +225,28 @@ fn push_property(
     match layout {
         Layout::Lines => push_line(text, symbol, indicator, value),
         Layout::Forms => push_form(text, symbol, indicator, value),
+        Layout::Json => push_object(text, symbol, indicator, value),
     }
+}
+
+#[tactic(auto, unfolding(crate::specs::Shown::property_text))]
+fn push_object(
+    text: &mut Vec<u8>,
+    symbol: &[u8],
+    indicator: &[u8],
+    value: &[u8],
+) -> Result<(), AllocError>
+    ensures { OnOk result (text.new.items
+        ≡ text.old.items ++ property_text Layout.Json symbol.now indicator.now value.now) }
+{
+    text.push(b'{')?;
+    push_string_member(text, b"symbol", symbol)?;
+    text.push(b',')?;
+    push_string_member(text, b"indicator", indicator)?;
+    text.push(b',')?;
+    push_string_member(text, b"value", value)?;
+    text.extend_from_slice(b"}\n")?;
+    Ok(())
 }
 
 #[tactic(auto, unfolding(crate::specs::Shown::property_text))]
@@ -245,9 +288,9 @@ fn push_form(
     Ok(())
 }
 
-// The text of a symbol in COMMON-LISP-USER. The names of a world are bytes below 128; of others nothing is written.
+/// The text of a symbol in COMMON-LISP-USER. The names of a world are bytes below 128; of others nothing is written.
 #[tactic(auto, unfolding(crate::specs::Shown::shown_symbol))]
-fn symbol_text(
+pub(crate) fn symbol_text(
     alloc: Global,
     packages: &Packages,
     home: &[u8],

@@ -9,7 +9,7 @@ from typing import TypeVar
 from .alone import alone
 from .answers import refusal_of
 from .errors import BrokenStoreError, ClosedStoreError, FaultError, NestedCallError, RefusedError
-from .library import EXISTING, Figures, Library, calls_of, find_library
+from .library import EXISTING, RATIO, Figures, Library, calls_of, checked_ratio, find_library
 from .messages import MessageStore
 from .naming import NAMING_QUESTION
 from .printer import check_characters
@@ -35,6 +35,9 @@ class EmbeddedStore(Store):
     `library` is the path of libpazturrok.so; without it PAZTURROK_LIBRARY names it, or the system finds it.
     With `existing` a folder that holds no store is refused. A FaultError tells why a store cannot be opened.
 
+    A call that wrote takes a snapshot once the file in use has 1 MiB and is `snapshot_ratio` times as long as when it
+    was begun; 0 is never.
+
     After a fork the child has no store: its calls raise BrokenStoreError.
     """
 
@@ -45,15 +48,17 @@ class EmbeddedStore(Store):
         *,
         existing: bool = False,
         unicode: bool = True,
+        snapshot_ratio: int = RATIO,
     ) -> None:
         self._words = []
         self._folder = os.fspath(folder)
         self._flags = EXISTING if existing else 0
+        self._ratio = checked_ratio(snapshot_ratio)
         self._calls = calls_of(find_library(library))
         self._begin(None, None, unicode)
 
     def _start(self) -> Link:
-        return Library(self._folder, self._calls, self._flags)
+        return Library(self._folder, self._calls, self._flags, self._ratio)
 
     def _exchange(self, texts: list[str], answers: list[str], seconds: float | None) -> None:
         """Executes the texts. No answer is left half read, so only a fault breaks the store."""
@@ -108,7 +113,7 @@ class EmbeddedStore(Store):
 class EmbeddedMessageStore(MessageStore):
     """A store in this process that carries out messages, each once, and answers questions. Threads may share it.
 
-    `library` and `existing` are those of EmbeddedStore. A store that was closed or killed and is opened again tells
+    `library`, `existing` and `snapshot_ratio` are those of EmbeddedStore. A store that was closed or killed and is opened again tells
     its `position`: what has a number up to it is carried out, and nothing over it has written.
     """
 
@@ -119,9 +124,11 @@ class EmbeddedMessageStore(MessageStore):
         *,
         existing: bool = False,
         unicode: bool = True,
+        snapshot_ratio: int = RATIO,
     ) -> None:
         self._folder = os.fspath(folder)
         self._flags = EXISTING if existing else 0
+        self._ratio = checked_ratio(snapshot_ratio)
         self._calls = calls_of(find_library(library))
         self._library: Library | None = None
         self._begin(unicode)
@@ -165,7 +172,7 @@ class EmbeddedMessageStore(MessageStore):
         return self._last
 
     def _open(self) -> int:
-        self._library = Library(self._folder, self._calls, self._flags)
+        self._library = Library(self._folder, self._calls, self._flags, self._ratio)
         try:
             position = self._call(lambda library: library.position())
             self._ask_naming()

@@ -15,6 +15,8 @@ RESCUE = 1
 """Forms are read under the standard readtable, in COMMON-LISP-USER, in base 10."""
 EXISTING = 1
 """What is missing is not made."""
+RATIO = 10
+"""So many times the half in use grows before a store takes a snapshot by itself, if it has 1 MiB then."""
 
 DEVICE = 60
 REOPEN = 61
@@ -75,6 +77,8 @@ class Calls:
         self.ask.argtypes = [store, text, size, answer, length]
         self.snapshot = library.pazturrok_snapshot
         self.snapshot.argtypes = [store]
+        self.snapshot_ratio = library.pazturrok_snapshot_ratio
+        self.snapshot_ratio.argtypes = [store, ctypes.c_uint64]
         self.figures_of = library.pazturrok_figures_of
         self.figures_of.argtypes = [store, ctypes.POINTER(_Figures)]
         self.fault_of = library.pazturrok_fault_of
@@ -107,10 +111,17 @@ def calls_of(path: str) -> Calls:
     return _loaded[path]
 
 
+def checked_ratio(ratio: int) -> int:
+    """How many times a half grows before a snapshot: a number of 64 bits, 0 for never."""
+    if not 0 <= ratio < 1 << 64:
+        raise ValueError("snapshot_ratio is a number from 0 to 18446744073709551615")
+    return ratio
+
+
 class Library:
     """An open store of the library. It belongs to one thread at a time."""
 
-    def __init__(self, folder: str, calls: Calls, flags: int) -> None:
+    def __init__(self, folder: str, calls: Calls, flags: int, ratio: int = RATIO) -> None:
         self._calls = calls
         self._store = ctypes.c_uint64()
         self._answer = ctypes.c_void_p()
@@ -123,6 +134,7 @@ class Library:
         if calls.open(name, flags, ctypes.byref(self._store), ctypes.byref(fault)):
             raise calls.fault(fault, folder)
         self._close = weakref.finalize(self, calls.close, self._store.value)
+        calls.snapshot_ratio(self._store, ratio)
 
     def exchange(
         self, texts: Sequence[str], answers: list[str], is_last: Callable[[str], bool], seconds: float | None

@@ -1,7 +1,7 @@
 // A form that was read and those that stand whole after it in a piece, as a turn that makes the lines which answer them.
-ghost use Rattle.std.specs.Prelude.{◌≡◌, [], IfOk};
+ghost use Rattle.std.specs.Prelude.{◌≡◌, IfOk};
 ghost use Rattle.plist_state.specs.State.{Worlds};
-ghost use Rattle.prevalence_store.specs.steps.Batch.{IsMarked, entries_in};
+ghost use Rattle.prevalence_store.specs.steps.Batch.{IsEmpty, IsMarked, entries_in};
 ghost use Rattle.prevalence_store.specs.steps.Gather.{AreTaken, MayBeTaken};
 
 use crate::batch::Batch;
@@ -33,7 +33,7 @@ impl WholeForms<'_> {
         batch: &mut Batch,
     ) -> Result<Option<Gathered>, AllocError>
         requires may { MayBeTaken R.Meaning.functions self.now world.old.0 }
-        requires none { batch.old.records.items ≡ [] }
+        requires none { IsEmpty batch.old }
         ensures taken { IfOk result (AreTaken R.Meaning.functions self.now
             world.old.0 world.new.0 (entries_in batch.new)) }
         ensures marks { (worlds : Worlds) → IsMarked worlds world.old.1

@@ -8,8 +8,10 @@ pub returns : goal.returns
 returns c =
     let f = found_of c.args.found.now in
     record {
-      in_package = c.get_str.ensures ∙ first_value-rows f (codes "package");
-      indicator = c.get_str-2.ensures ∙ first_value-rows f (codes "indicator");
-      like = c.get_str-3.ensures ∙ first_value-rows f (codes "like");
-      forms = c.flag_is_set.ensures ∙ ap is_set (c.get_str-4.ensures ∙ first_value-rows f (codes "forms"));
+      symbol = c.get_str.ensures ∙ first_value-rows f (codes "SYMBOL");
+      in_package = c.get_str-2.ensures ∙ first_value-rows f (codes "package");
+      indicator = c.get_str-3.ensures ∙ first_value-rows f (codes "indicator");
+      like = c.get_str-4.ensures ∙ first_value-rows f (codes "like");
+      forms = c.flag_is_set.ensures ∙ ap is_set (c.get_str-5.ensures ∙ first_value-rows f (codes "forms"));
+      json = c.flag_is_set-2.ensures ∙ ap is_set (c.get_str-6.ensures ∙ first_value-rows f (codes "json"));
     }

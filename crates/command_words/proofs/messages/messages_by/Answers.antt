@@ -10,7 +10,7 @@ returns-in_err-get_str c =
     let found = found_of c.in_ok-_name.found.now in
     let flag = first_value found (codes "existing") in
     rw c.from_residual-in_err-get_str.ensures
-    (messages_found (subcommand_rows_of c.args.matches.now) found None flag (is_set flag) (number_in (codes "snapshot-every") (rows_of found)) c.in_ok-_name.ensures.rows (search rules) refl refl refl)
+    (messages_found (subcommand_rows_of c.args.matches.now) found None flag (is_set flag) (number_in 0 (codes "snapshot-every") (rows_of found)) c.in_ok-_name.ensures.rows (search rules) refl refl refl)
 
 pub returns : goal.returns
 returns c =

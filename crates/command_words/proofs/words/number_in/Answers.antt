@@ -7,5 +7,5 @@ use Rattle.command_words.proofs.words.number_in.Goals as goal
 pub returns : goal.returns
 returns c =
     c.unwrap_or.ensures
-    ∙ number_read_in (λ text r. ParsesUnsigned 64 10 text r × ExplainsUnsignedError 10 text r × HasUnsignedDigitsIfOk text r) (λ text r given. given.0) (found_of c.args.found.now)
+    ∙ number_read_in (λ text r. ParsesUnsigned 64 10 text r × ExplainsUnsignedError 10 text r × HasUnsignedDigitsIfOk text r) (λ text r given. given.0) c.args.other (found_of c.args.found.now)
     c.args.option.now c.get_one.result c.get_one.ensures.none c.get_one.ensures.value

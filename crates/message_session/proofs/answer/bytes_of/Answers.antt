@@ -4,8 +4,8 @@ use Rattle.std.proofs.lemmas.List.{append-nil}
 use Rattle.message_frames.specs.Frames.{answer_bytes, sent}
 use Rattle.message_frames.specs.declared.frame.Frame.{Frame}
 use Rattle.message_session.specs.Answers.{answers_to}
-use Rattle.prevalence_store.specs.declared.messages.request.Answer.{Answer}
-use Rattle.prevalence_store.specs.messages.Rounds.{told_in}
+use Rattle.messages.specs.declared.request.Answer.{Answer}
+use Rattle.messages.specs.Rounds.{told_in}
 use Rattle.message_session.proofs.answer.bytes_of.Goals as goal
 
 abbrev texts_of : List Frame → List Answer → List ℕ

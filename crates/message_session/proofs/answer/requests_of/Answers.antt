@@ -4,7 +4,7 @@ use Rattle.message_frames.specs.Frames.{sent}
 use Rattle.message_frames.specs.declared.frame.Frame.{Frame}
 use Rattle.message_session.specs.Answers.{message_number, parts_of_frame, parts_of_request}
 use Rattle.message_session.proofs.Requests.{as_many}
-use Rattle.prevalence_store.specs.declared.messages.request.Request.{Request}
+use Rattle.messages.specs.declared.request.Request.{Request}
 use Rattle.message_session.proofs.answer.requests_of.Goals as goal
 
 abbrev asked_by_first : List Frame → ℕ → List (Option ℕ × List ℕ)

@@ -19,9 +19,9 @@ use Rattle.message_session.proofs.Stops.{untaken}
 use Rattle.plist_state.specs.State.{WorldState}
 use Rattle.prevalence_store.specs.Theorem.{Keeps}
 use Rattle.prevalence_store.specs.calls.Streams.{Writes, WritesPart}
-use Rattle.prevalence_store.specs.declared.messages.request.Request.{Request}
-use Rattle.prevalence_store.specs.messages.Calls.{AnswersRequests}
-use Rattle.prevalence_store.specs.messages.Rounds.{told_in}
+use Rattle.messages.specs.declared.request.Request.{Request}
+use Rattle.messages.specs.Calls.{AnswersRequests}
+use Rattle.messages.specs.Rounds.{told_in}
 use Rattle.message_session.proofs.answer.take_frames.Given.{Over}
 use Rattle.message_session.proofs.answer.take_frames.Goals as goal
 use Rattle.message_session.proofs.answer.take_frames.Goals.{In-Ok-bytes_of}
@@ -42,9 +42,9 @@ all_of g c = take-append-drop (count_of g c) (map sent c.args.frames.now)
 -- what was asked and answered
 given : (g : Over) (c : In-Ok-bytes_of g) (w : WorldState) → c.args.store.now.world ≡ Some w
     → (requests : List Request) × AskAlike requests (taken g c)
-    × AnswersRequests g.R.Meaning.Meaning.functions g.D.Disk.state c.args.store.now c.answer_first_requests.new.self w c.args.course.now.last requests (Ok c.in-Ok-answer_first_requests.replies)
+    × AnswersRequests g.R.Meaning.Meaning.functions g.D.Disk.state c.args.store.now c.answer_first_requests.new.store w c.args.course.now.last requests (Ok c.in-Ok-answer_first_requests.replies)
 given g c w known =
-    of_first g.R.Meaning.Meaning.functions g.D.Disk.state c.args.store.now c.answer_first_requests.new.self w c.args.course.now.last (map sent c.args.frames.now) c.as_slice.result.now
+    of_first g.R.Meaning.Meaning.functions g.D.Disk.state c.args.store.now c.answer_first_requests.new.store w c.args.course.now.last (map sent c.args.frames.now) c.as_slice.result.now
     c.in-Ok-answer_first_requests.replies c.len-count.result (omega (arith, c.len-count.ensures, c.in-Ok-answer_first_requests.replies.answers.ok.0)) (subst (λ rs. AskAlike rs (map sent c.args.frames.now)) (sym c.as_slice.ensures.value) c.in-Ok.ensures.pairs)
     (c.in-Ok-answer_first_requests.ensures.answer w known)
 
@@ -56,15 +56,15 @@ bytes_made g c w known =
     c.in-Ok-bytes_of.ensures
     ∙ ap (λ answers. flat_map answer_bytes (answers_to (map sent (take (count_of g c) c.args.frames.now)) (map told_in answers))) c.as_slice-2.ensures.value
     ∙ ap (λ fs. flat_map answer_bytes (answers_to fs (map told_in c.in-Ok-answer_first_requests.replies.answers.items))) (as_taken g c)
-    ∙ bytes_are g.R.Meaning.Meaning.functions g.D.Disk.state c.args.store.now c.answer_first_requests.new.self w c.args.course.now.last
+    ∙ bytes_are g.R.Meaning.Meaning.functions g.D.Disk.state c.args.store.now c.answer_first_requests.new.store w c.args.course.now.last
     (c.its_world_is_sound.ensures w known) (taken g c) asked.0 asked.1 c.in-Ok-answer_first_requests.replies asked.2
 
 -- the store after the requests
 stands : (g : Over) (c : In-Ok-bytes_of g) (w : WorldState) → c.args.store.now.world ≡ Some w
-    → HasCarriedOut g.R.Meaning.Meaning.functions c.args.course.now.last w (taken g c) c.in-Ok-answer_first_requests.replies.last c.answer_first_requests.new.self
+    → HasCarriedOut g.R.Meaning.Meaning.functions c.args.course.now.last w (taken g c) c.in-Ok-answer_first_requests.replies.last c.answer_first_requests.new.store
 stands g c w known =
     let asked = given g c w known in
-    carried_out g.R.Meaning.Meaning.functions g.D.Disk.state c.args.store.now c.answer_first_requests.new.self w c.args.course.now.last
+    carried_out g.R.Meaning.Meaning.functions g.D.Disk.state c.args.store.now c.answer_first_requests.new.store w c.args.course.now.last
     (c.its_world_is_sound.ensures w known) (taken g c) asked.0 asked.1 c.in-Ok-answer_first_requests.replies asked.2
 
 pub returns-in-Err-write_answers-clause-takes : goal.returns-in-Err-write_answers-clause-takes
@@ -74,15 +74,15 @@ returns-in-Err-write_answers-clause-takes g c = λ w known.
     let last = c.args.course.now.last in
     let held = g.O.AnswerRecipient.contents c.args.output.now in
     let written = g.O.AnswerRecipient.contents c.write_answers.new.self in
-    subst (λ fs. Breaks functions last w g.D.Disk.state c.answer_first_requests.new.self held written fs (Fault 68)) (all_of g here)
-    (breaks_unwritten functions last w (sound_tidy w (c.its_world_is_sound.ensures w known)) g.D.Disk.state c.answer_first_requests.new.self held written
+    subst (λ fs. Breaks functions last w g.D.Disk.state c.answer_first_requests.new.store held written fs (Fault 68)) (all_of g here)
+    (breaks_unwritten functions last w (sound_tidy w (c.its_world_is_sound.ensures w known)) g.D.Disk.state c.answer_first_requests.new.store held written
     (taken g here) (drop (count_of g here) (map sent c.args.frames.now)) (c.in-Ok-answer_first_requests.replies.last, stands g here w known)
     (subst (WritesPart held written) (c.as_slice-3.ensures.value ∙ bytes_made g here w known) c.in-Err-write_answers.ensures.part))
 
 -- the frames were answered
 answered : (g : Over) (c : In-Ok-bytes_of g) (w : WorldState) → c.args.store.now.world ≡ Some w → (written : Option (List ℕ)) → (bytes : List ℕ) → bytes ≡ c.in-Ok-bytes_of.bytes.items
     → Writes (g.O.AnswerRecipient.contents c.args.output.now) written bytes
-    → AreFramesAnswered g.R.Meaning.Meaning.functions c.args.course.now.last w g.D.Disk.state c.answer_first_requests.new.self (g.O.AnswerRecipient.contents c.args.output.now) written
+    → AreFramesAnswered g.R.Meaning.Meaning.functions c.args.course.now.last w g.D.Disk.state c.answer_first_requests.new.store (g.O.AnswerRecipient.contents c.args.output.now) written
     (answered_bytes g.R.Meaning.Meaning.functions c.args.course.now.last w) (taken g c) c.in-Ok-answer_first_requests.replies.last
 answered g c w known written bytes are writes =
     record { after = stands g c w known; output = subst (Writes (g.O.AnswerRecipient.contents c.args.output.now) written) (are ∙ bytes_made g c w known) writes }
@@ -107,7 +107,7 @@ returns-clause-takes g c = λ w known.
     let written = g.O.AnswerRecipient.contents c.write_answers.new.self in
     let first = answered g here w known written c.as_slice-3.result.now c.as_slice-3.ensures.value c.in-Ok-write_answers.ensures.whole in
     subst (λ fs. Breaks functions last w g.D.Disk.state c.renew_if_due.new.store held written fs c.in-Err-renew_if_due.ended) (all_of g here)
-    (breaks_unrenewed functions last w (sound_tidy w (c.its_world_is_sound.ensures w known)) g.D.Disk.state c.answer_first_requests.new.self c.renew_if_due.new.store held written
+    (breaks_unrenewed functions last w (sound_tidy w (c.its_world_is_sound.ensures w known)) g.D.Disk.state c.answer_first_requests.new.store c.renew_if_due.new.store held written
     (taken g here) (drop (count_of g here) (map sent c.args.frames.now)) c.in-Ok-answer_first_requests.replies.last first c.in-Err-renew_if_due.ended
     (c.in-Err-renew_if_due.ensures.renews first.after.left first.after.known))
 
@@ -118,21 +118,21 @@ returns-in_default-bytes_of-clause-takes g c = λ w known.
     let held = g.O.AnswerRecipient.contents c.args.output.now in
     let frames = map sent c.args.frames.now in
     let count = c.len-count.result in
-    let asked = of_first functions g.D.Disk.state c.args.store.now c.answer_first_requests.new.self w last frames c.as_slice.result.now
+    let asked = of_first functions g.D.Disk.state c.args.store.now c.answer_first_requests.new.store w last frames c.as_slice.result.now
     c.in-Ok-answer_first_requests.replies c.len-count.result (omega (arith, c.len-count.ensures, c.in-Ok-answer_first_requests.replies.answers.ok.0)) (subst (λ rs. AskAlike rs frames) (sym c.as_slice.ensures.value) c.in-Ok.ensures.pairs)
     (c.in-Ok-answer_first_requests.ensures.answer w known) in
-    subst (λ fs. Breaks functions last w g.D.Disk.state c.answer_first_requests.new.self held held fs (Fault 90)) (take-append-drop count frames)
-    (breaks_silent functions last w (sound_tidy w (c.its_world_is_sound.ensures w known)) g.D.Disk.state c.answer_first_requests.new.self held
+    subst (λ fs. Breaks functions last w g.D.Disk.state c.answer_first_requests.new.store held held fs (Fault 90)) (take-append-drop count frames)
+    (breaks_silent functions last w (sound_tidy w (c.its_world_is_sound.ensures w known)) g.D.Disk.state c.answer_first_requests.new.store held
     (take count frames) (drop count frames) (
       c.in-Ok-answer_first_requests.replies.last,
-      carried_out functions g.D.Disk.state c.args.store.now c.answer_first_requests.new.self w last
+      carried_out functions g.D.Disk.state c.args.store.now c.answer_first_requests.new.store w last
           (c.its_world_is_sound.ensures w known) (take count frames) asked.0 asked.1 c.in-Ok-answer_first_requests.replies asked.2,
     ))
 
 pub returns-in-Err-clause-takes : goal.returns-in-Err-clause-takes
 returns-in-Err-clause-takes g c = λ w known.
     let functions = g.R.Meaning.Meaning.functions in
-    untaken functions c.args.course.now.last w (sound_tidy w (c.its_world_is_sound.ensures w known)) g.D.Disk.state c.args.store.now c.answer_first_requests.new.self known
+    untaken functions c.args.course.now.last w (sound_tidy w (c.its_world_is_sound.ensures w known)) g.D.Disk.state c.args.store.now c.answer_first_requests.new.store known
     (g.O.AnswerRecipient.contents c.args.output.now) (map sent c.args.frames.now) c.as_slice.result.now
     (subst (λ rs. AskAlike rs (map sent c.args.frames.now)) (sym c.as_slice.ensures.value) c.in-Ok.ensures.pairs) c.in-Err.number
     (c.in-Err.ensures.answer w known) (omega (arith, ap length c.as_slice.ensures.value, c.in-Ok.ensures.many, c.requires.any)) c.in-Err.ensures.unchanged c.stop_after.result c.stop_after.ensures
@@ -147,8 +147,8 @@ write_answers-requires g c =
     let here = (goal.at.write_answers-requires g c).In-Ok-bytes_of in
     record {
       stored = subst (λ fs. (account : Account g.row.D.Denot) → g.O.AnswerRecipient.account c.args.output.now ≡ Some account
-          → AreStored g.R.Meaning.Meaning.functions g.D.Disk.state account c.answer_first_requests.new.self fs c.as_slice-3.result.now) (sym (as_taken g here))
-          (answers_stored g.R.Meaning.Meaning.functions g.D.Disk.state g.met.D.Disk.sound (g.O.AnswerRecipient.account c.args.output.now) c.args.store.now c.answer_first_requests.new.self c.args.course.now.last
+          → AreStored g.R.Meaning.Meaning.functions g.D.Disk.state account c.answer_first_requests.new.store fs c.as_slice-3.result.now) (sym (as_taken g here))
+          (answers_stored g.R.Meaning.Meaning.functions g.D.Disk.state g.met.D.Disk.sound (g.O.AnswerRecipient.account c.args.output.now) c.args.store.now c.answer_first_requests.new.store c.args.course.now.last
           c.requires.rests (taken g here) (come g here) c.in-Ok-answer_first_requests.replies (given g here) c.as_slice-3.result.now
           (λ w known. c.as_slice-3.ensures.value ∙ bytes_made g here w known));
     }
@@ -156,24 +156,24 @@ write_answers-requires g c =
 -- where it stands once the answers were handed on
 kept : (g : Over) (c : In-Ok-bytes_of g) (now : Option (Account g.row.D.Denot))
     → ((later : Account g.row.D.Denot) → now ≡ Some later
-    → option_map (with_frames g.R.Meaning.Meaning.functions (map sent (take (count_of g c) c.args.frames.now)) c.answer_first_requests.new.self) (g.O.AnswerRecipient.account c.args.output.now) ≡ Some later)
+    → option_map (with_frames g.R.Meaning.Meaning.functions (map sent (take (count_of g c) c.args.frames.now)) c.answer_first_requests.new.store) (g.O.AnswerRecipient.account c.args.output.now) ≡ Some later)
     → (later : Account g.row.D.Denot) → now ≡ Some later
-    → option_map (with_frames g.R.Meaning.Meaning.functions (taken g c) c.answer_first_requests.new.self) (g.O.AnswerRecipient.account c.args.output.now) ≡ Some later
+    → option_map (with_frames g.R.Meaning.Meaning.functions (taken g c) c.answer_first_requests.new.store) (g.O.AnswerRecipient.account c.args.output.now) ≡ Some later
 kept g c now handed later is =
-    subst (λ fs. option_map (with_frames g.R.Meaning.Meaning.functions fs c.answer_first_requests.new.self) (g.O.AnswerRecipient.account c.args.output.now) ≡ Some later) (as_taken g c) (handed later is)
+    subst (λ fs. option_map (with_frames g.R.Meaning.Meaning.functions fs c.answer_first_requests.new.store) (g.O.AnswerRecipient.account c.args.output.now) ≡ Some later) (as_taken g c) (handed later is)
 
 handed : (g : Over) (c : In-Ok-bytes_of g) (now : Option (Account g.row.D.Denot))
     → ((later : Account g.row.D.Denot) → now ≡ Some later
-    → option_map (with_frames g.R.Meaning.Meaning.functions (map sent (take (count_of g c) c.args.frames.now)) c.answer_first_requests.new.self) (g.O.AnswerRecipient.account c.args.output.now) ≡ Some later)
-    → ((w : WorldState) → c.answer_first_requests.new.self.world ≡ Some w → IsHonest (g.D.Disk.state c.answer_first_requests.new.self.disk) → Keeps g.R.Meaning.Meaning.functions (g.D.Disk.state c.answer_first_requests.new.self.disk) w)
-    → Rests g.R.Meaning.Meaning.functions g.D.Disk.state now c.answer_first_requests.new.self c.in-Ok-answer_first_requests.replies.last
+    → option_map (with_frames g.R.Meaning.Meaning.functions (map sent (take (count_of g c) c.args.frames.now)) c.answer_first_requests.new.store) (g.O.AnswerRecipient.account c.args.output.now) ≡ Some later)
+    → ((w : WorldState) → c.answer_first_requests.new.store.world ≡ Some w → IsHonest (g.D.Disk.state c.answer_first_requests.new.store.disk) → Keeps g.R.Meaning.Meaning.functions (g.D.Disk.state c.answer_first_requests.new.store.disk) w)
+    → Rests g.R.Meaning.Meaning.functions g.D.Disk.state now c.answer_first_requests.new.store c.in-Ok-answer_first_requests.replies.last
 handed g c now hands keeps =
-    rests_handed g.R.Meaning.Meaning.functions g.D.Disk.state g.met.D.Disk.sound (g.O.AnswerRecipient.account c.args.output.now) c.args.store.now c.answer_first_requests.new.self c.args.course.now.last
+    rests_handed g.R.Meaning.Meaning.functions g.D.Disk.state g.met.D.Disk.sound (g.O.AnswerRecipient.account c.args.output.now) c.args.store.now c.answer_first_requests.new.store c.args.course.now.last
     c.requires.rests (taken g c) (come g c) c.in-Ok-answer_first_requests.replies (given g c) now (kept g c now hands) keeps
 
 pub returns-in-Err-clause-rests : goal.returns-in-Err-clause-rests
 returns-in-Err-clause-rests g c =
-    unanswered g.R.Meaning.Meaning.functions g.D.Disk.state g.met.D.Disk.sound (g.O.AnswerRecipient.account c.args.output.now) c.args.store.now c.answer_first_requests.new.self c.args.course.now.last
+    unanswered g.R.Meaning.Meaning.functions g.D.Disk.state g.met.D.Disk.sound (g.O.AnswerRecipient.account c.args.output.now) c.args.store.now c.answer_first_requests.new.store c.args.course.now.last
     c.requires.rests (map sent c.args.frames.now) c.requires.next c.as_slice.result.now
     (subst (λ rs. AskAlike rs (map sent c.args.frames.now)) (sym c.as_slice.ensures.value) c.in-Ok.ensures.pairs) c.in-Err.number c.in-Err.ensures.answer c.in-Err.ensures.unchanged c.stop_after.result c.stop_after.ensures
 
@@ -181,35 +181,35 @@ pub returns-in_default-bytes_of-clause-rests : goal.returns-in_default-bytes_of-
 returns-in_default-bytes_of-clause-rests g c =
     let frames = map sent c.args.frames.now in
     let count = c.len-count.result in
-    none_told g.R.Meaning.Meaning.functions g.D.Disk.state g.met.D.Disk.sound (g.O.AnswerRecipient.account c.args.output.now) c.args.store.now c.answer_first_requests.new.self c.args.course.now.last
+    none_told g.R.Meaning.Meaning.functions g.D.Disk.state g.met.D.Disk.sound (g.O.AnswerRecipient.account c.args.output.now) c.args.store.now c.answer_first_requests.new.store c.args.course.now.last
     c.requires.rests (take count frames) (λ account is. next_taken account frames count (c.requires.next account is)) c.in-Ok-answer_first_requests.replies
-    (λ w known. of_first g.R.Meaning.Meaning.functions g.D.Disk.state c.args.store.now c.answer_first_requests.new.self w c.args.course.now.last frames c.as_slice.result.now
+    (λ w known. of_first g.R.Meaning.Meaning.functions g.D.Disk.state c.args.store.now c.answer_first_requests.new.store w c.args.course.now.last frames c.as_slice.result.now
     c.in-Ok-answer_first_requests.replies c.len-count.result (omega (arith, c.len-count.ensures, c.in-Ok-answer_first_requests.replies.answers.ok.0)) (subst (λ rs. AskAlike rs frames) (sym c.as_slice.ensures.value) c.in-Ok.ensures.pairs)
     (c.in-Ok-answer_first_requests.ensures.answer w known))
 
 pub returns-in-Err-write_answers-clause-rests : goal.returns-in-Err-write_answers-clause-rests
 returns-in-Err-write_answers-clause-rests g c =
     let now = g.O.AnswerRecipient.account c.write_answers.new.self in
-    none_at_rest g.R.Meaning.Meaning.functions g.D.Disk.state g.met.D.Disk.sound now c.answer_first_requests.new.self c.in-Ok-answer_first_requests.replies.last
+    none_at_rest g.R.Meaning.Meaning.functions g.D.Disk.state g.met.D.Disk.sound now c.answer_first_requests.new.store c.in-Ok-answer_first_requests.replies.last
     (handed g (goal.at.returns-in-Err-write_answers-clause-rests g c).In-Ok-bytes_of now c.write_answers.ensures.kept c.keeps_its_world.ensures)
 
 pub returns-in-Ok-renew_if_due-clause-rests : goal.returns-in-Ok-renew_if_due-clause-rests
 returns-in-Ok-renew_if_due-clause-rests g c =
     let now = g.O.AnswerRecipient.account c.write_answers.new.self in
     subst (λ n. Rests g.R.Meaning.Meaning.functions g.D.Disk.state now c.renew_if_due.new.store n) (sym c.in-Ok-renew_if_due.ensures.last)
-    (rests_further g.R.Meaning.Meaning.functions g.D.Disk.state g.met.D.Disk.sound now c.answer_first_requests.new.self c.renew_if_due.new.store c.in-Ok-answer_first_requests.replies.last
+    (rests_further g.R.Meaning.Meaning.functions g.D.Disk.state g.met.D.Disk.sound now c.answer_first_requests.new.store c.renew_if_due.new.store c.in-Ok-answer_first_requests.replies.last
     (handed g (goal.at.returns-in-Ok-renew_if_due-clause-rests g c).In-Ok-bytes_of now c.write_answers.ensures.kept c.keeps_its_world.ensures)
     (λ w known. (c.in-Ok-renew_if_due.ensures.renews w known).0) (λ w known. (c.in-Ok-renew_if_due.ensures.renews w known).1))
 
 pub returns-clause-rests : goal.returns-clause-rests
 returns-clause-rests g c =
     let now = g.O.AnswerRecipient.account c.write_answers.new.self in
-    none_further g.R.Meaning.Meaning.functions g.D.Disk.state g.met.D.Disk.sound now c.answer_first_requests.new.self c.renew_if_due.new.store c.in-Ok-answer_first_requests.replies.last
+    none_further g.R.Meaning.Meaning.functions g.D.Disk.state g.met.D.Disk.sound now c.answer_first_requests.new.store c.renew_if_due.new.store c.in-Ok-answer_first_requests.replies.last
     (handed g (goal.at.returns-clause-rests g c).In-Ok-bytes_of now c.write_answers.ensures.kept c.keeps_its_world.ensures)
-    (λ w known. due_survives g.R.Meaning.Meaning.functions g.D.Disk.state c.answer_first_requests.new.self c.renew_if_due.new.store w (Err c.in-Err-renew_if_due.ended) (c.in-Err-renew_if_due.ensures.renews w known))
+    (λ w known. due_survives g.R.Meaning.Meaning.functions g.D.Disk.state c.answer_first_requests.new.store c.renew_if_due.new.store w (Err c.in-Err-renew_if_due.ended) (c.in-Err-renew_if_due.ensures.renews w known))
 
 pub returns-in-Ok-renew_if_due-clause-more : goal.returns-in-Ok-renew_if_due-clause-more
 returns-in-Ok-renew_if_due-clause-more g c =
     let here = (goal.at.returns-in-Ok-renew_if_due-clause-more g c).In-Ok-bytes_of in
     let now = g.O.AnswerRecipient.account c.write_answers.new.self in
-    more_handed g.R.Meaning.Meaning.functions (g.O.AnswerRecipient.account c.args.output.now) now (taken g here) c.answer_first_requests.new.self (kept g here now c.write_answers.ensures.kept)
+    more_handed g.R.Meaning.Meaning.functions (g.O.AnswerRecipient.account c.args.output.now) now (taken g here) c.answer_first_requests.new.store (kept g here now c.write_answers.ensures.kept)

@@ -7,7 +7,7 @@ returns-in-Ok-begin_messages-clause-begun g c = λ w known full.
     let renewed = c.in-Ok.ensures.renews w known in
     let same = renewed.renews.left in
     let begins = c.in-Ok-begin_messages.ensures.begins w same in
-    let first = world_begun g.R.Meaning.Meaning.functions g.D.Disk.state c.renew_for_room.new.store c.begin_messages.new.self w c.in-Ok-begin_messages.position same begins in
+    let first = world_begun g.R.Meaning.Meaning.functions g.D.Disk.state c.renew_for_room.new.store c.begin_messages.new.store w c.in-Ok-begin_messages.position same begins in
     (first.0, record { renewed = c.renew_for_room.new.store; renews = inr (full, renewed); same = same; survives = renewed.survives; begins = begins; known = first.1 })
 
 pub returns-in-Err-clause-begun : goal.returns-in-Err-clause-begun

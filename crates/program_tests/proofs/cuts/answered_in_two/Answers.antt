@@ -3,10 +3,10 @@ use Rattle.std.specs.Prelude.{max}
 use Rattle.message_laws.specs.Batches.{all_of, at_first, in_batches}
 use Rattle.plist_state.specs.Sound.{IsSound}
 use Rattle.plist_state.specs.State.{WorldState}
-use Rattle.prevalence_store.specs.declared.messages.request.Request.{Request}
-use Rattle.prevalence_store.specs.messages.Answers.{Round, answered, begun, each_request}
-use Rattle.prevalence_store.specs.messages.Calls.{left_after}
-use Rattle.prevalence_store.specs.messages.Position.{position}
+use Rattle.messages.specs.declared.request.Request.{Request}
+use Rattle.messages.specs.Answers.{Round, answered, begun, each_request}
+use Rattle.messages.specs.Calls.{left_after}
+use Rattle.messages.specs.Position.{position}
 use Rattle.user_macros.specs.Functions.{Functions}
 use Rattle.program_tests.proofs.cuts.answered_in_two.Goals as goal
 

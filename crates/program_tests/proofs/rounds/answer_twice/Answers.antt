@@ -1,5 +1,5 @@
 use Rattle.std.proofs.Common.{List, [], ◌∷◌, Ok, IsSome, refl, sym, subst}
-use Rattle.prevalence_store.specs.messages.Calls.{AnswersRequests}
+use Rattle.messages.specs.Calls.{AnswersRequests}
 use Rattle.store_laws.specs.Rounds.{Step, requested, quiet, after_rounds, place_at}
 use Rattle.program_tests.proofs.rounds.answer_twice.Goals as goal
 
@@ -7,9 +7,9 @@ pub returns : goal.returns
 returns g c = λ w known honest keeps.
     let functions = g.M.Meaning.Meaning.functions in
     let state = g.D.Disk.state in
-    let once = c.answer_requests.new.self in
+    let once = c.answer_requests.new.store in
     let renewed = c.snapshot.new.self in
-    let again = c.answer_requests-2.new.self in
+    let again = c.answer_requests-2.new.store in
     let place = after_rounds functions (place_at c.args.last w) (c.args.first.now ∷ []) in
     let one = c.in-Ok.ensures.answer w known in
     let snapshot = c.in-Snapshotted.ensures.answer place.world one.logs.left in

@@ -9,7 +9,7 @@ pub returns-in-Show-clause-looks : goal.returns-in-Show-clause-looks
 returns-in-Show-clause-looks g c = shown_told _ _ _ _ _ _ _ _ _ c.in-Show.shown c.in-Show.is c.show_on.result c.show_on.ensures.looks
 
 pub returns-in-Info-clause-looks : goal.returns-in-Info-clause-looks
-returns-in-Info-clause-looks g c = figures_told _ _ _ _ _ _ _ _ _ c.in-Info.is c.info_on.result c.info_on.ensures.looks
+returns-in-Info-clause-looks g c = figures_told _ _ _ _ _ _ _ _ _ c.in-Info.part c.in-Info.is c.info_on.result c.info_on.ensures.looks
 
 pub returns-in-Log-clause-looks : goal.returns-in-Log-clause-looks
 returns-in-Log-clause-looks g c = log_told _ _ _ _ _ _ _ _ _ c.in-Log.records c.in-Log.is c.log_on.result c.log_on.ensures.lines c.log_on.ensures.none

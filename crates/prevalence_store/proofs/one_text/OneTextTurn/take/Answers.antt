@@ -13,19 +13,19 @@ returns-clause-again g c =
     let functions = g.R.Meaning.Meaning.functions in
     let turn = c.args.self.now in
     let w = c.args.world.now.0 in
-    let v = c.evaluate.new.world.0 in
-    let records = entries_in c.evaluate.new.batch in
-    IfOk-weaker c.evaluate.result (IsTurn turn.mode (accepts functions w turn.mode turn.text.now) w v (entries_in c.args.batch.now) records) _
+    let v = c.add_text.new.world.0 in
+    let records = entries_in c.add_text.new.self in
+    IfOk-weaker c.add_text.result (IsTurn turn.mode (accepts functions w turn.mode turn.text.now) w v (entries_in c.args.batch.now) records) _
     (λ (outcome : Outcome) turned. text_again functions turn.mode w turn.text.now v records outcome
-    (subst (λ (es : List LogRecord). IsTurn turn.mode (accepts functions w turn.mode turn.text.now) w v es records outcome) (ap entries_of c.requires.none) turned)) c.evaluate.ensures.turn
+    (subst (λ (es : List LogRecord). IsTurn turn.mode (accepts functions w turn.mode turn.text.now) w v es records outcome) (ap entries_of c.requires.none) turned)) c.add_text.ensures.turn
 
 pub returns-clause-fit : goal.returns-clause-fit
 returns-clause-fit g c =
     let functions = g.R.Meaning.Meaning.functions in
     let turn = c.args.self.now in
     let w = c.args.world.now.0 in
-    let v = c.evaluate.new.world.0 in
-    let records = entries_in c.evaluate.new.batch in
-    IfOk-weaker c.evaluate.result (IsTurn turn.mode (accepts functions w turn.mode turn.text.now) w v (entries_in c.args.batch.now) records) _
+    let v = c.add_text.new.world.0 in
+    let records = entries_in c.add_text.new.self in
+    IfOk-weaker c.add_text.result (IsTurn turn.mode (accepts functions w turn.mode turn.text.now) w v (entries_in c.args.batch.now) records) _
     (λ (outcome : Outcome) turned. text_fit functions turn.mode w turn.text.now v records outcome
-    (subst (λ (es : List LogRecord). IsTurn turn.mode (accepts functions w turn.mode turn.text.now) w v es records outcome) (ap entries_of c.requires.none) turned)) c.evaluate.ensures.turn
+    (subst (λ (es : List LogRecord). IsTurn turn.mode (accepts functions w turn.mode turn.text.now) w v es records outcome) (ap entries_of c.requires.none) turned)) c.add_text.ensures.turn

@@ -1,0 +1,161 @@
+"""What looks tell of a small store: a symbol and its home, names like a pattern, JSON that says the same as the lines,
+the figures of the files alone, and nothing more once the reader of the output has gone."""
+import json
+import os
+import subprocess
+from typing import Any, Callable, Dict, List, Tuple
+
+FORMS = rb"""
+(SETF (GET 'APPLE 'PRICE) 7)
+(SETF (GET 'APPLE 'NOTE) "a \"b\" \\ d
+e")
+(SETF (GET '|foo bar| 'PRICE) 170141183460469231731687303715884105727)
+(MAKE-PACKAGE "P")
+(SETF (GET 'P::APPLE '|in "dex"|) '(1 #\a "b"))
+(PROGN (SETF (GET 'C8 'V) 1) (SETF (GET 'C80 'V) 2) (SETF (GET 'XC8 'V) 3))
+(INTERN "BARE")
+"""
+
+NAMES_OF_WORLD = {"packages", "symbols", "symbols-with-properties", "properties"}
+
+Called = Tuple[int, str, str]
+
+
+class Looks:
+    """A store of these forms, and what is told of it."""
+
+    def __init__(self, program: str, room: str) -> None:
+        self.program, self.store = program, os.path.join(room, "told")
+        self.failures: List[str] = []
+        self.passed = 0
+        subprocess.run([program, "run", self.store], input=FORMS, stdout=subprocess.DEVNULL, check=True)
+
+    def check(self, name: str, found: object, wanted: object) -> None:
+        """Counts whether something was found that was wanted."""
+        if found == wanted:
+            self.passed += 1
+        else:
+            self.failures.append(f"looks: {name}:\n  got  {found!r}\n  want {wanted!r}")
+
+    def look(self, command: str, *words: str) -> Called:
+        """The status, the output and the faults of a look."""
+        done = subprocess.run([self.program, command, self.store, *words], capture_output=True, text=True, check=False)
+        return done.returncode, done.stdout, done.stderr
+
+    def told(self, command: str, *words: str) -> List[str]:
+        """The lines of a look that ends well."""
+        status, out, err = self.look(command, *words)
+        self.check(f"{command} {words} ends well", (status, err), (0, ""))
+        return out.splitlines()
+
+
+def escaped(text: str) -> str:
+    """A text for a line of a terminal."""
+    return "".join("\\\\" if c == "\\" else c if " " <= c <= "~" else f"\\x{ord(c):02X}" for c in text)
+
+
+SYMBOLS = (("APPLE", "COMMON-LISP-USER", 2), ("P::APPLE", "P", 1), ("|foo bar|", "COMMON-LISP-USER", 1),
+           ("BARE", "COMMON-LISP-USER", 0))
+
+
+def symbols(looks: Looks) -> None:
+    """A symbol, as it is printed."""
+    for name, home, count in SYMBOLS:
+        lines = [line for line in looks.told("show") if line.startswith(name + " ")]
+        looks.check(f"{name} has properties", len(lines), count)
+        looks.check(f"show {name}", looks.told("show", name), [f"home {home}", *lines])
+        forms = [form for form in looks.told("show", "--forms") if f"(GET '{name} " in form]
+        text = looks.told("show", name, "--forms")
+        setting = [form for form in text if "(GET" in form]
+        looks.check(f"show {name} --forms", (text[0], setting), (f"; home {home}", forms))
+        found = [json.loads(line) for line in looks.told("show", name, "--json")]
+        properties = [it for it in all_objects(looks) if it["symbol"] == name]
+        looks.check(f"show {name} --json", found, [{"symbol": name, "home": home}, *properties])
+    for name in ("NOPE", "apple", "foo bar", "P:APPLE", "Q::APPLE", ""):
+        status, out, err = looks.look("show", name)
+        is_told = err.startswith("error: there is no such symbol") and err.count("\n") == 1
+        looks.check(f"show {name!r}", (status, out, is_told), (2, "", True))
+    looks.check("a symbol of another package", looks.look("show", "APPLE", "--package", "P")[0], 2)
+    priced = looks.told("show", "APPLE", "--indicator", "PRICE")
+    looks.check("one of its properties", priced, ["home COMMON-LISP-USER", "APPLE PRICE 7"])
+
+
+PATTERNS = {"C8": ["C8"], "c8": ["C8"], "C8*": ["C8", "C80"], "*C8": ["C8", "XC8"], "*c8*": ["C8", "C80", "XC8"],
+            "*80": ["C80"], "C": [], "": [], "C8**": [], "*OO B*": ["|foo bar|"], "C800*": [], "*C800": []}
+
+
+def patterns(looks: Looks) -> None:
+    """Names like a pattern."""
+    for pattern, names in PATTERNS.items():
+        found = [line.rsplit(" ", 2)[0] for line in looks.told("show", "--like", pattern)]
+        looks.check(f"names like {pattern!r}", found, names)
+    for pattern in ("*", "**"):
+        looks.check(f"names like {pattern}", looks.told("show", "--like", pattern), looks.told("show"))
+
+
+def all_objects(looks: Looks) -> List[Dict[str, str]]:
+    """The properties, as JSON has them."""
+    return [json.loads(line) for line in looks.told("show", "--json")]
+
+
+def objects(looks: Looks) -> None:
+    """JSON says the same as the lines."""
+    shown = [" ".join(escaped(it[name]) for name in ("symbol", "indicator", "value")) for it in all_objects(looks)]
+    looks.check("show --json", shown, looks.told("show"))
+    records = [json.loads(line) for line in looks.told("log", "--json")]
+    lines = [f"{it['generation']}.{it['record']} {it['mode']} " + escaped(it["form"]) for it in records]
+    looks.check("log --json", lines, looks.told("log", "--places"))
+    later = [json.loads(line) for line in looks.told("log", "--json", "--from", "3")]
+    looks.check("log --json --from", later, records[2:])
+    status, out, err = looks.look("show", "--forms", "--json")
+    looks.check("forms and JSON", (status, out, "'--forms' cannot be used with '--json'" in err), (2, "", True))
+
+
+def ageless(named: Dict[str, Any]) -> Dict[str, Any]:
+    """The figures that stay the same while nothing is written."""
+    return {name: value for name, value in named.items() if not name.endswith("-age")}
+
+
+def figures(looks: Looks) -> None:
+    """Figures as lines and as JSON, with the world and without it."""
+    lines = dict(line.split(" ") for line in looks.told("info"))
+    whole = json.loads(looks.told("info", "--json")[0])
+    looks.check("names of info --json", list(whole), list(lines))
+    looks.check("info --json", {name: str(value) for name, value in ageless(whole).items()}, ageless(lines))
+    looks.check("numbers", {type(value) for name, value in whole.items() if name != "half"}, {int})
+    of_files = dict(line.split(" ") for line in looks.told("info", "--files"))
+    looks.check("names of info --files", list(of_files), [name for name in lines if name not in NAMES_OF_WORLD])
+    looks.check("info --files", ageless(of_files), {name: lines[name] for name in ageless(of_files)})
+    both = json.loads(looks.told("info", "--files", "--json")[0])
+    looks.check("names of both", list(both), list(of_files))
+    looks.check("info --files --json", ageless(both), {name: whole[name] for name in ageless(of_files)})
+
+
+UNREAD = (["show"], ["log"], ["info"], ["show", "--json"], ["dump", "--existing"], ["verify", "--existing"],
+          ["export", "--existing"])
+
+
+def unread(looks: Looks) -> None:
+    """A look whose reader has gone ends well, and says nothing. A session does not."""
+    for words in UNREAD:
+        read, write = os.pipe()
+        os.close(read)
+        line = [looks.program, words[0], looks.store, *words[1:]]
+        with subprocess.Popen(line, stdout=write, stderr=subprocess.PIPE) as running:
+            os.close(write)
+            err = running.communicate()[1]
+        looks.check(f"{words} without a reader", (running.returncode, err), (0, b""))
+    with open("/dev/full", "wb") as full:
+        done = subprocess.run([looks.program, "show", looks.store], stdout=full, stderr=subprocess.PIPE, check=False)
+    looks.check("an output that takes nothing", (done.returncode, done.stderr), (3, b"! 68 OUTPUT\n"))
+
+
+PARTS: List[Callable[[Looks], None]] = [symbols, patterns, objects, figures, unread]
+
+
+def check_all(program: str, room: str) -> Tuple[int, List[str]]:
+    """How much passed, and what did not."""
+    looks = Looks(program, room)
+    for part in PARTS:
+        part(looks)
+    return looks.passed, looks.failures

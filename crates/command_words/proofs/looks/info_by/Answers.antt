@@ -1,0 +1,13 @@
+use Rattle.std.proofs.Common.{◌∙◌, ap, codes}
+use Rattle.clap.specs.Words.{found_of}
+use Rattle.clap.proofs.WalkLemmas.{first_value-rows}
+use Rattle.command_words.specs.Rules.{is_set}
+use Rattle.command_words.proofs.looks.info_by.Goals as goal
+
+pub returns : goal.returns
+returns c =
+    let f = found_of c.args.found.now in
+    record {
+      files = c.flag_is_set.ensures ∙ ap is_set (c.get_str.ensures ∙ first_value-rows f (codes "files"));
+      json = c.flag_is_set-2.ensures ∙ ap is_set (c.get_str-2.ensures ∙ first_value-rows f (codes "json"));
+    }

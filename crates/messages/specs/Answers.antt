@@ -1,0 +1,133 @@
+-- What is answered to messages and questions one after the other, and what comes of them.
+use Rattle.std.specs.Prelude.{ℕ, ◌==◌, nat_le, max, Bool, false, ◌||◌, if◌then◌else◌, List, [], ◌∷◌, ◌++◌, fold, Option, None, Some, is_some, unwrap_or, Result, Ok, Err, codes}
+use Rattle.std.specs.Prelude.{decimal}
+use Rattle.std.specs.Prelude.{length}
+use Rattle.canon_printer.specs.Printed.{printed}
+use Rattle.form_eval.specs.Acceptance.{asked}
+use Rattle.gate_log.specs.Layout.{LogRecord}
+use Rattle.lisp_object.specs.Object.{Object}
+use Rattle.lisp_object.specs.Refusal.{name_of}
+use Rattle.lisp_object.specs.declared.refusal.TheConstants.{END_OF_FILE, TEXT_LEFT_OVER}
+use Rattle.lisp_operators.specs.Evaluation.{Evaluation}
+use Rattle.lisp_reading.specs.Reading.{Outcome as Reading, form, empty, refused}
+use Rattle.plist_state.specs.State.{WorldState}
+use Rattle.messages.specs.declared.request.Request.{Request}
+use Rattle.messages.specs.declared.request.TheConstants.{OLD_NUMBER, QUESTION_WRITES}
+use Rattle.messages.specs.declared.own.Own.{Own}
+use Rattle.messages.specs.declared.own.Own.TheVariants.{Clearing, Position}
+use Rattle.session_words.specs.declared.mode.Mode.TheVariants.{Current, Rescue}
+use Rattle.prevalence_store.specs.meaning.Acceptance.{Acceptance, accepts, logged, read_in}
+use Rattle.prevalence_store.specs.calls.ExecuteAll.{entries_of, left_by, told_of}
+use Rattle.messages.specs.Position.{own_left, own_text, position, position_property}
+use Rattle.user_macros.specs.Functions.{Functions}
+
+-- ---- one answer: the line that a session writes, without its newline
+
+-- a value, as it is printed in the world after its form
+abbrev pub value_text : WorldState → Object → List ℕ
+value_text world x = printed world.packages world.current_package x
+
+abbrev pub refusal_text : ℕ → List ℕ → List ℕ
+refusal_text number name = codes "! " ++ decimal number ++ 32 ∷ name
+
+-- a refusal of a form
+abbrev pub refusal_answer : ℕ → List ℕ
+refusal_answer number = refusal_text number (name_of number)
+
+-- a value or a refusal, in the world after it
+abbrev pub answer_in : WorldState → Result Object ℕ → List ℕ
+answer_in world (Ok x) = value_text world x
+answer_in world (Err number) = refusal_answer number
+
+-- what evaluation gave for a question: one that would write is refused
+abbrev pub answer_to_asked : Evaluation Object → List ℕ
+answer_to_asked (Ok done) = if done.wrote then refusal_text QUESTION_WRITES (codes "QUESTION-WRITES") else value_text done.state done.value
+answer_to_asked (Err number) = refusal_answer number
+
+abbrev pub answer_by_reading : Functions → WorldState → List ℕ → Reading → List ℕ
+answer_by_reading functions world text (form object start end next) =
+    if next == length text then answer_to_asked (asked functions.names world object) else refusal_answer TEXT_LEFT_OVER
+answer_by_reading functions world text empty = refusal_answer END_OF_FILE
+answer_by_reading functions world text (refused number at) = refusal_answer number
+
+-- the answer to a text that is asked in a world. The world stays as it is.
+abbrev pub answer_to_question : Functions → WorldState → List ℕ → List ℕ
+answer_to_question functions world text = answer_by_reading functions world text (read_in functions world Current text)
+
+-- ---- one after the other
+
+-- How far requests have come: the answers, and whether each is of a message that wrote; the number of the last message; the world
+-- after them, and the records that make it; and whether any message wrote.
+pub record Round : Type 0 where
+  pub told : List (List ℕ × Bool)
+  pub last : ℕ
+  pub left : WorldState
+  pub entries : List LogRecord
+  pub wrote : Bool
+
+-- Before the first, after a message of this number. The position is the number of a message too, so no number up to it is carried out.
+abbrev pub begun : ℕ → WorldState → Round
+begun last world = record { told = []; last = max last (unwrap_or (position world) 0); left = world; entries = []; wrote = false }
+
+-- one answer more
+abbrev pub with_answer : List ℕ → Bool → Round → Round
+with_answer text wrote round = record round { told = round.told ++ (text, wrote) ∷ [] }
+
+-- a form of the store's own more, and its record
+abbrev pub with_own : Own → Round → Round
+with_own own round = record round { left = own_left own round.left; entries = round.entries ++ logged Rescue (own_text own) ∷ [] }
+
+-- without the position
+abbrev pub cleared : Round → Round
+cleared round = if is_some (position_property round.left) then with_own Clearing round else round
+
+-- whether a text that gave this wrote
+abbrev pub wrote_by : Result Acceptance ℕ → Bool
+wrote_by (Ok given) = given.wrote
+wrote_by (Err number) = false
+
+-- a message more of this number, by what its text gives
+abbrev pub with_given : ℕ → Result Acceptance ℕ → Round → Round
+with_given number given round = record {
+  told = round.told ++ (answer_in (left_by round.left given) (told_of given), wrote_by given) ∷ [];
+  last = number;
+  left = left_by round.left given;
+  entries = round.entries ++ entries_of Current given;
+  wrote = round.wrote || wrote_by given;
+}
+
+-- a message is carried out in a world without the position
+abbrev pub given_in : Functions → ℕ → List ℕ → Round → Round
+given_in functions number text round = with_given number (accepts functions round.left Current text) round
+
+abbrev pub with_message : Functions → ℕ → List ℕ → Round → Round
+with_message functions number text round = given_in functions number text (cleared round)
+
+-- so is a question asked
+abbrev pub asked_in : Functions → List ℕ → Round → Round
+asked_in functions text round = with_answer (answer_to_question functions round.left text) false round
+
+abbrev pub with_asked : Functions → List ℕ → Round → Round
+with_asked functions text round = asked_in functions text (cleared round)
+
+-- a message whose number is not over the last one is refused, and does nothing
+abbrev pub with_old : Round → Round
+with_old round = with_answer (refusal_text OLD_NUMBER (codes "OLD-NUMBER")) false round
+
+abbrev pub by_number : Functions → Round → Option ℕ → List ℕ → Round
+by_number functions round None text = with_asked functions text round
+by_number functions round (Some number) text = if nat_le number round.last then with_old round else with_message functions number text round
+
+abbrev pub one_request : Functions → Round → Request → Round
+one_request functions round request = by_number functions round request.number request.text.now
+
+abbrev pub each_request : Functions → Round → List Request → Round
+each_request functions round requests = fold (λ far request. one_request functions far request) round requests
+
+-- The number of the last message becomes the position, if a message wrote.
+abbrev pub closed : Round → Round
+closed round = if round.wrote then with_own (Position round.last) round else round
+
+-- requests after these
+abbrev pub answered : Functions → Round → List Request → Round
+answered functions round requests = closed (each_request functions round requests)

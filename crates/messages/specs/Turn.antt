@@ -1,0 +1,34 @@
+-- What requests are as a turn.
+use Rattle.std.specs.Prelude.{◌≡◌, ℕ, List, [], map, Result, Ok, Err}
+use Rattle.gate_log.specs.Layout.{LogRecord}
+use Rattle.plist_state.specs.State.{WorldState}
+use Rattle.prevalence_store.specs.declared.failure.Failure.TheVariants.{Refused}
+use Rattle.messages.specs.declared.first_requests.FirstRequests.{FirstRequests}
+use Rattle.messages.specs.declared.request.Replies.{Replies}
+use Rattle.messages.specs.declared.request.Request.{Request}
+use Rattle.messages.specs.Answers.{Round, answered, begun}
+use Rattle.messages.specs.Calls.{RefusesOwn, entries_by, left_after}
+use Rattle.messages.specs.Fronts.{first_of}
+use Rattle.messages.specs.Rounds.{IsMade, told_in}
+use Rattle.user_macros.specs.Functions.{Functions}
+
+-- Requests have these answers, and these are the records that they need. Where no message wrote there is none, and the world is as it was.
+pub record AreReplied (functions : Functions) (world : WorldState) (round : Round) (left : WorldState) (records : List LogRecord) (replies : Replies) : Type 0 where
+  pub told : map told_in replies.answers.items ≡ round.told
+  pub last : replies.last ≡ round.last
+  pub made : IsMade functions world round
+  pub left_is : left ≡ left_after round.wrote world round.left
+  pub records_are : records ≡ entries_by round.wrote round.entries
+
+module _ (functions : Functions) (turn : FirstRequests) (world : WorldState) where
+  -- those that are to be answered together
+  abbrev pub front : List Request
+  front = first_of functions turn.most (begun turn.last world) turn.requests.now
+
+  abbrev pub round_of : Round
+  round_of = answered functions (begun turn.last world) front
+
+  -- what is made of them: replies, or the number with which a form of the store's own is refused
+  abbrev pub MakesReplies : (left : WorldState) → List LogRecord → Result Replies ℕ → Type 0
+  MakesReplies left records (Ok replies) = AreReplied functions world round_of left records replies
+  MakesReplies left records (Err number) = RefusesOwn functions (begun turn.last world) front (Refused number) × (left ≡ world) × (records ≡ [])

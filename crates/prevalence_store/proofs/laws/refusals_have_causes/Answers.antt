@@ -1,7 +1,0 @@
-use Rattle.prevalence_store.proofs.meaning.Numbered.{acceptance_is_numbered}
-use Rattle.prevalence_store.proofs.requests.ByNumber.{by_number}
-use Rattle.prevalence_store.proofs.laws.refusals_have_causes.Goals as goal
-
-pub returns : goal.returns
-returns g c = λ functions old new world last requests number refused.
-    by_number functions (acceptance_is_numbered functions) g.D.Disk.state old new world last requests number refused
