@@ -162,8 +162,9 @@ def way_back(folder, program):
         status, told = order(cluster, "seed", cluster.store(1))
         cluster.nodes[1].start()
         Client(cluster.places[1:]).request(b"do add-0", ADD)
-        seen = [value(cluster, place) for place in (0, 1)]
-        return faults + ([] if seen == ["6", "6"] and status == 0 else [f"after the way back the counters are {seen}: {told}"])
+        cluster.nodes[new_node(cluster)].start()
+        seen = [value(cluster, place) for place in (0, 1, 2)]
+        return faults + ([] if seen == ["6", "6", "6"] and status == 0 else [f"after the way back the counters are {seen}: {told}"])
     finally:
         cluster.end()
 
@@ -190,7 +191,10 @@ def versions(folder, program):
             faults += refused(cluster, 0, why)
         os.unlink(os.path.join(cluster.store(0), "replica"))
         node.start()
-        return faults + ([] if value(cluster, 0) == "6" else ["a node does not go on without its notes"])
+        faults += [] if value(cluster, 0) == "6" else ["a node does not go on without its notes"]
+        # whatever was written over the key of the log, a new store has all entries
+        cluster.nodes[new_node(cluster)].start()
+        return faults + ([] if value(cluster, 1) == "6" else [f"a new store comes to {value(cluster, 1)}"])
     finally:
         cluster.end()
 
