@@ -60,7 +60,7 @@ def lagging_store(folder, program):
     store = cluster.store_process(1)
     try:
         os.kill(store, signal.SIGSTOP)
-        client, sent, taken, deadline = Client(cluster.places[:1]), 0, 0, time.monotonic() + 2 * LONG
+        client, sent, taken, deadline = Client(cluster.places[:1]), 0, 0, time.monotonic() + 5 * LONG
         while taken < 1200 and time.monotonic() < deadline:
             sent += 1
             taken += client.request(b"do big-%d" % sent, BIG)[1] != NO_ROOM
