@@ -98,6 +98,33 @@ class PlaceTest(unittest.TestCase):
         self.assertEqual(tree(self.folder), self.OLD)
 
 
+class GiverTest(unittest.IsolatedAsyncioTestCase):
+    """A program that stands in for that of a store makes a copy, or none."""
+
+    async def copy(self, script):
+        with tempfile.TemporaryDirectory() as folder, self.assertLogs("pazturrok_node.seed"):
+            program = os.path.join(folder, "program")
+            written_tree(folder, {"program": "#!/bin/sh\n" + script})
+            os.chmod(program, 0o700)
+            node = mock.Mock(log=mock.Mock(token="one log"))
+            giver = seed.Giver("n0", program, folder, node)
+            async with giver.copy() as copy:
+                async with giver.copy() as other:
+                    self.assertEqual(other, seed.NO_ROOM)
+                found = copy if isinstance(copy, bytes) else b"".join([piece async for piece in copy.pieces()])
+            self.assertFalse(os.path.exists(os.path.join(folder, "given")))
+            return found
+
+    async def test_whole(self):
+        head, line, rest = (await self.copy('mkdir "$3"; printf ab > "$3/half-a"; printf c > "$3/half-b"')).split(b"\n")
+        self.assertEqual((head, rest), (b"seed %d" % (len(line) + 4), b"abc"))
+        self.assertIn(b'"log": "one log"', line)
+
+    async def test_none(self):
+        for script in ("exit 3", 'mkdir "$3"; printf ab > "$3/half-a"', "exec /nowhere/program"):
+            self.assertEqual(await self.copy(script), seed.NO_DEVICE, script)
+
+
 class ToldTest(unittest.TestCase):
     def test_answers_that_nobody_has(self):
         """A store that another node gave has entries that this one never sent: who waits for those is told so, and nobody else."""

@@ -288,10 +288,16 @@ class Client(asyncio.Protocol):
             if isinstance(copy, bytes):
                 self._answer(slot, answer(None, copy))
                 return
-            async for piece in copy.pieces():
-                await self._may_write.wait()
+            try:
+                async for piece in copy.pieces():
+                    await self._may_write.wait()
+                    if self._transport:
+                        self._transport.write(piece)
+            except OSError as error:
+                logger.error("a copy of the store cannot be read: %s", error)
                 if self._transport:
-                    self._transport.write(piece)
+                    self._transport.abort()
+                return
         self._answer(slot, b"\n")
 
     def _ask(self, slot: Slot) -> None:

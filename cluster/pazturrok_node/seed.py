@@ -87,12 +87,19 @@ class Giver:
         self._is_giving = True
         path = os.path.join(self._folder, GIVEN)
         try:
-            yield await self._made(path)
+            yield await self._made_or_refused(path)
         finally:
             self._is_giving = False
             shutil.rmtree(path, ignore_errors=True)
 
-    async def _made(self, path: str) -> Copy | bytes:
+    async def _made_or_refused(self, path: str) -> Copy | bytes:
+        try:
+            return await self._made(path)
+        except (OSError, NoSeedError) as error:
+            logger.error("a node has asked for a copy of the store, and none was made: %s", error)
+            return NO_DEVICE
+
+    async def _made(self, path: str) -> Copy:
         for left in (path, path + ".partial"):
             shutil.rmtree(left, ignore_errors=True)
         pipe, nothing = asyncio.subprocess.PIPE, asyncio.subprocess.DEVNULL
@@ -103,8 +110,7 @@ class Giver:
             process.kill()
             raise
         if process.returncode:
-            logger.error("a node has asked for a copy of the store, and none was made: %s", told.decode("utf-8", "replace").strip())
-            return NO_DEVICE
+            raise NoSeedError(told.decode("utf-8", "replace").strip())
         logger.info("another node takes a copy of the store")
         return await asyncio.get_running_loop().run_in_executor(None, copy_of, path, self.name, self._node.log.token)
 
