@@ -8,6 +8,7 @@ import socket
 import subprocess
 import sys
 import time
+import types
 
 from cluster import LONG, Client
 from refusals import ADD, begun, stuck_at, value
@@ -242,13 +243,15 @@ def leavers(_folder, _program):
     from pazturrok_node.node import Told
 
     class Slow:
-        position = 1
+        position, is_hearing, asked = 1, False, 0
 
         def ask(self, text, take):
+            self.asked += 1
             asyncio.get_running_loop().call_soon(take, Told(1, text * 10_000))
 
     async def left():
-        server = await asyncio.get_running_loop().create_server(Clients(Slow(), None).serve, "127.0.0.1", 0)
+        slow = Slow()
+        server = await asyncio.get_running_loop().create_server(Clients(slow, None, types.SimpleNamespace(name="n0")).serve, "127.0.0.1", 0)
         for _ in range(5):
             _, writer = await asyncio.open_connection(*server.sockets[0].getsockname())
             writer.write(b"ask 5\n(FOO)\n" * 3000)
@@ -256,10 +259,11 @@ def leavers(_folder, _program):
             writer.transport.abort()
         await asyncio.sleep(2)
         server.close()
-        return len(asyncio.all_tasks()) - 1
+        return len(asyncio.all_tasks()) - 1, slow.asked
 
-    count = asyncio.run(left())
-    return [f"{count} tasks go on after their clients"] if count else []
+    count, asked = asyncio.run(left())
+    faults = [] if 5 < asked < 15_000 else [f"{asked} questions were asked for clients that read nothing"]
+    return faults + ([f"{count} tasks go on after their clients"] if count else [])
 
 
 LONG_ONES = ("waited", "lagging", "skipped away")
