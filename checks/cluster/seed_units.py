@@ -1,4 +1,6 @@
-"""What comes from another node, or from another version, by itself: a store that is put in place, reports, what a log says of itself."""
+"""What comes from another node, or from another version, by itself: a store that is put in place, reports, what a log
+says of itself."""
+import contextlib
 import fcntl
 import os
 import sys
@@ -41,7 +43,8 @@ def tree(folder):
 class PlaceTest(unittest.TestCase):
     OLD = {"half-a": "old a", "half-b": "old b", "replica": "old notes"}
     NEW = {"taken-whole/half-a": "new a", "taken-whole/half-b": "new b"}
-    WANTED = {"half-a": "new a", "half-b": "new b", "before/half-a": "old a", "before/half-b": "old b", "before/replica": "old notes"}
+    BEFORE = {"before/half-a": "old a", "before/half-b": "old b", "before/replica": "old notes"}
+    WANTED = {"half-a": "new a", "half-b": "new b", **BEFORE}
 
     def setUp(self):
         room = tempfile.TemporaryDirectory()
@@ -76,8 +79,9 @@ class PlaceTest(unittest.TestCase):
 
                     return call
 
-                with mock.patch.object(seed.os, "replace", crash(os.replace)), mock.patch.object(seed, "sync_folder", crash(seed.sync_folder)), \
-                        mock.patch.object(seed.os, "rmdir", crash(os.rmdir)):
+                with contextlib.ExitStack() as patches:
+                    for owner, name in ((seed.os, "replace"), (seed.os, "rmdir"), (seed, "sync_folder")):
+                        patches.enter_context(mock.patch.object(owner, name, crash(getattr(owner, name))))
                     try:
                         seed.put_in_place(folder)
                         is_whole = True
@@ -127,7 +131,7 @@ class GiverTest(unittest.IsolatedAsyncioTestCase):
 
 class ToldTest(unittest.TestCase):
     def test_answers_that_nobody_has(self):
-        """A store that another node gave has entries that this one never sent: who waits for those is told so, and nobody else."""
+        """A store that another node gave has entries that this one never sent: who waits for those is told so."""
         answers, taken = Answers(), []
         for number in (3, 5, 9):
             answers.answer_to(number, lambda text, number=number: taken.append((number, text)))
@@ -147,12 +151,14 @@ class ToldTest(unittest.TestCase):
     def test_what_a_log_says_of_itself(self):
         one = Identity(3, 17, "ab")
         self.assertEqual([identity_of(written(one)), identity_of(b'[3, 17, "ab"]')], [one, one])
-        for text in (b'{"version": 2}', b'{"version": 0, "epoch": 3, "first": 17, "world": "ab"}', b'{"epoch": 3}', b'"x"', b"7", b"no JSON", b"[1]"):
+        older = b'{"version": 0, "epoch": 3, "first": 17, "world": "ab"}'
+        for text in (b'{"version": 2}', older, b'{"epoch": 3}', b'"x"', b"7", b"no JSON", b"[1]"):
             with self.assertRaises(RefusedStoreError, msg=text):
                 identity_of(text)
 
     def test_refusals_of_frames(self):
-        for text, refusal in ((b"do x\n", NO_FRAME), (b"do 1048577\n", TEXT_TOO_LONG), (b"version 1\n", NO_FRAME), (b"seed 5 0\n\n", NO_FRAME)):
+        no_frames = ((text, NO_FRAME) for text in (b"do x\n", b"version 1\n", b"seed 5 0\n\n"))
+        for text, refusal in ((b"do 1048577\n", TEXT_TOO_LONG), *no_frames):
             with self.assertRaises(NoFrameError) as raised:
                 list(Frames(REQUEST, LIMIT).split(text))
             self.assertEqual(raised.exception.refusal, refusal, text)

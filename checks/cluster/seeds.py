@@ -1,5 +1,5 @@
-"""A node that is new, or was left behind, takes the store of another one, by itself or as it is told; the way back to a backup; versions of what
-stands in etcd. Each part gives what is wrong."""
+"""A node that is new, or was left behind, takes the store of another one, by itself or as it is told; the way back to a
+backup; versions of what stands in etcd. Each part gives what is wrong."""
 import base64
 import contextlib
 import json
@@ -24,7 +24,11 @@ def trim_away(cluster):
 
 def tree(folder):
     """The halves of a store, byte for byte."""
-    return {half: open(os.path.join(folder, half), "rb").read() for half in ("half-a", "half-b") if os.path.exists(os.path.join(folder, half))}
+    halves = {}
+    for half in ("half-a", "half-b"):
+        with contextlib.suppress(FileNotFoundError), open(os.path.join(folder, half), "rb") as file:
+            halves[half] = file.read()
+    return halves
 
 
 def new_node(cluster, *options):
@@ -35,8 +39,8 @@ def new_node(cluster, *options):
 
 
 def taken(folder, program):
-    """A node that was away while entries were deleted, and one that is new, take the store of the first one and go on, while clients add. What was
-    there before is kept. Where no other node runs, the node ends and says so."""
+    """A node that was away while entries were deleted, and one that is new, take the store of the first one and go on,
+    while clients add. What was there before is kept. Where no other node runs, the node ends and says so."""
     cluster = begun(folder, program, nodes=2, keep=0)
     try:
         cluster.nodes[1].finish()
@@ -44,7 +48,8 @@ def taken(folder, program):
         trim_away(cluster)
         cluster.nodes[0].finish()
         faults = refused(cluster, 1, "behind what is left of the log")
-        faults += [] if "no other one runs" in cluster.nodes[1].told() else ["a node does not say why it takes no store"]
+        is_told = "no other one runs" in cluster.nodes[1].told()
+        faults += [] if is_told else ["a node does not say why it takes no store"]
         cluster.nodes[0].start()
         value(cluster, 0)
         over = threading.Event()
@@ -75,12 +80,13 @@ def keep_adding(cluster, over):
 def left_over(cluster):
     """The folders that should be gone."""
     names = ("given", "given.partial", "taken", "taken-whole", "empty")
-    return [f"{store}/{name} is left" for store in map(cluster.store, range(len(cluster.nodes))) for name in names if os.path.exists(os.path.join(store, name))]
+    paths = [os.path.join(cluster.store(place), name) for place in range(len(cluster.nodes)) for name in names]
+    return [f"{path} is left" for path in paths if os.path.exists(path)]
 
 
 def as_told(folder, program):
-    """A store that is none of the log is refused, and takes another one by one command; which changes nothing while the node runs, and where
-    nobody gives what it wants."""
+    """A store that is none of the log is refused, and takes another one by one command; which changes nothing while the
+    node runs, and where nobody gives what it wants."""
     cluster = begun(folder, program, nodes=2)
     try:
         faults = [] if order(cluster, "seed", cluster.store(1))[0] == 2 else ["a store is taken while its node runs"]
@@ -94,9 +100,11 @@ def as_told(folder, program):
         faults += [] if tree(cluster.store(1)) == before else ["a store has changed, though none was taken"]
         status, told = order(cluster, "seed", cluster.store(1))
         faults += [] if status == 0 and "is here, at" in told else [f"seed: {status} {told}"]
-        faults += [] if tree(os.path.join(cluster.store(1), "before")) == before else ["what was there before is not kept"]
+        is_kept = tree(os.path.join(cluster.store(1), "before")) == before
+        faults += [] if is_kept else ["what was there before is not kept"]
         cluster.nodes[1].start()
-        return faults + ([] if value(cluster, 1) == "5" else ["a node does not go on with what it took"]) + left_over(cluster)
+        faults += [] if value(cluster, 1) == "5" else ["a node does not go on with what it took"]
+        return faults + left_over(cluster)
     finally:
         cluster.end()
 
@@ -114,8 +122,9 @@ def givers(cluster, folder):
     halves = {"half-a": [4, "0" * 64], "half-b": [0, "0" * 64]}
     line = {"copy": 1, "node": "n7", "log": token, "halves": halves}
     for told, why in (
-        ({**line, "log": "{}"}, "of another log"), ({**line, "node": "n1"}, "it is n1 itself"), ({**line, "copy": 2}, "of version 2"),
-        ({**line, "halves": {}}, "half-a"), (line, "is not what it sent"), ({**line, "halves": {**halves, "half-a": [9999, "0"]}}, "within its copy"),
+        ({**line, "log": "{}"}, "of another log"), ({**line, "node": "n1"}, "it is n1 itself"),
+        ({**line, "copy": 2}, "of version 2"), ({**line, "halves": {}}, "half-a"), (line, "is not what it sent"),
+        ({**line, "halves": {**halves, "half-a": [9999, "0"]}}, "within its copy"),
     ):
         yield stand_in(json.dumps(told).encode() + b"\nABCD"), why
     yield stand_in(b"no JSON\nABCD"), "Expecting value"
@@ -129,7 +138,8 @@ def stand_in(copy):
     def serve():
         with contextlib.suppress(OSError), listener, listener.accept()[0] as one:
             one.recv(100)
-            one.sendall(b"ask 12\n(:VERSION 1)\n" + (b"ask 11\n! 60 DEVICE\n" if copy is None else b"seed 99\n" + copy))
+            answer = b"ask 11\n! 60 DEVICE\n" if copy is None else b"seed 99\n" + copy
+            one.sendall(b"ask 12\n(:VERSION 1)\n" + answer)
             one.shutdown(socket.SHUT_WR)
             while one.recv(100):
                 pass
@@ -164,14 +174,16 @@ def way_back(folder, program):
         Client(cluster.places[1:]).request(b"do add-0", ADD)
         cluster.nodes[new_node(cluster)].start()
         seen = [value(cluster, place) for place in (0, 1, 2)]
-        return faults + ([] if seen == ["6", "6", "6"] and status == 0 else [f"after the way back the counters are {seen}: {told}"])
+        is_well = seen == ["6", "6", "6"] and status == 0
+        return faults + ([] if is_well else [f"after the way back the counters are {seen}: {told}"])
     finally:
         cluster.end()
 
 
 def versions(folder, program):
-    """A log of a later version is refused, and nothing is carried out; one that was begun before there were versions goes on. A report of a node that
-    this one does not understand holds up nothing but the deleting of entries. What stands beside the store and is no note is refused."""
+    """A log of a later version is refused, and nothing is carried out; one that was begun before there were versions goes
+    on. A report of a node that this one does not understand holds up nothing but the deleting of entries. What stands
+    beside the store and is no note is refused."""
     cluster = begun(folder, program, nodes=1)
     node, key = cluster.nodes[0], base64.b64encode(b"pazturrok/store/log").decode()
     try:
@@ -185,7 +197,8 @@ def versions(folder, program):
         faults += [] if value(cluster, 0) == "5" else ["a log without a version does not go on"]
         Client(cluster.places).request(b"do", ADD)
         node.finish()
-        for text, why in (("{", "is not what stands there"), ("[]", "is not what stands there"), ('{"version": 2}', "of another version")):
+        no_note = "is not what stands there"
+        for text, why in (("{", no_note), ("[]", no_note), ('{"version": 2}', "of another version")):
             with open(os.path.join(cluster.store(0), "replica"), "w", encoding="ascii") as file:
                 file.write(text)
             faults += refused(cluster, 0, why)
@@ -200,7 +213,8 @@ def versions(folder, program):
 
 
 def put(cluster, key, told):
-    cluster.call("/v3/kv/put", {"key": key, "value": base64.b64encode(json.dumps(told).encode()).decode()})
+    value_of = base64.b64encode(json.dumps(told).encode()).decode()
+    cluster.call("/v3/kv/put", {"key": key, "value": value_of})
 
 
 LONG_ONES = ()

@@ -1,5 +1,6 @@
-"""What a node says before it ends a connection, and where it waits for nothing: bytes that are no request, texts that are too long, versions,
-names that are none, numbers that no entry has, more clients than may be. Each part gives what is wrong."""
+"""What a node says before it ends a connection, and where it waits for nothing: bytes that are no request, texts that are
+too long, versions, names that are none, numbers that no entry has, more clients than may be. Each part gives what is
+wrong."""
 import json
 import os
 import signal
@@ -14,13 +15,16 @@ from watched import figures, until, until_health
 sys.path.append(os.path.join(os.path.dirname(os.path.abspath(__file__)), "..", "..", "clients", "python", "src"))
 
 GREETING = '(:VERSION 1 :NODE "'
-NO_FRAME, TOO_LONG, OTHER_VERSION, NO_SUCH_ENTRY, NO_ROOM = "! 56 NO-FRAME", "! 57 TEXT-TOO-LONG", "! 58 OTHER-VERSION", "! 59 NO-SUCH-ENTRY", "! 54 NO-ROOM"
+NO_FRAME, TOO_LONG, OTHER_VERSION = "! 56 NO-FRAME", "! 57 TEXT-TOO-LONG", "! 58 OTHER-VERSION"
+NO_SUCH_ENTRY, NO_ROOM = "! 59 NO-SUCH-ENTRY", "! 54 NO-ROOM"
 ONE = b"do %d\n%s\n" % (len(ADD), ADD)
 FOREIGN = [
-    (b"nonsense\n", NO_FRAME), (b"do 5\n(LIST 1)\n", NO_FRAME), (b"\0" * 5000, NO_FRAME), (b"GET / HTTP/1.1\r\nHost: node\r\n\r\n", NO_FRAME),
-    (b"do a/b 1\n1\n", NO_FRAME), (b"do " + b"a" * 101 + b" 1\n1\n", NO_FRAME), (b"do \xc3\xa4 1\n1\n", NO_FRAME), (b"ask -1 1\n1\n", NO_FRAME),
-    (b"do 1048577\n" + b"x" * 1_048_577 + b"\n", TOO_LONG), (b"do 99999999999\n", TOO_LONG), (b"version 2 0\n\n", OTHER_VERSION),
-    (b"version 0 0\n\n", OTHER_VERSION), (b"version x 0\n\n", NO_FRAME), (b"\x16\x03\x01\x02\x00\x01\x00\x01\xfc\x03\x03\n", NO_FRAME),
+    (b"nonsense\n", NO_FRAME), (b"do 5\n(LIST 1)\n", NO_FRAME), (b"\0" * 5000, NO_FRAME),
+    (b"GET / HTTP/1.1\r\nHost: node\r\n\r\n", NO_FRAME), (b"do a/b 1\n1\n", NO_FRAME),
+    (b"do " + b"a" * 101 + b" 1\n1\n", NO_FRAME), (b"do \xc3\xa4 1\n1\n", NO_FRAME), (b"ask -1 1\n1\n", NO_FRAME),
+    (b"do 1048577\n" + b"x" * 1_048_577 + b"\n", TOO_LONG), (b"do 99999999999\n", TOO_LONG),
+    (b"version 2 0\n\n", OTHER_VERSION), (b"version 0 0\n\n", OTHER_VERSION), (b"version x 0\n\n", NO_FRAME),
+    (b"\x16\x03\x01\x02\x00\x01\x00\x01\xfc\x03\x03\n", NO_FRAME),
 ]  # fmt: skip
 """What is no request of this version, and what is answered to it."""
 
@@ -52,7 +56,10 @@ def said(folder, program):
             if len(told) != 2 or told[0][1] != str(count) or told[1] != ("0", refusal):
                 faults.append(f"{data[:30]!r} is answered {told}")
         told = all_answers(node.places[0], b"version 1 0\n\n" + ONE + b"version 3 0\n\n")
-        if [kind for kind, _ in told] != ["ask", told[1][0], "0"] or not told[0][1].startswith(GREETING) or ':NAME "one")' not in told[0][1]:
+        greeting = told[0][1]
+        if [kind for kind, _ in told] != ["ask", told[1][0], "0"] or not greeting.startswith(GREETING):
+            faults.append(f"a client of this version is answered {told}")
+        if ':NAME "one")' not in greeting:
             faults.append(f"a client of this version is answered {told}")
         counter = Client(node.places).request(b"read", LOOK)[1]
         return faults + ([] if counter == str(len(FOREIGN) + 1) else [f"the counter is {counter}"])
@@ -74,8 +81,9 @@ def far_numbers(folder, program):
                 told = all_answers(cluster.places[0], b"ask %d %d\n%s\nno frame\n" % (far, len(LOOK), LOOK))
                 took = time.monotonic() - began
                 if told[0][1] != NO_SUCH_ENTRY or took > LONG / 2:
-                    faults.append(f"{kind.__name__}: the number {far} after {number} is answered {told} in {took:.1f} s")
-            told = all_answers(cluster.places[0], b"ask %d %d\n%s\nno frame\n" % (number, len(LOOK), LOOK))
+                    faults.append(f"{kind.__name__}: {far} after {number} is answered {told} in {took:.1f} s")
+            known = b"ask %d %d\n%s\nno frame\n" % (number, len(LOOK), LOOK)
+            told = all_answers(cluster.places[0], known)
             faults += [] if told[0][1] == "0" else [f"{kind.__name__}: the number {number} is answered {told}"]
         finally:
             cluster.end()
@@ -83,7 +91,8 @@ def far_numbers(folder, program):
 
 
 def too_many(folder, program):
-    """A client for whom there is no place is told so, where all others wait for answers; and the client for Python goes to the next node."""
+    """A client for whom there is no place is told so, where all others wait for answers; and the client for Python goes to
+    the next node."""
     from pazturrok import NodeStore
 
     rooms = [os.path.join(folder, name) for name in ("full", "other")]
@@ -148,4 +157,7 @@ def names_of_clients(_folder, _program):
     return faults
 
 
-PARTS = {"said": said, "far numbers": far_numbers, "too many": too_many, "no room": no_room, "names of clients": names_of_clients}
+PARTS = {
+    "said": said, "far numbers": far_numbers, "too many": too_many, "no room": no_room,
+    "names of clients": names_of_clients,
+}  # fmt: skip

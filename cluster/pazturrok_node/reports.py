@@ -20,7 +20,8 @@ class Reports:
 
     async def put(self, name: Name, node: Node) -> None:
         """Tells it, where the name is still this node's; and those who watch the log see that it is alive."""
-        told = {"answered": node.position, "lasting": node.lasting, "at": self._place, "version": VERSION, "stuck": node.stuck}
+        told: dict[str, Any] = {"at": self._place, "version": VERSION}
+        told |= {"answered": node.position, "lasting": node.lasting, "stuck": node.stuck}
         key = encoded(self._prefix + name.text.encode("ascii"))
         report = {"key": key, "value": encoded(json.dumps(told).encode("ascii")), "lease": str(name.lease)}
         beat = {"key": encoded(self._log.beat), "value": ""}
@@ -29,7 +30,8 @@ class Reports:
 
     async def all(self) -> dict[str, dict[str, Any]]:
         found = await self._log.etcd.call("/v3/kv/range", among(self._prefix))
-        return {decoded(one["key"])[len(self._prefix) :].decode("ascii"): report_of(decoded(one["value"])) for one in found.get("kvs", [])}
+        reports = ((decoded(one["key"]), decoded(one["value"])) for one in found.get("kvs", []))
+        return {key[len(self._prefix) :].decode("ascii"): report_of(value) for key, value in reports}
 
 
 def report_of(value: bytes) -> dict[str, Any]:
@@ -39,5 +41,6 @@ def report_of(value: bytes) -> dict[str, Any]:
     except ValueError:
         found = None
     found = found if isinstance(found, dict) else {}
-    numbers = {kind: found[kind] if isinstance(found.get(kind), int) else 0 for kind in ("answered", "lasting", "stuck")}
-    return {**numbers, "at": str(found.get("at", "")), "version": str(found.get("version", ""))}
+    numbers = ((kind, found.get(kind)) for kind in ("answered", "lasting", "stuck"))
+    numbers_of = {kind: number if isinstance(number, int) else 0 for kind, number in numbers}
+    return {**numbers_of, "at": str(found.get("at", "")), "version": str(found.get("version", ""))}

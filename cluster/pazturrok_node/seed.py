@@ -103,7 +103,8 @@ class Giver:
         for left in (path, path + ".partial"):
             shutil.rmtree(left, ignore_errors=True)
         pipe, nothing = asyncio.subprocess.PIPE, asyncio.subprocess.DEVNULL
-        process = await asyncio.create_subprocess_exec(self._program, "backup", self._folder, path, stdout=nothing, stderr=pipe)
+        words = (self._program, "backup", self._folder, path)
+        process = await asyncio.create_subprocess_exec(*words, stdout=nothing, stderr=pipe)
         try:
             _, told = await process.communicate()
         except asyncio.CancelledError:
@@ -116,7 +117,8 @@ class Giver:
 
 
 def copy_of(folder: str, name: str, token: str) -> Copy:
-    halves = {half: (os.path.getsize(os.path.join(folder, half)), digest_of(os.path.join(folder, half))) for half in HALVES}
+    paths = {half: os.path.join(folder, half) for half in HALVES}
+    halves = {half: (os.path.getsize(path), digest_of(path)) for half, path in paths.items()}
     line = json.dumps({"copy": COPY, "node": name, "log": token, "halves": halves}).encode("ascii") + b"\n"
     return Copy(folder, line, sum(size for size, _ in halves.values()))
 
@@ -136,8 +138,8 @@ class Taker:
         self._folder, self._program, self._name, self._context = folder, program, name, context
 
     async def take(self, place: str, token: str, needed: int) -> int:
-        """Takes that of the node at this place, and gives its position. NoSeedError where it is none of this log, or has
-        not come as far as is needed; then nothing has changed."""
+        """Takes that of the node at this place, and gives its position. NoSeedError where it is none of this log, or
+        has not come as far as is needed; then nothing has changed."""
         taken = os.path.join(self._folder, TAKEN)
         shutil.rmtree(taken, ignore_errors=True)
         os.makedirs(taken, mode=0o700)
@@ -159,10 +161,11 @@ class Taker:
         reader, writer = await asyncio.wait_for(connected(place, self._context), PATIENCE)
         try:
             writer.write(b"version %d 0\n\nseed 0\n\n" % VERSION)
-            refusal_of(await asyncio.wait_for(reader.readline(), PATIENCE), await asyncio.wait_for(reader.readline(), PATIENCE))
-            head = await asyncio.wait_for(reader.readline(), LONG_PATIENCE)
-            line = await asyncio.wait_for(reader.readline(), SILENCE)
-            refusal_of(head, line)
+            for patience in (PATIENCE, LONG_PATIENCE):
+                # the first answer is to the version
+                head = await asyncio.wait_for(reader.readline(), patience)
+                line = await asyncio.wait_for(reader.readline(), SILENCE)
+                heed_refusal(head, line)
             for half, (size, digest) in self._halves_of(json.loads(line), token).items():
                 await receive(reader, os.path.join(taken, half), size, digest)
         finally:
@@ -197,7 +200,7 @@ async def connected(place: str, context: ssl.SSLContext | None) -> tuple[asyncio
     return await asyncio.open_connection(host.strip("[]"), int(port), ssl=context, limit=PIECE)
 
 
-def refusal_of(head: bytes, line: bytes) -> None:
+def heed_refusal(head: bytes, line: bytes) -> None:
     """NoSeedError where a node has refused what it was asked for."""
     if line.startswith(NO_ROOM):
         raise BusyGiverError("it gives its store to another node, or has to open it")
@@ -237,8 +240,8 @@ def locked(folder: str) -> Iterator[None]:
 
 
 def put_in_place(folder: str) -> bool:
-    """Where a store was taken whole, puts its halves in the place of those that are there, which are kept. It may have been
-    stopped within that, and is called again before the store is opened."""
+    """Where a store was taken whole, puts its halves in the place of those that are there, which are kept. It may have
+    been stopped within that, and is called again before the store is opened."""
     whole, before = os.path.join(folder, WHOLE), os.path.join(folder, BEFORE)
     if not os.path.isdir(whole):
         return False

@@ -26,8 +26,8 @@ class Sources:
         self._log, self._taker, self._name, self._place = log, taker, name, place
 
     async def take(self, needed: int, patience: float = PATIENCE) -> tuple[int, str]:
-        """Takes the store of the first one that gives it and has come as far as is needed; gives its position, and where that
-        node is."""
+        """Takes the store of the first one that gives it and has come as far as is needed; gives its position, and
+        where that node is."""
         began = time.monotonic()
         while True:
             reasons: list[str] = []

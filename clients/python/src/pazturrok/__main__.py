@@ -14,7 +14,7 @@ def parser_of_words() -> argparse.ArgumentParser:
     parser = argparse.ArgumentParser(prog="python3 -m pazturrok", description=__doc__)
     parser.add_argument("nodes", help="HOST:PORT, or unix:PATH, with commas between them")
     parser.add_argument("forms", nargs="+", metavar="FORM", help="the text of a form")
-    parser.add_argument("--read", action="store_true", help="ask after all that was answered before: the forms may change nothing")
+    parser.add_argument("--read", action="store_true", help="ask, after all that was answered before; nothing changes")
     parser.add_argument("--ca", metavar="FILE", help="who signs for the nodes")
     parser.add_argument("--cert", metavar="FILE", help="this client, with its key in one file")
     parser.add_argument("--seconds", type=float, default=30.0, help="how long a form may take, 30")

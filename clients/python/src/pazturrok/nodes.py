@@ -221,9 +221,11 @@ class NodeStore(Shared, Properties):
         text = text_of(form, self._unicode)
         return self._naming.value(self._send([f"{kind} {len(text)}\n{text}"], MOST_TRIES)[0][1])
 
-    def _send(self, frames: Sequence[str], tries: float = math.inf, resend: float = math.inf) -> list[tuple[str, str]]:
-        """The answers to frames, which are sent until they have one, no more than so many times, and for so many seconds
-        after the first time."""
+    def _send(
+        self, frames: Sequence[str], tries: float = math.inf, resend: float = math.inf
+    ) -> list[tuple[str, str]]:
+        """The answers to frames, which are sent until they have one, no more than so many times, and for so many
+        seconds after the first time."""
         if self._is_closed:
             raise ClosedStoreError
         answers: list[tuple[str, str]] = []
@@ -239,7 +241,7 @@ class NodeStore(Shared, Properties):
                 return answers
             except OSError as error:
                 self._leave()
-                reason = f"{self.node}: {error}" if tries > 0 else f"it was sent {MOST_TRIES} times; {self.node}: {error}"
+                reason = f"{'' if tries > 0 else f'it was sent {MOST_TRIES} times; '}{self.node}: {error}"
                 self._at = (self._at + 1) % len(self._nodes)
                 time.sleep(PAUSE)
             except BaseException:
@@ -278,7 +280,7 @@ class NodeStore(Shared, Properties):
 
 
 def heed_greeting(answers: Sequence[tuple[str, str]]) -> None:
-    """What a node says first: it may refuse a client, and ends the connection then. Another one may take it, or none."""
+    """What a node says first: it may refuse a client, and ends the connection then. Another one may take it."""
     refusal = refusal_of(answers[0][1]) if answers else None
     if refusal and refusal[0] == NO_ROOM:
         raise ConnectionError("it takes no more clients")
