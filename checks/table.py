@@ -50,7 +50,7 @@ CHECKS = [
     Check("the looks", f"checks/looks/run {PROGRAM} --looks 300", "", 12),
     Check("the client for Common Lisp", f"checks/lisp/run {PROGRAM}", "sbcl|ecl", 80),
     Check("the client for Python", f"checks/python/run {PROGRAM}", "", 30),
-    Check("the nodes", f"checks/cluster/run {PROGRAM} --short", "etcd", 190),
+    Check("the nodes", f"checks/cluster/run {PROGRAM} --short", "etcd", 240),
     Check("the library", f"checks/embedded/run --short --engine {ENGINE} --program {PROGRAM}", "rt cc make", 100),
     Check("the costs", f"checks/costs --counted --program {PROGRAM}", "valgrind", 160),
     campaign("growth", 120),

@@ -217,5 +217,5 @@ def put(cluster, key, told):
     cluster.call("/v3/kv/put", {"key": key, "value": value_of})
 
 
-LONG_ONES = ()
+LONG_ONES = ("taken as told", "versions")
 PARTS = {"taken": taken, "taken as told": as_told, "way back": way_back, "versions": versions}
