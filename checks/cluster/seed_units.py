@@ -42,8 +42,8 @@ def tree(folder):
 
 class PlaceTest(unittest.TestCase):
     OLD = {"half-a": "old a", "half-b": "old b", "replica": "old notes"}
-    NEW = {"taken-whole/half-a": "new a", "taken-whole/half-b": "new b"}
-    BEFORE = {"before/half-a": "old a", "before/half-b": "old b", "before/replica": "old notes"}
+    NEW = {"pazturrok-whole/half-a": "new a", "pazturrok-whole/half-b": "new b"}
+    BEFORE = {f"pazturrok-before/{name}": text for name, text in OLD.items()}
     WANTED = {"half-a": "new a", "half-b": "new b", **BEFORE}
 
     def setUp(self):
@@ -59,9 +59,9 @@ class PlaceTest(unittest.TestCase):
         self.assertFalse(seed.put_in_place(self.folder))
 
     def test_into_a_new_folder(self):
-        written_tree(self.folder, self.NEW)
+        written_tree(self.folder, {**self.NEW, "pazturrok-taken/half-a": "not whole", "taken/mine": "of somebody"})
         self.assertTrue(seed.put_in_place(self.folder))
-        self.assertEqual(tree(self.folder), {"half-a": "new a", "half-b": "new b"})
+        self.assertEqual(tree(self.folder), {"half-a": "new a", "half-b": "new b", "taken/mine": "of somebody"})
 
     def test_stopped_at_each_call(self):
         """Wherever it is stopped, the next one goes on, and a store is whole then."""
@@ -116,7 +116,7 @@ class GiverTest(unittest.IsolatedAsyncioTestCase):
                 async with giver.copy() as other:
                     self.assertEqual(other, seed.NO_ROOM)
                 found = copy if isinstance(copy, bytes) else b"".join([piece async for piece in copy.pieces()])
-            self.assertFalse(os.path.exists(os.path.join(folder, "given")))
+            self.assertFalse(os.path.exists(os.path.join(folder, "pazturrok-given")))
             return found
 
     async def test_whole(self):

@@ -62,7 +62,8 @@ def taken(folder, program):
         adds.join()
         seen = [value(cluster, place) for place in range(3)]
         faults += [] if len(set(seen)) == 1 else [f"the counters are {seen}"]
-        faults += [] if tree(os.path.join(cluster.store(1), "before")) == old else ["what was there before is not kept"]
+        is_kept = tree(os.path.join(cluster.store(1), "pazturrok-before")) == old
+        faults += [] if is_kept else ["what was there before is not kept"]
         told = subprocess.run(cluster.words(0, "nodes"), capture_output=True, text=True, timeout=LONG)
         names = [line.split()[0] for line in told.stdout.splitlines()]
         faults += [] if names == ["n0", "n1", "n2"] and told.returncode == 0 else [f"nodes: {told}"]
@@ -79,7 +80,7 @@ def keep_adding(cluster, over):
 
 def left_over(cluster):
     """The folders that should be gone."""
-    names = ("given", "given.partial", "taken", "taken-whole", "empty")
+    names = [f"pazturrok-{name}" for name in ("given", "given.partial", "taken", "whole", "empty")]
     paths = [os.path.join(cluster.store(place), name) for place in range(len(cluster.nodes)) for name in names]
     return [f"{path} is left" for path in paths if os.path.exists(path)]
 
@@ -100,7 +101,7 @@ def as_told(folder, program):
         faults += [] if tree(cluster.store(1)) == before else ["a store has changed, though none was taken"]
         status, told = order(cluster, "seed", cluster.store(1))
         faults += [] if status == 0 and "is here, at" in told else [f"seed: {status} {told}"]
-        is_kept = tree(os.path.join(cluster.store(1), "before")) == before
+        is_kept = tree(os.path.join(cluster.store(1), "pazturrok-before")) == before
         faults += [] if is_kept else ["what was there before is not kept"]
         cluster.nodes[1].start()
         faults += [] if value(cluster, 1) == "5" else ["a node does not go on with what it took"]
@@ -149,7 +150,8 @@ def stand_in(copy):
 
 
 def way_back(folder, program):
-    """All go back to a backup: the log is begun again with it, while no node runs; the other stores are refused, and take it."""
+    """All go back to a backup: the log is begun again with it, while no node runs. The other stores are refused, and take
+    it."""
     cluster = begun(folder, program, nodes=2)
     try:
         kept = os.path.join(folder, "yesterday")

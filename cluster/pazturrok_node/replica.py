@@ -113,7 +113,7 @@ class Replica(Keeper):
 
     async def _is_new(self) -> bool:
         """Whether the store has the world of one that the program has just made."""
-        empty = os.path.join(self._folder, "empty")
+        empty = os.path.join(self._folder, "pazturrok-empty")
         shutil.rmtree(empty, ignore_errors=True)
         child = await Child.start([self._program, "run", empty, "--messages"])
         try:

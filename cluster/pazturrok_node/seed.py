@@ -1,8 +1,8 @@
 """A store is taken from another node: what that one gives, and how it comes in the place of the store that was there.
 
-A copy is a line of JSON, which says whose it is, and the two halves. It stands in folders beside the halves: `given`
-while it is given, `taken` while it comes, `taken-whole` once it has come and was looked at. What was there before is
-kept in `before`.
+A copy is a line of JSON, which says whose it is, and the two halves. It stands in folders beside the halves:
+`pazturrok-given` while it is given, `pazturrok-taken` while it comes, `pazturrok-whole` once it has come and was looked
+at. What was there before is kept in `pazturrok-before`.
 """
 
 from __future__ import annotations
@@ -27,7 +27,8 @@ from .segments import sync_folder
 logger = logging.getLogger(__name__)
 
 HALVES = ("half-a", "half-b")
-GIVEN, TAKEN, WHOLE, BEFORE = "given", "taken", "taken-whole", "before"
+GIVEN, TAKEN, WHOLE, BEFORE = "pazturrok-given", "pazturrok-taken", "pazturrok-whole", "pazturrok-before"
+"""The folders of this node's own. No other thing in the folder of a store is ever taken away."""
 
 COPY = 1
 """The version of a copy."""
@@ -77,6 +78,12 @@ class Giver:
     def __init__(self, name: str, program: str, folder: str, node: Node) -> None:
         self.name, self._program, self._folder, self._node = name, program, folder, node
         self._is_giving = False
+        self._clear()
+
+    def _clear(self) -> None:
+        """Takes away what there is of a copy, also that of an earlier life."""
+        for left in (GIVEN, GIVEN + ".partial"):
+            shutil.rmtree(os.path.join(self._folder, left), ignore_errors=True)
 
     @contextlib.asynccontextmanager
     async def copy(self) -> AsyncIterator[Copy | bytes]:
@@ -90,7 +97,7 @@ class Giver:
             yield await self._made_or_refused(path)
         finally:
             self._is_giving = False
-            shutil.rmtree(path, ignore_errors=True)
+            self._clear()
 
     async def _made_or_refused(self, path: str) -> Copy | bytes:
         try:
@@ -100,8 +107,6 @@ class Giver:
             return NO_DEVICE
 
     async def _made(self, path: str) -> Copy:
-        for left in (path, path + ".partial"):
-            shutil.rmtree(left, ignore_errors=True)
         pipe, nothing = asyncio.subprocess.PIPE, asyncio.subprocess.DEVNULL
         words = (self._program, "backup", self._folder, path)
         process = await asyncio.create_subprocess_exec(*words, stdout=nothing, stderr=pipe)
@@ -243,6 +248,8 @@ def put_in_place(folder: str) -> bool:
     """Where a store was taken whole, puts its halves in the place of those that are there, which are kept. It may have
     been stopped within that, and is called again before the store is opened."""
     whole, before = os.path.join(folder, WHOLE), os.path.join(folder, BEFORE)
+    # what has not come whole
+    shutil.rmtree(os.path.join(folder, TAKEN), ignore_errors=True)
     if not os.path.isdir(whole):
         return False
     os.makedirs(before, mode=0o700, exist_ok=True)
