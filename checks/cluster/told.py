@@ -76,7 +76,7 @@ def far_numbers(folder, program):
         cluster = kind(room, program) if kind is Alone else kind(room, program, members=1, nodes=1)
         try:
             number, _ = Client(cluster.places).request(b"do first", b"(SETF (GET 'COUNTER 'KY) 0)")
-            for far in (number + 1, number + 1000, 2**62, 10**19 - 1):
+            for far in (number + 1, number + 1000, number + 2**40, 10**19 - 1):
                 began = time.monotonic()
                 told = all_answers(cluster.places[0], b"ask %d %d\n%s\nno frame\n" % (far, len(LOOK), LOOK))
                 took = time.monotonic() - began
