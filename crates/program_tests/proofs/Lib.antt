@@ -1,4 +1,4 @@
 -- a session whose recipient keeps account of it
 pub mod Keeping
 -- two forms that are asked
-pub mod Asked
+pub mod SameAnswers

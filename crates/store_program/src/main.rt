@@ -84,7 +84,7 @@ fn serve_words<M: MacroFunctions + Drop, F: Write>(
     }
     let mut output = Uninterrupted::new(rt.stdout());
     match way_of(words) {
-        way @ (Way::Look | Way::Check | Way::See) => tell(rt, way, macros, words, faults),
+        way @ (Way::Look | Way::Check | Way::See) => tell(rt, way, macros, words),
         Way::Messages => {
             let mut input = Uninterrupted::new(rt.stdin());
             let folders = Telling::new(rt, rt);
@@ -104,37 +104,27 @@ fn serve_words<M: MacroFunctions + Drop, F: Write>(
 }
 
 // Tells what the words ask for, in this way. If the reader of the output goes before its end, as `head` does, that is no fault.
-fn tell<M: MacroFunctions + Drop, F: Write>(
-    rt: &HostRuntime,
-    way: Way,
-    macros: M,
-    words: &[String],
-    faults: &mut F,
-) -> Status
+fn tell<M: MacroFunctions + Drop>(rt: &HostRuntime, way: Way, macros: M, words: &[String]) -> Status
     requires answers { M.answers macros }
 {
     let closed = Cell::new(false);
     let mut output = Pipe::new(Uninterrupted::new(rt.stdout()), &closed);
+    let mut faults = BesidePipe::new(rt.stderr(), &closed);
     let status = match way {
-        Way::Look => {
-            let mut faults = BesidePipe::new(&mut *faults, &closed);
-            look(
-                rt,
-                &Looking::new(rt),
-                macros,
-                words,
-                &mut output,
-                &mut faults,
-            )
-        }
+        Way::Look => look(
+            rt,
+            &Looking::new(rt),
+            macros,
+            words,
+            &mut output,
+            &mut faults,
+        ),
         Way::Check => {
-            let mut faults = BesidePipe::new(&mut *faults, &closed);
             let mut input = Uninterrupted::new(rt.stdin());
             check(rt, macros, words, &mut input, &mut output, &mut faults)
         }
         _ => {
             let folders = Looking::new(rt);
-            let faults = BesidePipe::new(rt.stderr(), &closed);
             serve_pipe(
                 rt,
                 &Telling::new(rt, &folders),

@@ -8,7 +8,7 @@ use Rattle.evaluator.specs.DecidingForms.{if_form, progn_form}
 use Rattle.evaluator.specs.Value.{value}
 use Rattle.form_eval.specs.Acceptance.{with_symbols}
 use Rattle.form_eval.specs.PlaceForms.{get_form, setf_form, incf_form, car_form, cdr_form, prog1_form}
-use Rattle.program_tests.proofs.Asked.{asked_same}
+use Rattle.program_tests.proofs.SameAnswers.{asked_same}
 use Rattle.program_tests.proofs.decided.asked.Goals as goal
 
 pub returns-clause-when : goal.returns-clause-when
