@@ -32,6 +32,7 @@ make_room() {
     trap 'rm -rf "$room"' EXIT
     trap 'exit 129' HUP
     trap 'exit 130' INT
+    trap 'exit 141' PIPE
     trap 'exit 143' TERM
 }
 
@@ -77,18 +78,23 @@ find_length() {
     done
 }
 
+# Writes a line. Who reads it may go before the end, as `head` does: then this ends too, and says nothing.
+tell() {
+    printf '%s\n' "$1" 2>/dev/null || exit 3
+}
+
 # Tells where the form is that a session over the rest has refused. The words are the numbers of its line: where it was refused, number, name and
 # which form it was, and where that began.
 tell_place() {
     at_column=$2 from_column=$7
     [ "$1" -gt 1 ] || at_column=$((rest_column + $2 - 1))
     [ "$6" -gt 1 ] || from_column=$((rest_column + $7 - 1))
-    echo "line $((rest_line + $1 - 1)), column $at_column: refused with $3 $4 in form $((forms + $5)), which began at line $((rest_line + $6 - 1)), column $from_column"
+    tell "line $((rest_line + $1 - 1)), column $at_column: refused with $3 $4 in form $((forms + $5)), which began at line $((rest_line + $6 - 1)), column $from_column"
 }
 
 # Tells the first line of a text, as far as a terminal has room.
 tell_text() {
-    printf '    %s\n' "$(sed -n 1p | LC_ALL=C tr -d '\000-\037\177-\377' | cut -c 1-100)"
+    tell "    $(sed -n 1p | LC_ALL=C tr -d '\000-\037\177-\377' | cut -c 1-100)"
 }
 
 # Tells the line where a form cannot be read, or has no end, and leaves what comes after it, as `check` does. The words are those of `tell_place`.
@@ -147,6 +153,6 @@ check_run() {
             *) end_as_told "$status" ;;
         esac
     done
-    echo "forms $forms refused $refused"
+    tell "forms $forms refused $refused"
     [ "$refused" -eq 0 ] || exit 1
 }

@@ -1,5 +1,7 @@
 """`check --run`: each form of a file that is refused, with its place and its text, and nothing that is written."""
+import glob
 import os
+import subprocess
 
 from calls import called, check, is_refused
 
@@ -48,12 +50,23 @@ def over_a_store(script: str, room: str, file: str) -> None:
     check("no store", (called(script, "check", file, "--run", f"--store={room}/none")[0], os.path.exists(f"{room}/none")), (3, False))
 
 
+def before_a_reader_that_goes(script: str, *words: str) -> None:
+    """Who reads the output goes before the first line: nothing is told of that, and nothing is left."""
+    rooms = "/dev/shm/pazturrok-check.*"
+    before = set(glob.glob(rooms))
+    told = subprocess.run(["sh", "-c", '"$0" "$@" | true', script, *words], stderr=subprocess.PIPE, check=False).stderr
+    lines = [line for line in told.splitlines() if b"compiled, not proved" not in line]
+    check(f"{words[0]} before a reader that goes", (lines, set(glob.glob(rooms)) - before), ([], set()))
+
+
 def check_all(script: str, room: str) -> None:
     """Checks all of it in a room."""
     file = os.path.join(room, "forms to carry out")
     with open(file, "wb") as text:
         text.write(FORMS)
     check("each refusal", called(script, "check", "--run", file), (1, TOLD, b""))
+    before_a_reader_that_goes(script, "check", "--run", file)
+    before_a_reader_that_goes(script, "help", "31")
     check("from standard input", called(script, "check", "--run", stdin=FORMS), (1, TOLD, b""))
     check("no refusal", called(script, "check", "-", "--run", stdin=b"(MAKE-PACKAGE \"P\")\n(GET 'P::X 'Y) 7"), (0, b"forms 3 refused 0\n", b""))
     check("no form", called(script, "check", "--run"), (0, b"forms 0 refused 0\n", b""))
