@@ -106,7 +106,7 @@ class GiverTest(unittest.IsolatedAsyncioTestCase):
     """A program that stands in for that of a store makes a copy, or none."""
 
     async def copy(self, script):
-        with tempfile.TemporaryDirectory() as folder, self.assertLogs("pazturrok_node.seed"):
+        with tempfile.TemporaryDirectory() as folder, mock.patch.object(seed, "logger") as logger:
             program = os.path.join(folder, "program")
             written_tree(folder, {"program": "#!/bin/sh\n" + script})
             os.chmod(program, 0o700)
@@ -117,6 +117,7 @@ class GiverTest(unittest.IsolatedAsyncioTestCase):
                     self.assertEqual(other, seed.NO_ROOM)
                 found = copy if isinstance(copy, bytes) else b"".join([piece async for piece in copy.pieces()])
             self.assertFalse(os.path.exists(os.path.join(folder, "pazturrok-given")))
+            self.assertTrue(logger.method_calls, "nothing is told of it")
             return found
 
     async def test_whole(self):
