@@ -104,6 +104,21 @@ class Embedded(unittest.TestCase):
             store.execute("1.5")
         self.assertEqual(store.execute("1"), 1)
 
+    def test_an_error_has_its_form(self) -> None:
+        store = self.store()
+        outcomes = store.execute_all(["1", "(FROB)", "2.0", "3"], raise_on_refusal=False)
+        self.assertEqual([("(FROB)", 1), ("2.0", 2)], [(it.form, it.index) for it in outcomes if isinstance(it, RefusedError)])
+        for call in (store.execute, store.answer):
+            with self.assertRaises(RefusedError) as raised:
+                call("(FROB)")
+            self.assertEqual(("(FROB)", None, "31 UNKNOWN-OPERATOR: (FROB)"), (raised.exception.form, raised.exception.index, str(raised.exception)))
+        with EmbeddedMessageStore(os.path.join(self.folder, "messages")) as messages:
+            outcomes = messages.do_all(["1", "(FROB)", "2"])
+            self.assertEqual([("(FROB)", 1)], [(it.form, it.index) for it in outcomes if isinstance(it, RefusedError)])
+            with self.assertRaises(RefusedError) as raised:
+                messages.ask("(FROB)")
+            self.assertEqual("(FROB)", raised.exception.form)
+
     def test_packages(self) -> None:
         store = self.store()
         store.execute_all(['(MAKE-PACKAGE "P")', "(SETF (GET 'P::A 'B) 7)", '(IN-PACKAGE "P")'])

@@ -57,21 +57,23 @@ lines" |a b| #\( (3 . 4) #(5 6) unwound)))
 
 (defvar *fake* (uiop:subpathname (asdf:component-pathname (asdf:find-system "pazturrok-client/tests")) "fake"))
 
-(defun call-with-answers (answers end function &rest options)
-  "Calls FUNCTION with a store whose program gives these answers in turn, as they are; and then nothing, or the fault END."
+(defun call-with-answers (answers end told function &rest options)
+  "Calls FUNCTION with a store whose program gives these answers in turn, as they are, and says before the first ones what TOLD has
+on standard error; and then nothing, or the fault END."
   (let ((folder (uiop:ensure-directory-pathname (subfolder (format nil "fake-~36R" (below (expt 36 8)))))))
     (ensure-directories-exist folder)
     (flet ((file (name text)
              (with-open-file (to (uiop:subpathname folder name) :direction :output :external-format :latin-1)
                (write-string text to))))
       (loop for answer in answers for number from 1 do (file (princ-to-string number) answer))
+      (loop for text in told for number from 1 do (file (format nil "~D.told" number) text))
       (when end (file "end" end)))
     (let ((store (apply #'open-store (uiop:native-namestring *fake*) folder options)))
       (unwind-protect (funcall function store)
         (close-store store)))))
 
-(defmacro with-answers ((store answers &key end options) &body body)
-  `(call-with-answers ,answers ,end (lambda (,store) ,@body) ,@options))
+(defmacro with-answers ((store answers &key end told options) &body body)
+  `(call-with-answers ,answers ,end ,told (lambda (,store) ,@body) ,@options))
 
 (define-check hostile-answers-harm-nobody ()
   (let ((answers (list "'A" "#.(error \"evaluated\")" "(1 #.(uiop:quit 1) 3)" "1.5" "#<X>" "A:B:C" "(1 . 2 3)" "#\\Nothing" "1/0"

@@ -36,10 +36,12 @@ class StoreTest(unittest.TestCase):
         return store
 
     @contextlib.contextmanager
-    def answering(self, *answers: str, fault: str | None = None, **options: Any) -> Iterator[Store]:
-        """A store whose program gives these answers in turn, as they are; and then nothing, or a fault."""
+    def answering(self, *answers: str, fault: str | None = None, told: dict[int, str] = {}, **options: Any) -> Iterator[Store]:
+        """A store whose program gives these answers in turn, as they are, and tells something on standard error before
+        some of them; and then nothing, or a fault."""
         with tempfile.TemporaryDirectory(dir=self.folder) as folder:
             files = {str(number): answer for number, answer in enumerate(answers, 1)}
+            files.update({f"{number}.told": text for number, text in told.items()})
             if fault is not None:
                 files["end"] = fault
             for name, text in files.items():

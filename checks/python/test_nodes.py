@@ -91,8 +91,9 @@ class Nodes(StoreTest):
         for words, wanted in (
             ([places, ADD, ADD], (0, "1\n2\n", "")),
             (["--read", places, LOOK], (0, "2\n", "")),
-            ([places, ")"], (1, "", "pazturrok: 4 STRAY-CLOSE\n")),
-            (["--ca", "/nowhere/ca", places, ADD], (1, "", "pazturrok: [Errno 2] No such file or directory\n")),
+            ([places, ")"], (1, "", "pazturrok: 4 STRAY-CLOSE: )\n")),
+            (["nowhere", ADD], (1, "", "pazturrok: a node is HOST:PORT, or unix: and the path of a socket, and not 'nowhere'\n")),
+            (["--ca", "/nowhere/ca", places, ADD], (1, "", "pazturrok: /nowhere/ca: No such file or directory\n")),
         ):
             told = subprocess.run([sys.executable, "-B", "-m", "pazturrok", *words], capture_output=True, text=True, env=SHELL)
             self.assertEqual(wanted, (told.returncode, told.stdout, told.stderr))

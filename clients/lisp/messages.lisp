@@ -27,7 +27,8 @@
 (define-condition lost-answer (store-error)
   ((number :initarg :number :reader lost-answer-number))
   (:report (lambda (condition stream)
-             (format stream "message ~D was carried out, and its answer was lost" (lost-answer-number condition))))
+             (format stream "message ~D was carried out, and its answer was lost~@[~A~]"
+                     (lost-answer-number condition) (told-form condition))))
   (:documentation "The message was carried out, once; its answer was lost, and it is not sent again."))
 
 ;;; Frames and answers
@@ -116,11 +117,12 @@
   "Starts the program, or calls the library, asks how it prints symbols, and gives the position that it told."
   (let ((whole-p nil))
     (unwind-protect
-         (let ((position (start-feed feed)))
-           (ask-feed-naming feed)
-           (setf (feed-last feed) (max position (feed-last feed))
-                 whole-p t)
-           position)
+         (handler-bind ((stopped (lambda (condition) (setf (stopped-folder condition) (feed-folder feed)))))
+           (let ((position (start-feed feed)))
+             (ask-feed-naming feed)
+             (setf (feed-last feed) (max position (feed-last feed))
+                   whole-p t)
+             position))
       (unless whole-p (leave feed)))))
 
 (defgeneric start-feed (feed)
@@ -218,62 +220,81 @@ EXISTING, SNAPSHOT-RATIO and UNICODE are those of OPEN-STORE. One feed at a time
 
 ;;; Sending
 
-(defgeneric send-messages (feed texts)
-  (:documentation "The outcomes of texts that are sent at once: each is carried out once."))
+(defgeneric send-messages (feed texts receive)
+  (:documentation "Sends texts at once, of which each is carried out once, and calls RECEIVE with the outcome of each."))
 
-(defmethod send-messages ((feed embedded-feed) texts)
+(defun next-numbers (feed texts)
+  "The numbers of messages with these texts."
+  (prog1 (loop for number from (1+ (feed-last feed)) repeat (length texts) collect number)
+    (incf (feed-last feed) (length texts))))
+
+(defmethod send-messages ((feed embedded-feed) texts receive)
   (make-feed-ready feed)
-  (let ((numbers (loop for number from (1+ (feed-last feed)) repeat (length texts) collect number)))
-    (incf (feed-last feed) (length texts))
-    (mapcar (lambda (answer) (feed-outcome feed answer))
-            (call-feed-library feed #'library-do numbers texts))))
+  (dolist (answer (call-feed-library feed #'library-do (next-numbers feed texts) texts))
+    (funcall receive (feed-outcome feed answer))))
 
-(defmethod send-messages ((feed feed) texts)
+(defmethod send-messages ((feed feed) texts receive)
   "Each is sent to the program under a number."
   (make-feed-ready feed)
-  (let* ((first (1+ (feed-last feed)))
-         (numbers (loop for number from first repeat (length texts) collect number))
-         (outcomes '())
-         (stops 0))
-    (incf (feed-last feed) (length texts))
-    (loop
-      (let* ((done (length outcomes)) (answered 0))
-        (handler-case
-            (progn
-              (unless (feed-program feed) (open-feed-again feed))
-              (exchange-frames feed
-                               (mapcar #'message-frame (nthcdr done numbers) (nthcdr done texts))
-                               (nthcdr done numbers)
-                               (lambda (answer)
-                                 (incf answered)
-                                 (push (feed-outcome feed answer) outcomes)))
-              (return (nreverse outcomes)))
-          (stopped (condition)
-            (setf stops (if (plusp answered) 1 (1+ stops)))
-            (when (or (not (killed-p condition)) (> stops *restarts*)) (error condition))
-            (let ((position (open-feed-again feed)))
-              (loop for number in (nthcdr (length outcomes) numbers)
-                    while (<= number position)
-                    do (push (make-condition 'lost-answer :number number) outcomes)))
-            (when (= (length outcomes) (length texts)) (return (nreverse outcomes)))))))))
+  (let ((numbers (next-numbers feed texts)) (stops 0))
+    (flet ((take-outcome (outcome)
+             (pop numbers)
+             (pop texts)
+             (funcall receive outcome)))
+      (loop while texts
+            do (let ((before (length texts)))
+                 (handler-case
+                     (progn
+                       (unless (feed-program feed) (open-feed-again feed))
+                       (exchange-frames feed (mapcar #'message-frame numbers texts) numbers
+                                        (lambda (answer) (take-outcome (feed-outcome feed answer)))))
+                   (stopped (condition)
+                     (setf stops (if (< (length texts) before) 1 (1+ stops)))
+                     (when (or (not (killed-p condition)) (> stops *restarts*)) (error condition))
+                     (let ((position (open-feed-again feed)))
+                       (loop while (and numbers (<= (first numbers) position))
+                             do (take-outcome (make-condition 'lost-answer :number (first numbers))))))))))))
 
 (defmethod room-of ((feed feed)) +pipe-room+)
 (defmethod room-of ((feed embedded-feed)) +library-room+)
 
+(defun call-telling (texts first function)
+  "The outcomes of texts, with which FUNCTION calls its argument one by one. Each condition is told which form it is of, and so is
+one that leaves the others without an answer. FIRST is the index of the first text, or NIL of a form alone."
+  (let ((outcomes '()) (unanswered texts))
+    (handler-bind ((unanswered (lambda (condition)
+                                 (when unanswered
+                                   (concern condition (first unanswered) (and first (+ first (length outcomes))))))))
+      (funcall function (lambda (outcome)
+                          (push outcome outcomes)
+                          (pop unanswered))))
+    (tell-forms (nreverse outcomes) texts first)))
+
+(defun feed-texts (feed texts first)
+  "The outcomes of texts, each carried out once."
+  (call-telling texts first
+                (lambda (receive)
+                  (loop while texts
+                        do (let ((some (subseq texts 0 (first-texts texts (room-of feed)))))
+                             (alone (feed)
+                               (send-messages feed some receive)
+                               (when (changes-naming-p (first (last some))) (ask-feed-naming feed)))
+                             (setf texts (nthcdr (length some) texts)))))))
+
 (defun feed-all (feed forms)
   "Has many forms carried out, objects or texts, each once. Gives the value of each, or the condition in its place."
-  (let ((texts (mapcar (lambda (form) (feed-text feed form)) forms)))
-    (loop while texts
-          nconc (let ((some (subseq texts 0 (first-texts texts (room-of feed)))))
-                  (setf texts (nthcdr (length some) texts))
-                  (alone (feed)
-                    (prog1 (send-messages feed some)
-                      (when (changes-naming-p (first (last some))) (ask-feed-naming feed))))))))
+  (feed-texts feed (texts-of forms (lambda (form) (feed-text feed form))) 0))
 
 (defun feed-form (feed form)
   "Has one form carried out, once, and gives its value."
-  (let ((outcome (first (feed-all feed (list form)))))
-    (if (typep outcome 'store-error) (error outcome) outcome)))
+  (value-of (first (feed-texts feed (list (feed-text feed form)) nil))))
+
+(defun asked-value (feed form ask)
+  "The value of a question, to whose text ASK gives the text of the answer."
+  (let ((text (feed-text feed form)))
+    (value-of (first (call-telling (list text) nil
+                                   (lambda (receive)
+                                     (alone (feed) (funcall receive (feed-outcome feed (funcall ask text))))))))))
 
 (defgeneric answer-to-question (feed text)
   (:documentation "The text of the answer to a question.")
@@ -298,6 +319,4 @@ EXISTING, SNAPSHOT-RATIO and UNICODE are those of OPEN-STORE. One feed at a time
 
 (defun ask (feed form)
   "Asks for the value of a form, which may change nothing; of nodes one is asked, as far as its store has come."
-  (let* ((text (feed-text feed form))
-         (outcome (alone (feed) (feed-outcome feed (answer-to-question feed text)))))
-    (if (typep outcome 'store-error) (error outcome) outcome)))
+  (asked-value feed form (lambda (text) (answer-to-question feed text))))

@@ -135,29 +135,28 @@ so many times at most, and for so many seconds after the first time; a try that 
            (setf (node-feed-at feed) (mod (1+ (node-feed-at feed)) (length (feed-words feed))))
            (sleep *pause-between-nodes*)))
 
-(defun send-to-nodes (feed texts name)
-  "The outcomes of texts that are sent at once, each under a name of its own, or one under NAME."
-  (let* ((names (loop repeat (length texts)
-                      collect (or name (format nil "~A-~D" (node-feed-prefix feed) (incf (node-feed-count feed))))))
-         (outcomes '()))
+(defun send-to-nodes (feed texts name receive)
+  "Sends texts at once, each under a name of its own, or one under NAME, and calls RECEIVE with the outcome of each."
+  (let ((names (loop repeat (length texts)
+                     collect (or name (format nil "~A-~D" (node-feed-prefix feed) (incf (node-feed-count feed)))))))
     (call-with-nodes
      feed
      (lambda (stream)
-       (let ((done (length outcomes)))
-         (loop for name in (nthcdr done names)
-               for text in (nthcdr done texts)
-               do (format stream "do ~A ~D~%~A~%" name (length text) text))
-         (finish-output stream)
-         (loop repeat (- (length texts) done)
-               do (multiple-value-bind (number answer) (read-node-answer feed)
-                    (unless number (malformed answer "it is not that of a message"))
-                    (setf (feed-last feed) (max number (feed-last feed)))
-                    (push (node-outcome feed number answer) outcomes)))))
-     :resend-limit *resend-limit*)
-    (nreverse outcomes)))
+       (loop for name in names
+             for text in texts
+             do (format stream "do ~A ~D~%~A~%" name (length text) text))
+       (finish-output stream)
+       (loop while texts
+             do (multiple-value-bind (number answer) (read-node-answer feed)
+                  (unless number (malformed answer "it is not that of a message"))
+                  (setf (feed-last feed) (max number (feed-last feed)))
+                  (pop names)
+                  (pop texts)
+                  (funcall receive (node-outcome feed number answer)))))
+     :resend-limit *resend-limit*)))
 
-(defmethod send-messages ((feed node-feed) texts)
-  (send-to-nodes feed texts nil))
+(defmethod send-messages ((feed node-feed) texts receive)
+  (send-to-nodes feed texts nil receive))
 
 (defun node-outcome (feed number answer)
   (let ((outcome (feed-outcome feed answer)))
@@ -179,12 +178,20 @@ so many times at most, and for so many seconds after the first time; a try that 
 
 ;;; Opening
 
+(defun check-node (node)
+  (let ((colon (position #\: node :from-end t)))
+    (unless (or (find #\/ node)
+                (socket-path-p node)
+                (and colon (< 0 colon (1- (length node))) (every #'digit-char-p (subseq node (1+ colon)))))
+      (error "a node is HOST:PORT, or unix: and the path of a socket, and not ~S" node))))
+
 (defun open-nodes (nodes &key (package *package*) intern (time-limit 120) (patience 10) (unicode t))
   "A feed whose messages go to NODES, a list of HOST:PORT or of paths of sockets. A request goes to one of them, and to
 the next one where that does not answer within PATIENCE seconds; NO-NODE is signalled where none does within TIME-LIMIT, or
 140 seconds after a message was sent first.
 PACKAGE, INTERN and UNICODE are those of OPEN-STORE."
   (check-type nodes cons)
+  (mapc #'check-node nodes)
   (make-node-feed nodes (make-naming :package (find-package package) :interns-p intern :unicode-p unicode) time-limit patience))
 
 (defmacro with-nodes ((feed nodes &rest options) &body body)
@@ -201,10 +208,9 @@ PACKAGE, INTERN and UNICODE are those of OPEN-STORE."
   "Has a form carried out under a name of one's own, once with all that is sent under it, and gives its value."
   (unless (name-p name)
     (cannot-send name "a name has 1 to 100 letters, digits, dots, hyphens and underscores"))
-  (let ((outcome (alone (feed) (first (send-to-nodes feed (list (feed-text feed form)) name)))))
-    (if (typep outcome 'store-error) (error outcome) outcome)))
+  (let ((texts (list (feed-text feed form))))
+    (value-of (first (call-telling texts nil (lambda (receive) (alone (feed) (send-to-nodes feed texts name receive))))))))
 
 (defun ask-fresh (feed form)
   "Asks after all that was answered before, by any node, to anybody."
-  (let ((outcome (alone (feed) (feed-outcome feed (ask-nodes feed "read" (feed-text feed form))))))
-    (if (typep outcome 'store-error) (error outcome) outcome)))
+  (asked-value feed form (lambda (text) (ask-nodes feed "read" text))))

@@ -33,6 +33,7 @@
                (:file "messages")
                (:file "nodes")
                (:file "properties")
-               (:file "hostile"))
+               (:file "hostile")
+               (:file "errors"))
   :perform (test-op (operation component)
              (uiop:symbol-call "PAZTURROK-CHECK" "TEST")))

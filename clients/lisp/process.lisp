@@ -7,7 +7,10 @@
 
 (defstruct (program (:copier nil))
   "A program that runs, or that has ended. ERRORS is a file without a name, which takes its standard error."
-  process to from errors (overdue-p nil))
+  process to from errors (overdue-p nil)
+  (begins '() :type list)                       ; in which line each text of the last exchange begins
+  (line 1 :type unsigned-byte)                  ; in which line the next one does
+  (heard 0 :type unsigned-byte))                ; so many characters of standard error
 
 #+ecl (ffi:clines "#include <fcntl.h>")
 
@@ -35,6 +38,11 @@
 
 (defun launch (words)
   "Starts the program. Characters are bytes here: what is over 127 is judged later."
+  (handler-case (launch-with-file words)
+    (file-error (condition)
+      (error 'no-program :path (first words) :reason (format nil "no file takes what it tells: ~A" condition)))))
+
+(defun launch-with-file (words)
   (uiop:with-temporary-file (:pathname path)
     (let* ((process (started-process words path))
            (errors (open path :external-format :latin-1))
@@ -58,10 +66,51 @@
         do (sleep pause)))
 
 (defun all-errors (program)
-  "What the program wrote to standard error, at most 65,536 characters of it; or NIL."
+  "What the program wrote to standard error, at most 65,536 characters of it, beside lines on refusals; or NIL."
   (let* ((text (make-string 65536))
-         (end (ignore-errors (read-sequence text (program-errors program)))))
-    (and end (plusp end) (string-right-trim '(#\Newline) (subseq text 0 end)))))
+         (end (ignore-errors (file-position (program-errors program) 0) (read-sequence text (program-errors program))))
+         (told (and end (string-right-trim '(#\Newline) (subseq text 0 end))))
+         (lines (and told (string/= told "") (remove-if #'line-of-reason (uiop:split-string told :separator '(#\Newline))))))
+    (and lines (format nil "~{~A~^~%~}" lines))))
+
+;;; What standard error says of a form that was refused: where the form begins, and what stands behind the number.
+
+(defun number-after (word text place)
+  "The number after a word that stands in TEXT at PLACE, and the place after it; or NIL."
+  (let ((start (+ place (length word))))
+    (when (and (< start (length text)) (string= word text :start2 place :end2 start) (digit-char-p (char text start)))
+      (parse-integer text :start start :junk-allowed t))))
+
+(defun line-of-reason (text)
+  "The line in which a refused form begins, and what stands behind its number; or NIL of a text that says no such thing."
+  (let ((line nil) (place (if (eql (mismatch "pazturrok: " text) 11) 11 0)))
+    (loop for word in '("line " ", column " ": ")
+          do (multiple-value-bind (number end) (number-after word text place)
+               (unless number (return-from line-of-reason nil))
+               (setf line (or line number)
+                     place end)))
+    (and (eql (mismatch ": " text :start2 place) 2)
+         (values line (subseq text (+ 2 place))))))
+
+(defun heard-reasons (program)
+  "What standard error has gained since it was heard last of forms that were refused: lines, each with what stands behind the number."
+  (let ((errors (program-errors program)))
+    (when (open-stream-p errors)
+      (file-position errors (program-heard program))
+      (loop for text = (read-line errors nil)
+            while text
+            do (incf (program-heard program) (1+ (length text)))
+            when (multiple-value-bind (line reason) (line-of-reason text)
+                   (and line (cons line reason)))
+              collect it))))
+
+(defgeneric reasons (link answers)
+  (:documentation "What is told beside the number of each of these answers to the last exchange; or NIL.")
+  (:method ((program program) answers)
+    (let ((heard (and (some #'refusal-of answers) (heard-reasons program))))
+      (loop for answer in answers
+            for line in (program-begins program)
+            collect (and (refusal-of answer) (cdr (assoc line heard)))))))
 
 (defgeneric end (link)
   (:documentation "Ends a program, or closes a store of the library. Gives the status, and what was written to standard error."))

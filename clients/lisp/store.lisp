@@ -88,6 +88,10 @@ another way leaves it broken."
       ((nil))
       (:end (stop store seconds))
       (t (malformed "" "more was answered than was asked")))
+    (setf (program-begins program)
+          (loop for text in texts
+                collect (program-line program)
+                do (incf (program-line program) (1+ (count #\Newline text)))))
     (flet ((say ()
              (dolist (text texts) (write-line text (program-to program)))
              (finish-output (program-to program))
@@ -137,7 +141,8 @@ another way leaves it broken."
         (store-homes store) '()
         (store-program store) nil
         (store-program store) (start store))
-  (unwind-protect (ask-naming store (store-opening-limit store))
+  (unwind-protect (handler-bind ((stopped (lambda (condition) (setf (stopped-folder condition) (store-folder store)))))
+                    (ask-naming store (store-opening-limit store)))
     (unless (eq (store-state store) :good) (end-session store :broken))))
 
 (defun make-ready (store)
@@ -252,28 +257,32 @@ BODY was read, if the options have none."
     (some (lambda (operator) (search operator letters :test #'char-equal))
           '("IN-PACKAGE" "USE-PACKAGE" "IMPORT" "EXPORT"))))
 
-(defun outcome (store answer &optional place)
+(defun outcome (store answer &optional reason place)
   "The value that an answer tells; or the condition that the form was refused, or answered with nonsense."
   (handler-case
       (multiple-value-bind (number name) (refusal-of answer)
         (if number
-            (make-condition 'refused :number number :name name :place place)
+            (make-condition 'refused :number number :name name :reason reason :place place)
             (let ((naming (store-naming store)))
               (parse-answer answer (lambda (prefix name)
                                      (symbol-of (home-named prefix name naming) name naming))
                             (naming-unicode-p naming)))))
     (malformed-answer (condition) condition)))
 
+(defun last-line (text)
+  (and text (subseq text (1+ (or (position #\Newline text :from-end t) -1)))))
+
 (defun outcomes (store texts answers seconds)
   "The outcomes of the forms that were answered. Only the last of TEXTS may change how symbols are printed."
   (let* ((last (first (last answers)))
-         (before (mapcar (lambda (answer) (outcome store answer)) (butlast answers)))
-         (place (when (ends-session-p store last) (nth-value 1 (end-session store :ended)))))
+         (reasons (reasons (store-program store) answers))
+         (before (mapcar (lambda (answer reason) (outcome store answer reason)) (butlast answers) reasons))
+         (place (when (ends-session-p store last) (last-line (nth-value 1 (end-session store :ended))))))
     (when (and (= (length answers) (length texts))
                (eq (store-state store) :good)
                (changes-naming-p (first (last texts))))
       (ask-naming store seconds))
-    (append before (list (outcome store last place)))))
+    (append before (list (outcome store last (first (last reasons)) place)))))
 
 (defun carry-out (store texts seconds)
   "Sends the texts of forms at once. Gives the outcomes of those that were answered, which are the first
@@ -308,15 +317,18 @@ the first one that changes how symbols are printed."
         when (changes-naming-p text) return count
         finally (return (length texts))))
 
-(defun send-texts (store texts seconds)
-  "The outcomes of all texts. A condition that keeps the store from going on is signalled."
+(defun send-texts (store texts seconds first)
+  "The outcomes of all texts. A condition that keeps the store from going on is signalled. FIRST is the index of the first
+text, or NIL of a form alone."
   (let ((outcomes '()))
     (loop while texts
           do (let ((group (subseq texts 0 (first-texts texts (room-of store)))))
                (multiple-value-bind (done hindrance) (carry-out store group seconds)
-                 (setf outcomes (revappend done outcomes)
-                       texts (nthcdr (length done) texts))
+                 (setf outcomes (revappend (tell-forms done texts first) outcomes)
+                       texts (nthcdr (length done) texts)
+                       first (and first (+ first (length done))))
                  (when hindrance
+                   (when (and texts (typep hindrance 'unanswered)) (concern hindrance (first texts) first))
                    (restart-case (error hindrance)
                      (retry-form ()
                        :report "Open the store again, and send what was not answered once more."
@@ -325,7 +337,9 @@ the first one that changes how symbols are printed."
                        :report "Open the store again; what was not answered is left, and its value is NIL."
                        (let-open store)
                        (loop repeat (- (length group) (length done))
-                             do (push nil outcomes) (pop texts))))))))
+                             do (push nil outcomes)
+                                (pop texts)
+                                (when first (incf first)))))))))
     (nreverse outcomes)))
 
 (defun let-open (store)
@@ -333,13 +347,13 @@ the first one that changes how symbols are printed."
   (close-store store)
   (setf (store-state store) :ended))
 
-(defun settle (store text outcome seconds)
+(defun settle (store text outcome seconds &optional index)
   "The value of the form; or what its outcome is instead is signalled."
   (loop while (typep outcome 'store-error)
         do (restart-case (error outcome)
              (retry-form ()
                :report "Send the form once more."
-               (setf outcome (first (send-texts store (list text) seconds))))
+               (setf outcome (first (send-texts store (list text) seconds index))))
              (skip-form ()
                :report "Leave the form; its value is NIL."
                (setf outcome nil))))
@@ -349,19 +363,22 @@ the first one that changes how symbols are printed."
   "Sends the text of one whole form, and gives its value. It is read under the standard readtable, in
 COMMON-LISP-USER, in base 10."
   (let ((text (check-text text)))
-    (settle store text (first (send-texts store (list text) time-limit)) time-limit)))
+    (settle store text (first (send-texts store (list text) time-limit nil)) time-limit)))
 
 (defun send (store form &key (time-limit (store-time-limit store)))
   "Sends a form as an object, and gives its value."
   (let ((text (sendable-text store form time-limit)))
-    (settle store text (first (send-texts store (list text) time-limit)) time-limit)))
+    (settle store text (first (send-texts store (list text) time-limit nil)) time-limit)))
 
 (defun send-all (store forms &key (time-limit (store-time-limit store)) (on-refusal :signal))
   "Sends many forms, without waiting for each answer, and gives the list of their values. All of them are
 done, whether one is refused or not. A refusal is signalled when all are answered; or, where ON-REFUSAL is
 :RETURN, its condition stands in the place of a value. TIME-LIMIT is for the answers of what is sent at once."
-  (let* ((texts (mapcar (lambda (form) (sendable-text store form time-limit)) forms))
-         (outcomes (send-texts store texts time-limit)))
+  (let* ((texts (texts-of forms (lambda (form) (sendable-text store form time-limit))))
+         (outcomes (send-texts store texts time-limit 0)))
     (ecase on-refusal
       (:return outcomes)
-      (:signal (mapcar (lambda (text outcome) (settle store text outcome time-limit)) texts outcomes)))))
+      (:signal (loop for text in texts
+                     for outcome in outcomes
+                     for index from 0
+                     collect (settle store text outcome time-limit index))))))

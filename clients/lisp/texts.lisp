@@ -4,7 +4,6 @@
 
 (in-package "PAZTURROK-CLIENT")
 
-(defparameter *whitespace* (map 'string #'code-char '(9 10 12 13 32 127)))
 (defparameter *token-enders* (concatenate 'string *whitespace* "()'\"`,;"))
 
 (defun skip-delimited (text place mark)

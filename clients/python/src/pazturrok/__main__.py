@@ -28,7 +28,7 @@ def main() -> int:
         with NodeStore(asked.nodes.split(","), time_limit=asked.seconds, context=context) as store:
             for form in asked.forms:
                 print(printed(store.read(form) if asked.read else store.do(form)))
-    except (StoreError, OSError) as error:
+    except (StoreError, ValueError) as error:
         print(f"pazturrok: {error}", file=sys.stderr)
         return 1
     return 0
@@ -38,9 +38,14 @@ def context_of(authority: str | None, certificate: str | None) -> ssl.SSLContext
     """By which nodes are known, and this client; None without TLS."""
     if not authority and not certificate:
         return None
-    context = ssl.create_default_context(cafile=authority)
-    if certificate:
-        context.load_cert_chain(certificate)
+    file = authority
+    try:
+        context = ssl.create_default_context(cafile=authority)
+        if certificate:
+            file = certificate
+            context.load_cert_chain(certificate)
+    except OSError as error:
+        raise ValueError(f"{file}: {error.strerror or error}") from error
     return context
 
 

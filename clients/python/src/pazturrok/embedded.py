@@ -8,7 +8,7 @@ from typing import TypeVar
 
 from .alone import alone
 from .answers import refusal_of
-from .errors import BrokenStoreError, ClosedStoreError, FaultError, NestedCallError, RefusedError
+from .errors import BrokenStoreError, ClosedStoreError, FaultError, NestedCallError, RefusedError, telling
 from .library import EXISTING, RATIO, Figures, Library, calls_of, checked_ratio, find_library
 from .messages import MessageStore
 from .naming import NAMING_QUESTION
@@ -85,13 +85,16 @@ class EmbeddedStore(Store):
         """The printed text of a form's value, as it is, of a text that nobody looked at before."""
         check_characters(text, text)
         self._make_ready()
-        answer = self._call(lambda library: library.execute(text.encode("ascii")))
+        with telling([text], (), None):
+            answer = self._call(lambda library: library.execute(text.encode("ascii")))
         if changes_naming(text):
             self._ask_naming(None)
         if answer.startswith("! "):
             refusal = refusal_of(answer)
             assert refusal
-            raise RefusedError(*refusal)
+            error = RefusedError(*refusal)
+            error.concern(text, None)
+            raise error
         return answer
 
     @alone
@@ -148,12 +151,11 @@ class EmbeddedMessageStore(MessageStore):
         self._ready()
         return self._call(lambda library: library.figures())
 
-    def _do_some(self, texts: Sequence[str]) -> list[Outcome]:
+    def _do_some(self, texts: Sequence[str], outcomes: list[Outcome]) -> None:
         numbers = range(self._ready() + 1, self._last + 1 + len(texts))
         self._last += len(texts)
         messages = [(number, text.encode("ascii")) for number, text in zip(numbers, texts)]
-        answers = self._call(lambda library: library.do_all(messages))
-        return list(map(self._naming.outcome, answers))
+        outcomes += map(self._naming.outcome, self._call(lambda library: library.do_all(messages)))
 
     def _ask(self, text: str) -> str:
         self._ready()

@@ -2,25 +2,71 @@
 
 from __future__ import annotations
 
+import contextlib
+from collections.abc import Iterator, Sequence
 from typing import Any
+
+SHOWN = 100
+"""So many characters of a form a message has at most; the error has the whole."""
+
+
+def shown(text: str) -> str:
+    """The beginning of a text, on one line."""
+    line = " ".join(text[: 4 * SHOWN].split())
+    return line if len(line) <= SHOWN and len(text) <= 4 * SHOWN else f"{line[:SHOWN].rstrip()} .."
 
 
 class StoreError(Exception):
-    """Something that a store or this client of it refuses, or that went wrong."""
+    """Something that a store or this client of it refuses, or that went wrong.
+
+    Of one that is about a form, `form` is the text that was sent, whole, and `index` the place of the form in the
+    list that was given, from 0; None of a form that was given alone.
+    """
+
+    form: str | None = None
+    index: int | None = None
+
+    BEFORE_FORM = ": "
+    """What stands between the error and its form."""
+
+    def concern(self, form: str | None, index: int | None) -> None:
+        """Says which form it is of."""
+        self.form, self.index = form, index
+
+    def _summary(self) -> str:
+        return super().__str__()
+
+    def _lines(self) -> str | None:
+        """What stands on lines of its own after it."""
+        return None
+
+    def __str__(self) -> str:
+        text, which = self._summary(), "" if self.index is None else f"forms[{self.index}]"
+        if self.form is not None:
+            text += f"{self.BEFORE_FORM}{which and which + ' is '}{shown(self.form)}"
+        elif which:
+            text = f"{which}: {text}"
+        lines = self._lines()
+        return f"{text}\n{lines}" if lines else text
 
 
 class RefusedError(StoreError):
     """The store refused the form, which changed nothing.
 
+    `reason` is what stands behind the number, as the operator that is not known, where the program tells it.
     The store goes on: after 1 to 25 the session has ended, `place` is what standard error says of it, and
     the next form opens the store again.
     """
 
-    def __init__(self, number: int, name: str, place: str | None = None) -> None:
-        super().__init__(f"{number} {name}" + (f"\n{place}" if place else ""))
+    def __init__(self, number: int, name: str, place: str | None = None, reason: str | None = None) -> None:
+        super().__init__(f"{number} {name}" + (f" ({reason})" if reason else ""))
         self.number = number
         self.name = name
         self.place = place
+        self.reason = reason
+
+    def _lines(self) -> str | None:
+        return None if self.reason else self.place
 
 
 class UnsendableError(StoreError):
@@ -48,10 +94,13 @@ class MalformedAnswerError(StoreError):
 class UnansweredError(StoreError):
     """The program gave no answer: whether the form is in the store is not known, and the store is broken.
 
-    Of many forms that were sent at once, `outcomes` are those of the first ones, which were answered.
+    Of many forms that were sent at once, `outcomes` are those of the first ones, which were answered; `form` and
+    `index` are of the first one that was not.
     """
 
     outcomes: list[Any] = []  # noqa: RUF012
+
+    BEFORE_FORM = "; not answered: "
 
 
 class FaultError(UnansweredError):
@@ -89,12 +138,23 @@ class NoProgramError(StoreError):
 
 
 class StoppedError(UnansweredError):
-    """The program has ended; `fault` is all that it wrote to standard error."""
+    """The program has ended; `fault` is all that it wrote to standard error.
+
+    Of a store that could not be opened `folder` is its folder.
+    """
+
+    folder: str | None = None
 
     def __init__(self, status: int, fault: str) -> None:
-        super().__init__(f"the program has ended with status {status}" + (f":\n{fault}" if fault else ""))
+        super().__init__(f"the program has ended with status {status}")
         self.status = status
         self.fault = fault
+
+    def _summary(self) -> str:
+        return super()._summary() + (f" as it opened {self.folder}" if self.folder else "")
+
+    def _lines(self) -> str | None:
+        return self.fault
 
 
 class TimeLimitError(UnansweredError, TimeoutError):
@@ -103,6 +163,26 @@ class TimeLimitError(UnansweredError, TimeoutError):
     def __init__(self, seconds: float) -> None:
         super().__init__(f"no answer within {seconds} seconds; the program was ended")
         self.seconds = seconds
+
+
+@contextlib.contextmanager
+def telling(texts: Sequence[str], outcomes: Sequence[Any], first: int | None) -> Iterator[None]:
+    """Within it the texts of forms get their outcomes. Each error of these is told which form it is of, and one that
+    leaves the rest without an answer also what the outcomes are.
+
+    `first` is the index of the first form, None of a form alone.
+    """
+    try:
+        yield
+    except UnansweredError as error:
+        error.outcomes = list(outcomes)
+        for text in texts[len(outcomes) :][:1]:
+            error.concern(text, None if first is None else first + len(outcomes))
+        raise
+    finally:
+        for place, (text, outcome) in enumerate(zip(texts, outcomes)):
+            if isinstance(outcome, StoreError):
+                outcome.concern(text, None if first is None else first + place)
 
 
 class LostAnswerError(StoreError):

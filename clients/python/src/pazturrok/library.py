@@ -219,6 +219,10 @@ class Library:
             self._refusal(number)
         return Figures(figures.generation, figures.records, figures.version)
 
+    def reason(self, place: int) -> str | None:
+        """The library tells the number alone."""
+        return None
+
     def end(self, limit: float | None = None) -> tuple[int, str]:
         """Closes the store."""
         self._close()

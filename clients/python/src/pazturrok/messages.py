@@ -13,14 +13,14 @@ from .errors import (
     LostAnswerError,
     MalformedAnswerError,
     StoppedError,
-    StoreError,
     UnsendableError,
+    telling,
 )
 from .naming import NAMING_QUESTION, Naming, until_naming
 from .printer import FORM_LIMIT, check_characters, printed
 from .program import Program
 from .properties import Properties
-from .store import Form, Outcome, changes_naming
+from .store import Form, Outcome, changes_naming, texts_of, value_of
 from .values import Value
 
 HEAD = re.compile(rb"(?:0|[1-9][0-9]*|ask) (0|[1-9][0-9]*)")
@@ -104,7 +104,8 @@ class MessageStore(Shared, Properties):
         options: Sequence[str] = (),
         unicode: bool = True,
     ) -> None:
-        self._words = [os.fspath(program), "run", os.fspath(folder), "--messages", *options]
+        self._folder = os.fspath(folder)
+        self._words = [os.fspath(program), "run", self._folder, "--messages", *options]
         self._time_limit = time_limit
         self._begin(unicode)
 
@@ -145,19 +146,20 @@ class MessageStore(Shared, Properties):
 
     def do(self, form: Form) -> Value:
         """Has a form carried out, its text or the form as a list, and gives its value."""
-        value = self.do_all([form])[0]
-        if isinstance(value, StoreError):
-            raise value
-        return value
+        return value_of(self._do_texts([text_of(form, self._unicode)], None)[0])
 
     def do_all(self, forms: Iterable[Form]) -> list[Outcome]:
         """Has many forms carried out, all sent at once, and gives the value of each, or its exception."""
-        return self._do_texts([text_of(form, self._unicode) for form in forms])
+        return self._do_texts(texts_of(forms, lambda form: text_of(form, self._unicode), 0), 0)
 
     @alone
     def ask(self, form: Form) -> Value:
         """Asks for the value of a form, which may change nothing."""
-        return self._naming.value(self._ask(text_of(form, self._unicode)))
+        text = text_of(form, self._unicode)
+        outcomes: list[Outcome] = []
+        with telling([text], outcomes, None):
+            outcomes.append(self._naming.outcome(self._ask(text)))
+        return value_of(outcomes[0])
 
     def _put_form(self, form: list[Value]) -> Value:
         return self.do(form)
@@ -168,36 +170,39 @@ class MessageStore(Shared, Properties):
     # Sending
 
     @alone
-    def _do_texts(self, texts: Sequence[str]) -> list[Outcome]:
+    def _do_texts(self, texts: Sequence[str], first: int | None) -> list[Outcome]:
+        """The outcomes of texts. `first` is the index of the first one, None of a form alone."""
         outcomes: list[Outcome] = []
-        while len(outcomes) < len(texts):
-            outcomes += self._do_some(until_naming(texts[len(outcomes) :]))
-            if changes_naming(texts[len(outcomes) - 1]):
-                self._ask_naming()
+        with telling(texts, outcomes, first):
+            while len(outcomes) < len(texts):
+                self._do_some(until_naming(texts[len(outcomes) :]), outcomes)
+                if changes_naming(texts[len(outcomes) - 1]):
+                    self._ask_naming()
         return outcomes
 
-    def _do_some(self, texts: Sequence[str]) -> list[Outcome]:
-        """The outcomes of texts that change no names, but for the last one."""
+    def _do_some(self, texts: Sequence[str], outcomes: list[Outcome]) -> None:
+        """Appends the outcomes of texts that change no names, but for the last one."""
         numbers = range(self._ready() + 1, self._last + 1 + len(texts))
         self._last += len(texts)
-        outcomes: list[Outcome] = []
+        unanswered = list(zip(numbers, texts))
         stops = 0
-        while len(outcomes) < len(texts):
+        while unanswered:
             answers: list[str] = []
             try:
-                unanswered = list(zip(numbers, texts))[len(outcomes) :]
                 self._exchange([message(*pair) for pair in unanswered], answers)
             except StoppedError as error:
+                outcomes += map(self._naming.outcome, answers)
                 stops = 1 if answers else stops + 1
                 if error.status >= 0 or stops > RESTARTS:
                     raise
-                outcomes += map(self._naming.outcome, answers)
+                del unanswered[: len(answers)]
                 position = self._open()
-                lost = numbers[len(outcomes) :]
-                outcomes += [LostAnswerError(number) for number in lost if number <= position]
+                lost = [LostAnswerError(number) for number, _ in unanswered if number <= position]
+                outcomes += lost
+                del unanswered[: len(lost)]
             else:
                 outcomes += map(self._naming.outcome, answers)
-        return outcomes
+                del unanswered[: len(answers)]
 
     def _ask(self, text: str) -> str:
         """The answer to a question, which is asked again where the program was killed."""
@@ -249,6 +254,7 @@ class MessageStore(Shared, Properties):
                 self._ask_naming()
                 break
             except StoppedError as error:
+                error.folder = self._folder
                 if error.status >= 0 or stops == RESTARTS:
                     raise
         assert splitter.position is not None

@@ -37,18 +37,12 @@ class Naming:
         symbol = Symbol(name, package)
         return [] if symbol == Symbol("NIL", LISP) else symbol
 
-    def value(self, answer: str) -> Value:
-        """The value that an answer tells; a refusal is raised."""
-        refusal = refusal_of(answer)
-        if refusal:
-            raise RefusedError(*refusal)
-        return parse_answer(answer, self.symbol, self._unicode)
-
     def outcome(self, answer: str) -> Outcome:
-        """The same, and an exception in place of a value."""
+        """The value that an answer tells; or that the form was refused, or answered with nonsense."""
         try:
-            return self.value(answer)
-        except (RefusedError, MalformedAnswerError) as error:
+            refusal = refusal_of(answer)
+            return RefusedError(*refusal) if refusal else parse_answer(answer, self.symbol, self._unicode)
+        except MalformedAnswerError as error:
             return error
 
 

@@ -21,13 +21,13 @@ from .errors import (
     MalformedAnswerError,
     NoNodeError,
     RefusedError,
-    StoreError,
     UnsendableError,
+    telling,
 )
 from .messages import FrameSplitter, question, text_of
 from .naming import NAMING_QUESTION, Naming, until_naming
 from .properties import Properties
-from .store import Form, Outcome, changes_naming
+from .store import Form, Outcome, changes_naming, texts_of, value_of
 from .values import Value
 
 VERSION = 1
@@ -138,7 +138,7 @@ class NodeStore(Shared, Properties):
         if not nodes:
             raise ValueError("no nodes")
         super().__init__()
-        self._nodes, self._context = list(nodes), context
+        self._nodes, self._context = [checked_node(node) for node in nodes], context
         self._time_limit, self._patience = time_limit, patience
         self._naming, self._unicode = Naming(unicode), unicode
         self._connection: Connection | None = None
@@ -172,14 +172,11 @@ class NodeStore(Shared, Properties):
         """
         if name is not None and not NAME.fullmatch(name):
             raise UnsendableError(name, "a name has 1 to 100 letters, digits, dots, hyphens and underscores")
-        value = self._do_texts([text_of(form, self._unicode)], name)[0]
-        if isinstance(value, StoreError):
-            raise value
-        return value
+        return value_of(self._do_texts([text_of(form, self._unicode)], name, None)[0])
 
     def do_all(self, forms: Iterable[Form]) -> list[Outcome]:
         """Has many forms carried out, in their order, and gives the value of each, or its exception."""
-        return self._do_texts([text_of(form, self._unicode) for form in forms], None)
+        return self._do_texts(texts_of(forms, lambda form: text_of(form, self._unicode), 0), None, 0)
 
     def ask(self, form: Form) -> Value:
         """Asks the store of one node, as far as it has come; the form may change nothing."""
@@ -198,18 +195,20 @@ class NodeStore(Shared, Properties):
     # Sending
 
     @alone
-    def _do_texts(self, texts: Sequence[str], name: str | None) -> list[Outcome]:
+    def _do_texts(self, texts: Sequence[str], name: str | None, first: int | None) -> list[Outcome]:
+        """The outcomes of texts. `first` is the index of the first one, None of a form alone."""
         outcomes: list[Outcome] = []
-        while len(outcomes) < len(texts):
-            some = until_naming(texts[len(outcomes) : len(outcomes) + AT_ONCE])
-            frames = [f"do {name or self._next_name()} {len(text)}\n{text}" for text in some]
-            try:
-                outcomes += [self._outcome(*answer) for answer in self._send(frames, resend=RESEND)]
-            except NoNodeError as error:
-                error.outcomes = outcomes + [self._outcome(*answer) for answer in error.outcomes]
-                raise
-            if changes_naming(some[-1]):
-                self._leave()
+        with telling(texts, outcomes, first):
+            while len(outcomes) < len(texts):
+                some = until_naming(texts[len(outcomes) : len(outcomes) + AT_ONCE])
+                frames = [f"do {name or self._next_name()} {len(text)}\n{text}" for text in some]
+                try:
+                    outcomes += [self._outcome(*answer) for answer in self._send(frames, resend=RESEND)]
+                except NoNodeError as error:
+                    outcomes += [self._outcome(*answer) for answer in error.outcomes]
+                    raise
+                if changes_naming(some[-1]):
+                    self._leave()
         return outcomes
 
     def _next_name(self) -> str:
@@ -219,7 +218,10 @@ class NodeStore(Shared, Properties):
     @alone
     def _question(self, kind: str, form: Form) -> Value:
         text = text_of(form, self._unicode)
-        return self._naming.value(self._send([f"{kind} {len(text)}\n{text}"], MOST_TRIES)[0][1])
+        outcomes: list[Outcome] = []
+        with telling([text], outcomes, None):
+            outcomes.append(self._naming.outcome(self._send([f"{kind} {len(text)}\n{text}"], MOST_TRIES)[0][1]))
+        return value_of(outcomes[0])
 
     def _send(
         self, frames: Sequence[str], tries: float = math.inf, resend: float = math.inf
@@ -271,12 +273,19 @@ class NodeStore(Shared, Properties):
             connection.close()
 
     def _outcome(self, head: str, answer: str) -> Outcome:
-        refusal = refusal_of(answer)
         if not head.isdigit():
             return MalformedAnswerError(answer, "it is not that of a message")
-        if refusal and refusal[0] == OLD_NUMBER:
+        outcome = self._naming.outcome(answer)
+        if isinstance(outcome, RefusedError) and outcome.number == OLD_NUMBER:
             return LostAnswerError(int(head))
-        return RefusedError(*refusal) if refusal else self._naming.outcome(answer)
+        return outcome
+
+
+def checked_node(node: str) -> str:
+    """A node that can be connected to."""
+    if not ("/" in node or node.startswith("unix:") or re.fullmatch(r".+:[0-9]+", node)):
+        raise ValueError(f"a node is HOST:PORT, or unix: and the path of a socket, and not {node!r}")
+    return node
 
 
 def heed_greeting(answers: Sequence[tuple[str, str]]) -> None:

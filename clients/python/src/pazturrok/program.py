@@ -3,7 +3,9 @@
 from __future__ import annotations
 
 import contextlib
+import itertools
 import os
+import re
 import selectors
 import subprocess
 import tempfile
@@ -18,6 +20,9 @@ END_LIMIT = 10.0
 """How many seconds the program may take to end, before it is killed. That loses nothing that was answered."""
 
 PIECE = 65536
+
+REFUSED = re.compile(r"(?:pazturrok: )?line ([0-9]+), column [0-9]+: [0-9]+: (.*)")
+"""A line of standard error on a form that was refused: where the form begins, and what stands behind the number."""
 
 
 class Splitter(Protocol):
@@ -35,7 +40,10 @@ class Program:
     """A program that runs, or that has ended."""
 
     def __init__(self, words: Sequence[str], splitter: Splitter | None = None) -> None:
-        self._errors = tempfile.TemporaryFile()  # noqa: SIM115
+        try:
+            self._errors = tempfile.TemporaryFile()  # noqa: SIM115
+        except OSError as error:
+            raise NoProgramError(words[0], f"no file takes what it tells: {error}") from error
         try:
             self.process = subprocess.Popen(
                 words, bufsize=0, stdin=subprocess.PIPE, stdout=subprocess.PIPE, stderr=self._errors
@@ -51,6 +59,9 @@ class Program:
         for pipe in (self._to, self._from):
             os.set_blocking(pipe.fileno(), False)
         self._splitter = splitter or AnswerSplitter()
+        self._begins = [1]  # in which line each text of the last exchange begins, and the next one
+        self._heard = 0  # so many bytes of standard error
+        self._reasons: dict[int, str] = {}
 
     def exchange(
         self, texts: Sequence[str], answers: list[str], is_last: Callable[[str], bool], seconds: float | None
@@ -62,6 +73,8 @@ class Program:
         if self._read() or not self._splitter.is_empty:
             raise MalformedAnswerError("", "more was answered than was asked")
         unsent = memoryview("".join(text + "\n" for text in texts).encode("ascii"))
+        heights = (text.count("\n") + 1 for text in texts)
+        self._begins = list(itertools.accumulate(heights, initial=self._begins[-1]))
         end = None if seconds is None else time.monotonic() + seconds
         with selectors.DefaultSelector() as selector:
             selector.register(self._from, selectors.EVENT_READ)
@@ -99,12 +112,25 @@ class Program:
             raise self.stopped()
         return self._splitter.feed(data)
 
+    def reason(self, place: int) -> str | None:
+        """What standard error tells of the refusal of a text of the last exchange."""
+        while not self._errors.closed and (data := os.pread(self._errors.fileno(), PIECE, self._heard)):
+            end = data.rfind(b"\n") + 1
+            if not end:
+                break
+            self._heard += end
+            for line in data[:end].decode("utf-8", "replace").splitlines():
+                if told := REFUSED.fullmatch(line):
+                    self._reasons[int(told[1])] = told[2]
+        return self._reasons.pop(self._begins[place], None)
+
     def stopped(self) -> StoppedError:
         """Ends the program, and tells how it ended."""
-        return StoppedError(*self.end())
+        status, text = self.end()
+        return StoppedError(status, "\n".join(line for line in text.splitlines() if not REFUSED.fullmatch(line)))
 
     def end(self, limit: float | None = None) -> tuple[int, str]:
-        """Ends the program, and gives its status and what it wrote to standard error.
+        """Ends the program, and gives its status and what it wrote to standard error, the end of it where it is long.
 
         Both pipes are closed first: so it does not wait for anybody to read what it may still have to say.
         """
@@ -119,5 +145,5 @@ class Program:
         if self._errors.closed:
             return status, ""
         with self._errors:
-            self._errors.seek(0)
-            return status, self._errors.read(PIECE).decode("utf-8", "replace").rstrip("\n")
+            self._errors.seek(max(0, os.fstat(self._errors.fileno()).st_size - PIECE))
+            return status, self._errors.read().decode("utf-8", "replace").rstrip("\n")

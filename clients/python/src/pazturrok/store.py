@@ -17,9 +17,11 @@ from .errors import (
     ClosedStoreError,
     MalformedAnswerError,
     RefusedError,
+    StoppedError,
     StoreError,
     UnansweredError,
     UnsendableError,
+    telling,
 )
 from .printer import FORM_LIMIT, check_characters, packages_of, printed, string_text
 from .program import Program
@@ -44,6 +46,9 @@ class Link(Protocol):
         self, texts: Sequence[str], answers: list[str], is_last: Callable[[str], bool], seconds: float | None
     ) -> None:
         """Executes texts, and appends the answer to each, up to one that is the last of the session."""
+
+    def reason(self, place: int) -> str | None:
+        """What is told of the refusal of a text of the last exchange, beside its number."""
 
     def end(self, limit: float | None = None) -> tuple[int, str]:
         """Ends it, and gives its status and what it told of faults."""
@@ -78,7 +83,8 @@ class Store(Shared, Properties):
     ) -> None:
         own = ["--rescue", "--group"]
         further = [word for word in options if word not in own]
-        self._words = [os.fspath(program), "run", os.fspath(folder), *own, *further]
+        self._folder = os.fspath(folder)
+        self._words = [os.fspath(program), "run", self._folder, *own, *further]
         self._begin(time_limit, opening_time_limit, unicode)
 
     def _begin(self, time_limit: float | None, opening_time_limit: float | None, unicode: bool) -> None:
@@ -131,6 +137,9 @@ class Store(Shared, Properties):
         self._program = self._start()
         try:
             self._ask_naming(self._opening_time_limit)
+        except StoppedError as error:
+            error.folder = self._folder
+            raise
         finally:
             if self._state is not State.GOOD:
                 self._program.end()
@@ -160,9 +169,7 @@ class Store(Shared, Properties):
 
         It is read under the standard readtable, in COMMON-LISP-USER, in base 10.
         """
-        value = self.execute_all([form], time_limit=time_limit)[0]
-        assert not isinstance(value, StoreError)
-        return value
+        return value_of(self._execute_forms([form], self._seconds(time_limit), None)[0])
 
     def execute_all(
         self, forms: Iterable[Form], *, time_limit: float | None = None, raise_on_refusal: bool = True
@@ -173,26 +180,27 @@ class Store(Shared, Properties):
         answered; or, without `raise_on_refusal`, its exception stands in the place of a value. `time_limit`
         is for the answers of what is sent at once.
         """
+        outcomes = self._execute_forms(list(forms), self._seconds(time_limit), 0)
+        if raise_on_refusal:
+            for outcome in outcomes:
+                value_of(outcome)
+        return outcomes
+
+    def _seconds(self, time_limit: float | None) -> float | None:
+        """The limit of a call: its own, or that of the store."""
         seconds = self._time_limit if time_limit is None else time_limit
         if seconds is not None and seconds <= 0:
             raise ValueError("a time limit is more than 0 seconds")
-        outcomes = self._execute_forms(list(forms), seconds)
-        if raise_on_refusal:
-            for outcome in outcomes:
-                if isinstance(outcome, StoreError):
-                    raise outcome
-        return outcomes
+        return seconds
 
     @alone
-    def _execute_forms(self, forms: list[Form], seconds: float | None) -> list[Outcome]:
-        texts = [self._text(form, seconds) for form in forms]
+    def _execute_forms(self, forms: list[Form], seconds: float | None, first: int | None) -> list[Outcome]:
+        """The outcomes of forms. `first` is the index of the first one, None of a form alone."""
+        texts = texts_of(forms, lambda form: self._text(form, seconds), first)
         outcomes: list[Outcome] = []
-        try:
+        with telling(texts, outcomes, first):
             while len(outcomes) < len(texts):
                 self._carry_out(_first_texts(texts[len(outcomes) :]), outcomes, seconds)
-        except UnansweredError as error:
-            error.outcomes = outcomes
-            raise
         return outcomes
 
     def iterate(
@@ -202,9 +210,10 @@ class Store(Shared, Properties):
 
         Forms may be without end: no more of them, and of their values, are held than are sent at once.
         """
-        remaining = iter(forms)
+        remaining, seconds, first = iter(forms), self._seconds(time_limit), 0
         while some := list(itertools.islice(remaining, at_once)):
-            yield from self.execute_all(some, time_limit=time_limit, raise_on_refusal=False)
+            yield from self._execute_forms(some, seconds, first)
+            first += len(some)
 
     def _text(self, form: Form, seconds: float | None) -> str:
         """The text of a form, which some session can read."""
@@ -247,12 +256,12 @@ class Store(Shared, Properties):
         except UnansweredError:
             outcomes += map(self._outcome, answers)
             raise
-        *before, last = answers
-        outcomes += map(self._outcome, before)
-        place = self._end_session() if self._ends_session(last) else None
+        reasons = list(map(self._reason, answers, itertools.count()))
+        outcomes += map(self._outcome, answers[:-1], reasons)
+        place = self._end_session() if self._ends_session(answers[-1]) else None
         if place is None and changes_naming(texts[-1]):
             self._ask_naming(seconds)
-        outcomes.append(self._outcome(last, place))
+        outcomes.append(self._outcome(answers[-1], reasons[-1], place))
 
     # Texts to and fro
 
@@ -281,7 +290,11 @@ class Store(Shared, Properties):
         """Ends the session after its last refusal, and gives what standard error says of its place."""
         assert self._program
         self._state = State.ENDED
-        return self._program.end()[1]
+        return self._program.end()[1].rpartition("\n")[2]
+
+    def _reason(self, answer: str, place: int) -> str | None:
+        """What is told of a refusal, beside its number, of the answer at this place of the last exchange."""
+        return self._program.reason(place) if self._program and answer.startswith("! ") else None
 
     def _ask_naming(self, seconds: float | None) -> None:
         """Asks how symbols are printed. The store is good when that is known."""
@@ -300,15 +313,34 @@ class Store(Shared, Properties):
         symbol = Symbol(name, package)
         return [] if symbol == Symbol("NIL", LISP) else symbol
 
-    def _outcome(self, answer: str, place: str | None = None) -> Outcome:
+    def _outcome(self, answer: str, reason: str | None = None, place: str | None = None) -> Outcome:
         """The value that an answer tells; or that the form was refused, or answered with nonsense."""
         try:
             refusal = refusal_of(answer)
             if refusal:
-                return RefusedError(*refusal, place)
+                return RefusedError(*refusal, place, reason)
             return parse_answer(answer, self._symbol, self._unicode)
         except MalformedAnswerError as error:
             return error
+
+
+def value_of(outcome: Outcome) -> Value:
+    """The value of a form; an exception is raised."""
+    if isinstance(outcome, StoreError):
+        raise outcome
+    return outcome
+
+
+def texts_of(forms: Iterable[Form], text_of: Callable[[Form], str], first: int | None) -> list[str]:
+    """The text of each form. One that cannot be sent is told by its index."""
+    texts: list[str] = []
+    for form in forms:
+        try:
+            texts.append(text_of(form))
+        except UnsendableError as error:
+            error.concern(None, None if first is None else first + len(texts))
+            raise
+    return texts
 
 
 def changes_naming(text: str) -> bool:

@@ -1,0 +1,86 @@
+;;;; Which form a condition is of, and what stands behind it.
+
+(in-package "PAZTURROK-CHECK")
+
+(defmacro which (&body body)
+  "The form and the index of the condition that BODY signals."
+  `(let ((condition (nth-value 1 (signalled ,@body))))
+     (list (store-error-form condition) (store-error-index condition))))
+
+(defun which-of (outcomes)
+  "The same of each condition among outcomes."
+  (loop for outcome in outcomes
+        when (typep outcome 'store-error) collect (list (store-error-form outcome) (store-error-index outcome))))
+
+(defmacro report (&body body)
+  `(princ-to-string (nth-value 1 (signalled ,@body))))
+
+(define-check a-refusal-has-its-form ()
+  (with-new-store (store "which form")
+    (expect "a form alone" '("(FROB A)" nil) (which (send store '(frob a))))
+    (expect "a text alone" '("(FROB A)" nil) (which (send-text store "(FROB A)")))
+    (expect "its report" "refused: 31 UNKNOWN-OPERATOR: (FROB A)" (report (send-text store (format nil "(FROB~%   A)"))))
+    (expect "one of many" '("(FROB)" 1) (which (send-all store '(1 (frob) (frob 2)))))
+    (expect "its report" "refused: 31 UNKNOWN-OPERATOR: (NTH 1 forms) is (FROB)" (report (send-all store '(1 (frob)))))
+    (let ((long (make-list 5000 :initial-element 'a)))
+      (expect "a long one is whole" 10006 (length (first (which (send store `(frob ,@long))))))
+      (expect "and cut in the report" t (< (length (report (send store `(frob ,@long)))) 150)))
+    (let ((forms (loop for i from 0 below 3000 collect (if (zerop (mod i 700)) '(frob) i))))
+      (expect "among many" '(("(FROB)" 0) ("(FROB)" 700) ("(FROB)" 1400) ("(FROB)" 2100) ("(FROB)" 2800))
+              (which-of (send-all store forms :on-refusal :return))))
+    (expect "skipped ones" '(700 1401)
+            (let ((indices '()))
+              (handler-bind ((refused (lambda (condition) (push (store-error-index condition) indices) (invoke-restart 'skip-form))))
+                (send-all store (loop for i from 1 to 1500 collect (if (zerop (mod i 701)) '(frob) i))))
+              (reverse indices)))
+    (expect "one that is sent again" '("(FROB)" 1)
+            (let ((again nil))
+              (which (handler-bind ((refused (lambda (condition)
+                                               (declare (ignore condition))
+                                               (unless again (setf again t) (invoke-restart 'retry-form)))))
+                       (send-all store '(1 (frob)))))))
+    (expect "what cannot be sent" '(nil 2) (which (send-all store '(1 2 (list 1.5)))))
+    (expect "its report" 0 (search "(NTH 2 forms): 1.5 cannot be sent" (report (send-all store '(1 2 (list 1.5))))))
+    (expect "a text that cannot be read" '("10.5" nil) (which (send-text store "10.5")))
+    (expect "what is closed is of no form" '(nil nil) (progn (close-store store) (which (send store 1))))))
+
+(define-check forms-without-an-answer ()
+  (with-answers (store (list (lines "1")) :end (lines "! 60 DEVICE" "the cause"))
+    (multiple-value-bind (name condition) (signalled (send-all store '(1 (list 2) 3)))
+      (expect "stopped" '(stopped "(LIST 2)" 1) (list name (store-error-form condition) (store-error-index condition)))
+      (expect "its report" (format nil "the program has ended with status 3; not answered: (NTH 1 forms) is (LIST 2)~%! 60 DEVICE~%the cause")
+              (princ-to-string condition))))
+  (with-answers (store (list (lines "1")) :options (:time-limit 1/4))
+    (expect "timed out" '("(LIST 2)" 1) (which (send-all store '(1 (list 2) 3)))))
+  (expect "a folder without a store" (list 'stopped (subfolder "no store") t)
+          (multiple-value-bind (name condition) (signalled (open-store *program* (subfolder "no store") :existing t))
+            (list name (stopped-folder condition) (and (search (format nil " as it opened ~A" (subfolder "no store")) (princ-to-string condition)) t))))
+  (expect "nor for messages" (list 'stopped (subfolder "no store"))
+          (multiple-value-bind (name condition) (signalled (open-feed *program* (subfolder "no store") :existing t))
+            (list name (stopped-folder condition)))))
+
+(define-check what-the-program-tells-of-a-refusal ()
+  (with-answers (store (list (lines "! 31 UNKNOWN-OPERATOR") (lines "7") (lines "! 31 UNKNOWN-OPERATOR") (lines "! 7 FLOAT-TOKEN"))
+                       :told (list (lines "line 2, column 1: 31: no operator FOO") ""
+                                   (lines "pazturrok: compiled, not proved" "pazturrok: line 4, column 1: 31: no operator BAR")
+                                   (lines "line 5, column 5: refused with 7 FLOAT-TOKEN in form 4, which began at line 5, column 1")))
+    (let ((outcomes (send-all store '((foo) 7 (bar)) :on-refusal :return)))
+      (expect "the operators" '("no operator FOO" "no operator BAR") (mapcar #'refused-reason (remove 7 outcomes)))
+      (expect "a report" "refused: 31 UNKNOWN-OPERATOR (no operator BAR): (NTH 2 forms) is (BAR)" (princ-to-string (third outcomes))))
+    (expect "the last line of a session" "line 5, column 5: refused with 7 FLOAT-TOKEN in form 4, which began at line 5, column 1"
+            (refused-place (nth-value 1 (signalled (send-text store "10.5")))))))
+
+(define-check messages-have-their-forms ()
+  (with-feed (feed *serving* (subfolder "which message"))
+    (expect "one" '("(NOTHING)" nil) (which (feed-form feed "(NOTHING)")))
+    (expect "a question" '("(NOTHING)" nil) (which (ask feed "(NOTHING)")))
+    (expect "one of many" '(("(NOTHING)" 1) (")" 3)) (which-of (feed-all feed '("(SETF (GET 'NT 'KY) 1)" "(NOTHING)" "(INCF (GET 'NT 'KY))" ")"))))
+    (expect "what cannot be sent" '(nil 1) (which (feed-all feed '("1" (list 1.5))))))
+  (call-with-standing-nodes
+   "0"
+   (lambda (nodes)
+     (with-nodes (feed nodes :time-limit 20)
+       (expect "of nodes" '((")" 1) ("OLD" 2)) (which-of (feed-all feed (list *add* ")" "OLD" *add*))))
+       (expect "a name of one's own" '(")" nil) (which (send-named feed "order-1" ")")))
+       (expect "no node" '("(LOSE)" nil) (which (ask-fresh feed "(LOSE)"))))))
+  (expect "what is no node" :refused (handler-case (open-nodes '("localhost")) (error () :refused))))
