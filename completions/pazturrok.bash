@@ -29,7 +29,7 @@ _pazturrok() {
         check) words='--store --help --run' kind=-f ;;
     esac
     if [ "$COMP_CWORD" -eq 1 ]; then
-        words='run snapshot upgrade export dump verify show info log backup check help compile build install release --help --version'
+        words='run snapshot upgrade export dump verify show info log backup check help compile build install release uninstall --help --version'
         kind=
     fi
     case ${COMP_WORDS[COMP_CWORD - 1]} in

@@ -311,6 +311,13 @@ carry_out() {
             "$word" "$@"
             exit
             ;;
+        uninstall,*)
+            # shellcheck source=tools/uninstall.sh
+            . "$top/tools/uninstall.sh"
+            shift
+            uninstall "$@"
+            exit
+            ;;
     esac
     [ "$#,${1:-}" != 2,help ] || answer_from_pages "$2"
     choose_program

@@ -1,11 +1,41 @@
 # shellcheck shell=sh disable=SC2154
 # Puts the program of a clone elsewhere: below a prefix, or into one file. It is a part of the script `pazturrok`, and no command.
 
+# shellcheck source=tools/uninstall.sh
+. "$top/tools/uninstall.sh"
+
+# Makes a folder below the prefix, and those round it. Those that it makes are noted for the list, and those that have the name.
+make_folder() {
+    [ "$1" != "$prefix" ] || return 0
+    make_folder "${1%/*}"
+    if [ ! -d "$1" ]; then
+        mkdir "$1" || refuse "$1 cannot be made"
+        echo "-  ${1#"$prefix"/}" >>"$room/folders"
+    else
+        case ${1#"$prefix"/} in *pazturrok*) echo "-  ${1#"$prefix"/}" >>"$room/folders" ;; esac
+    fi
+}
+
+# Notes a file for the list.
+note() {
+    echo "${1#"$prefix"/}" >>"$room/files"
+}
+
+# Writes the list of what was put below the prefix, by this call and by those before it.
+keep_list() {
+    (cd "$prefix" && xargs -d '\n' sha256sum <"$room/files") >"$room/new-list" || refuse "what was put below $prefix cannot be read"
+    LC_ALL=C sort -u "$room/folders" >>"$room/new-list"
+    [ ! -f "$prefix/$INSTALLED" ] || cat "$prefix/$INSTALLED" >>"$room/new-list"
+    awk '{ name = substr($0, index($0, "  ") + 2) } !seen[name]++' "$room/new-list" >"$room/list"
+    put "$room/list" "$prefix/$INSTALLED" 644 >/dev/null
+}
+
 # Puts a file there under its name at once, so that a program that runs goes on with the old one.
 put() {
     if ! { cp "$1" "$2.new" && chmod "$3" "$2.new" && mv -f "$2.new" "$2"; }; then
         refuse "$2 cannot be written"
     fi
+    note "$2"
     echo "$2"
 }
 
@@ -13,7 +43,7 @@ put() {
 put_all() {
     folder=$1
     shift
-    mkdir -p "$folder" || refuse "$folder cannot be made"
+    make_folder "$folder"
     for file in "$@"; do
         put "$file" "$folder/${file##*/}" 644
     done
@@ -78,7 +108,7 @@ origin() {
 # Puts the program there, and what belongs to its command.
 install_program() {
     for place in bin libexec/pazturrok share/man/man1 share/man/man7 share/doc/pazturrok share/bash-completion/completions; do
-        mkdir -p "$prefix/$place" || refuse "$prefix/$place cannot be made"
+        make_folder "$prefix/$place"
     done
     manual >"$room/manual"
     (cd "$top/docs" && awk -v asked=manual -f "$top/tools/pages.awk" use/operators.md use/refusals.md run/operating.md) >"$room/forms"
@@ -91,13 +121,22 @@ install_program() {
         [ "$other" = "${program##*/}" ] || rm -f "$prefix/libexec/pazturrok/$other"
     done
     put "$top/pazturrok" "$prefix/bin/pazturrok" 755
-    put_all "$prefix/libexec/pazturrok" "$top/tools/pages.awk" "$top/tools/check_run.sh" "$top/tools/show_html.sh" "$top/tools/world.html"
+    put_all "$prefix/libexec/pazturrok" "$top/tools/pages.awk" "$top/tools/check_run.sh" "$top/tools/show_html.sh" "$top/tools/world.html" "$top/tools/uninstall.sh"
     put_all "$prefix/share/pazturrok" "$top/lisp/operators.lisp"
     put "$room/manual" "$prefix/share/man/man1/pazturrok.1" 644
     put "$room/forms" "$prefix/share/man/man7/pazturrok-forms.7" 644
     put "$room/completions" "$prefix/share/bash-completion/completions/pazturrok" 644
     put "$room/origin" "$prefix/share/doc/pazturrok/ORIGIN" 644
-    cp -R "$top/README.md" "$top/docs" "$prefix/share/doc/pazturrok/" || refuse "the pages cannot be written below $prefix/share/doc"
+    put_pages
+}
+
+# Puts the pages there.
+put_pages() {
+    for page in $(cd "$top" && find README.md docs -type f); do
+        page_there=$prefix/share/doc/pazturrok/$page
+        make_folder "${page_there%/*}"
+        put "$top/$page" "$page_there" 644 >/dev/null
+    done
 }
 
 # Puts the clients, the node and its units there. The first word is the prefix that the units name.
@@ -110,6 +149,7 @@ install_clients() {
     put "$top/cluster/pazturrok-node" "$prefix/lib/pazturrok/cluster/pazturrok-node" 755
     put "$top/cluster/certificates" "$prefix/lib/pazturrok/cluster/certificates" 755
     ln -sf ../lib/pazturrok/cluster/pazturrok-node "$prefix/bin/pazturrok-node" || refuse "$prefix/bin/pazturrok-node cannot be made"
+    note "$prefix/bin/pazturrok-node"
     mkdir "$room/units"
     for unit in "$top"/cluster/systemd/*; do
         sed "s|/usr/local/|$1/|g" "$unit" >"$room/units/${unit##*/}"
@@ -125,13 +165,18 @@ install_library() {
     [ -n "$is_proved" ] || engine=$compiled_library word=compile
     if [ ! -f "$engine" ]; then
         say "the library for C is left out, as it is not there; ./pazturrok $word --library makes it"
-    elif ! make -s -C "$top/clients/c" install OUT="$room/c" PREFIX="$prefix" ENGINE="$engine" >"$room/make" 2>&1; then
+        return
+    fi
+    make_folder "$prefix/include"
+    make_folder "$prefix/lib/pkgconfig"
+    if ! make -s -C "$top/clients/c" install OUT="$room/c" PREFIX="$prefix" ENGINE="$engine" >"$room/make" 2>&1; then
         refuse "the library for C was not made: $(tail -n 3 "$room/make")"
     else
         sed "s|^prefix=.*|prefix=$1|" "$prefix/lib/pkgconfig/pazturrok.pc" >"$room/pc"
         put "$room/pc" "$prefix/lib/pkgconfig/pazturrok.pc" 644
         [ -n "$is_proved" ] || echo "the library for C: $NOT_PROVED" >>"$prefix/share/doc/pazturrok/ORIGIN"
         for name in include/pazturrok.h lib/libpazturrok.a lib/libpazturrok.so; do
+            note "$prefix/$name"
             echo "$prefix/$name"
         done
     fi
@@ -163,14 +208,19 @@ install() {
     done
     [ -n "$prefix" ] || refuse "install takes a folder, as in ./pazturrok install /usr/local"
     case $prefix in /*) ;; *) prefix=$(pwd)/$prefix ;; esac
-    mkdir -p "$prefix" || refuse "$prefix cannot be made"
+    prefix=${prefix%/}
+    is_new=
+    [ -d "$prefix/" ] || is_new=1
+    mkdir -p "$prefix/" || refuse "$prefix cannot be made"
     need_program
     make_room
+    [ -z "$is_new" ] || echo "-  ." >"$room/folders"
     install_program
     if [ -n "$all" ]; then
         install_clients "$prefix"
         install_library "$prefix"
     fi
+    keep_list
     leave_room
 }
 
@@ -212,6 +262,9 @@ release() {
     install_program >/dev/null
     install_clients /usr/local >/dev/null
     install_library /usr/local >/dev/null
+    # what is copied from here into a folder of the system is to leave its own folders there
+    sed -i '/pazturrok/!d' "$room/folders"
+    keep_list
     front_page >"$prefix/README"
     (cd "$prefix" && find . -type f | LC_ALL=C sort | sed 's|^\./||' | xargs sha256sum) >"$room/sums"
     mv "$room/sums" "$prefix/SHA256SUMS"

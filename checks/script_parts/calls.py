@@ -9,7 +9,7 @@ PROGRAM = os.path.abspath(sys.argv[1] if len(sys.argv) > 1 else os.path.join(TOP
 # Where the commands of every system are, and rt is not.
 PLAIN = "/usr/bin:/bin"
 NOT_PROVED = b"pazturrok: compiled, not proved: ./pazturrok build proves it\n"
-WORDS_OF_CLONE = (b"./pazturrok compile ", b"./pazturrok build ", b"./pazturrok install PREFIX ", b"./pazturrok release [FILE] ")
+WORDS_OF_CLONE = (b"./pazturrok compile ", b"./pazturrok build ", b"./pazturrok install PREFIX ", b"./pazturrok uninstall PREFIX ", b"./pazturrok release [FILE] ")
 
 # How many passed, and how many failed.
 counts = [0, 0]

@@ -1,4 +1,4 @@
-"""An installed program, with all or without, and a release."""
+"""An installed program, with all or without, what takes it away again, and a release."""
 import hashlib
 import os
 import re
@@ -27,7 +27,7 @@ def check_proved(script, room):
         is_refused("words", script, *words, says="takes")
     prefix = os.path.join(room, "prefix")
     done = called(script, "install", prefix)
-    check("install", (done[0], done[1].count(prefix.encode()), done[2]), (0, 11, b""))
+    check("install", (done[0], done[1].count(prefix.encode()), done[2]), (0, 12, b""))
     moved = os.path.join(room, "moved")
     os.rename(prefix, moved)
     there = os.path.join(moved, "bin", "pazturrok")
@@ -40,6 +40,7 @@ def check_proved(script, room):
     check("it is told what is installed", ("commit: 0123abc\n" in origin, "sha256 of store_program: " in origin, "not proved" in origin), (True, True, False))
     if shutil.which("bash"):
         check("completions are installed", completed(os.path.join(moved, "share", "bash-completion", "completions", "pazturrok"), "pazturrok", "in"), (["info"], ""))
+    check("its help has how it is taken away", b"\nuninstall PREFIX takes away" in called(there, "--help")[1], True)
     helps = [called(there, *words)[1].decode() for words in (["--help"], ["help"], ["run", "--help"], ["help", "show"])]
     check("its help has its name", [("./pazturrok" in text, "pazturrok " in text) for text in helps], [(False, True)] * 4)
     check("its help with wrong words", called(there, "run", "--bogus", "--help")[0], 2)
@@ -70,6 +71,45 @@ echo "prefix=$prefix" >"$prefix/lib/pkgconfig/pazturrok.pc"
 """
 
 
+def below(folder):
+    """The names of all that is below a folder."""
+    return sorted(os.path.relpath(os.path.join(at, name), folder) for at, folders, files in os.walk(folder) for name in folders + files)
+
+
+def check_removed(kit, room):
+    """What was installed goes again, and nothing else."""
+    prefix = os.path.join(room, "a prefix")
+    for name in ("bin/other", "share/pazturrok/store/half-a", "share/pazturrok/own"):
+        write(os.path.join(prefix, name), "")
+    os.makedirs(os.path.join(prefix, "share", "man"))
+    for words, says in ((["uninstall"], "takes a folder"), (["uninstall", prefix, room], "takes a folder"), (["uninstall", "--all"], "takes a folder"),
+                        (["uninstall", prefix], "installed, so it is not known"), (["uninstall", os.path.join(room, "nowhere")], "is no folder")):
+        is_refused("what is not installed", kit.script, *words, says=says)
+    before = below(prefix)
+    check("installs", [kit.called("install", *more, prefix)[0] for more in ([], ["--all"], [])], [0, 0, 0])
+    there, known = os.path.join(prefix, "bin", "pazturrok"), os.path.join(prefix, "share", "pazturrok", "installed")
+    python = os.path.join(prefix, "share", "pazturrok", "python", "src", "pazturrok", "__pycache__")
+    write(os.path.join(python, "store.cpython-39.pyc"), "")
+    whole = text_of(known)
+    for line in ("-  ../elsewhere", "0  bin/other", "-  /bin", "bin/other"):
+        write(known, whole + line + "\n")
+        is_refused(f"a list with {line}", there, "uninstall", prefix, says="is not what install wrote")
+    write(known, whole)
+    running = subprocess.Popen([there, "run", os.path.join(room, "served")], stdin=subprocess.PIPE, stdout=subprocess.PIPE, stderr=subprocess.DEVNULL)
+    running.stdin.write(b"1\n")
+    running.stdin.flush()
+    running.stdout.readline()
+    is_refused("while it runs", there, "uninstall", prefix, says=f"process {running.pid} runs the program")
+    running.communicate()
+    check("nothing went", (below(prefix)[:3], len(below(prefix)) > len(before) + 100), (["bin", "bin/other", "bin/pazturrok"], True))
+    write(os.path.join(prefix, "share", "pazturrok", "pazturrok.env"), "PAZTURROK_MEMORY=1G\n")
+    status, out, err = called(there, "uninstall", prefix)
+    left = sorted([*before, "share/pazturrok/pazturrok.env"])
+    check("what is left", (status, out.endswith(b"files are taken away from " + prefix.encode() + b"\n"), b"pazturrok.env is left, as it was changed since\n" in err, below(prefix)),
+          (0, True, True, left))
+    check("a prefix of its own", (kit.called("install", "--all", prefix + "-2")[0], kit.called("uninstall", prefix + "-2")[0], os.path.exists(prefix + "-2")), (0, 0, False))
+
+
 def check_compiled(kit, room):
     """A program that is compiled and not proved, with all that goes with it, below a prefix and as a release."""
     prefix, store = os.path.join(room, "all"), os.path.join(room, "of-all")
@@ -82,6 +122,7 @@ def check_compiled(kit, room):
     check("the node starts", (called(os.path.join(prefix, "bin", "pazturrok-node"), "--help")[0],
                               f"ExecStart={prefix}/lib/pazturrok/cluster/pazturrok-node " in text_of(prefix, "lib", "systemd", "system", "pazturrok-node.service")), (0, True))
     command(room, "make", MAKE)
+    check_removed(kit, room)
     write(os.path.join(kit.clone, "crates", "pazturrok_c", "out", "compiled_library.a"), "")
     files = [os.path.join(room, name) for name in ("one.tar.gz", "two.tar.gz")]
     told = [kit.called("release", file) for file in files]
