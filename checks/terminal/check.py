@@ -1,8 +1,11 @@
 #!/usr/bin/env python3
-"""Tries `run` at a terminal: a pseudo-terminal is given to the program, and what it writes is compared, answers and prompts apart."""
+"""Tries `run` at a terminal: a pseudo-terminal is given to the program, and what it writes is compared, answers and prompts apart. With `rlwrap`
+round it, where that is installed."""
+import fcntl
 import os
 import pty
 import select
+import shutil
 import signal
 import socket
 import struct
@@ -183,6 +186,32 @@ def long_opening(folder):
     check("a long opening without a terminal", (silent.stdout, silent.stderr), (b"half A generation 1 records 7\n", b""))
 
 
+def edited(room):
+    """With rlwrap round it a line comes back by the arrow up, in the next session too: it keeps them in a file."""
+    if not shutil.which("rlwrap"):
+        print("terminal: rlwrap is not installed: lines that come back were not tried")
+        return
+    environment = {**os.environ, "HOME": room, "TERM": "xterm", "RLWRAP_HOME": room}
+    for count, keys in ((1, b"(LIST 'A 12)\n"), (2, b"\x1b[A\n\x1b[A\x1b[A\n")):
+        master, slave = pty.openpty()
+        fcntl.ioctl(slave, termios.TIOCSWINSZ, struct.pack("HHHH", 24, 80, 0, 0))
+        process = subprocess.Popen(["rlwrap", program, "run", os.path.join(room, "edited")], stdin=slave, stdout=slave, stderr=slave, env=environment,
+                                   start_new_session=True, preexec_fn=lambda: fcntl.ioctl(0, termios.TIOCSCTTY, 0))
+        os.close(slave)
+        found = b""
+        while b"> " not in found:
+            found += os.read(master, 65536)
+        for line in keys.splitlines(keepends=True):
+            before = found.count(b"(A 12)")
+            os.write(master, line)
+            while found.count(b"(A 12)") == before:
+                found += os.read(master, 65536)
+        os.write(master, CONTROL_D.encode())
+        rest_of(master)
+        check(f"lines that come back: {count}", (found.count(b"(A 12)"), process.wait(timeout=PATIENCE)), (count, 0))
+        os.close(master)
+
+
 with tempfile.TemporaryDirectory() as room:
     store = os.path.join(room, "store")
     it = Terminal("run", store)
@@ -247,6 +276,13 @@ with tempfile.TemporaryDirectory() as room:
     it.end("its end", CONTROL_D, "", "\n", 0)
 
     it = Terminal("run", store, "--rescue")
+    for place in range(0, 5000, 1000):
+        os.write(it.master, (b"(SETF (GET 'A 'B) \"" + b"x" * 4979)[place:place + 1000])
+    it.step("a form that the terminal cuts", '")\n', "", WELCOME + "> " + CUT + ". ")
+    it.end("the end inside it", CONTROL_D, "! 1 END-OF-FILE\n", "\n" + UNANSWERED + REFUSED % (2, 1, "1 END-OF-FILE", 1, 1, 1), 1)
+    check("it was not carried out", subprocess.run([program, "run", store, "--rescue"], input=b"(GET 'A 'B)", capture_output=True).stdout, b"9\n")
+
+    it = Terminal("run", store, "--rescue")
     it.step("the way back", "(COPY-READTABLE NIL :USER)\n", ":USER\n", WELCOME + "> > ")
     it.end("its end", CONTROL_D, "", "\n", 0)
 
@@ -269,6 +305,7 @@ with tempfile.TemporaryDirectory() as room:
     told = subprocess.run([program, "run", store, "--\x1b[31mred\x9b"], capture_output=True)
     check("a word with control characters", (told.returncode, b"\\x1b[31mred\\x9b" in told.stderr, b"\x1b" in told.stderr, b"\xc2\x9b" in told.stderr),
           (2, True, False, False))
+    edited(room)
     interrupted(store)
     load(store)
     long_opening(os.path.join(room, "long"))
