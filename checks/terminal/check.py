@@ -69,8 +69,8 @@ LEAVING = "Ctrl-D at the beginning of a line ends.\n"
 UNKNOWN_OPERATOR = """The current package finds no operator of this name: docs/use/operators.md has all. If none is found any more, the package does not
 use COMMON-LISP, and (COMMON-LISP:IN-PACKAGE "CL-USER") leads back.
 """
-CUT = """A terminal hands on 4,095 bytes of a line, and dropped the rest of this one. Write the form in shorter lines, or send it from a
-file: ./pazturrok run DIR < FILE
+CUT = """A terminal hands on 4,095 bytes of a line, and dropped the rest of this one. The form is open: Ctrl-C ends the session without it.
+Write it in shorter lines, or send it from a file: ./pazturrok run DIR < FILE
 """
 UNANSWERED = "Nothing was answered: a form is open, or the readtable makes comments of what is typed; --rescue reads under the standard one.\n"
 REFUSED = "line %d, column %d: refused with %s in form %d, which began at line %d, column %d\n"
