@@ -4,7 +4,7 @@
 --     row_seen, none_seen      what is seen of a symbol
 --     property_seen, no_property, property_out      what is seen of a property, and one that is not there taken out
 --     packages_kept, packages_rest, packages_unchanged, packages_changed      the world with other packages, in which no symbol is lost and each keeps its number
-use Rattle.std.proofs.Common.{◌≡◌, ℕ, Bool, List, [], None, Some, Result, Ok, Err, refl, sym, ap, subst, ◌∙◌}
+use Rattle.std.proofs.Common.{◌≡◌, ℕ, Bool, List, [], None, Some, Result, Ok, Err, ◌++◌, refl, sym, ap, subst, ◌∙◌}
 use Rattle.std.specs.Prelude.{OnOk, OnErr, IfOk, IfErr}
 use Rattle.package_table.specs.Table as packages
 use Rattle.package_table.specs.declared.error.PackageError.{PackageError}
@@ -24,7 +24,7 @@ use Rattle.plist_state.specs.Shown.{NumberedRest, rest_of}
 use Rattle.plist_state.specs.Undoing.{rests_at}
 use Rattle.plist_state.specs.Journal.{marks_of}
 use Rattle.plist_state.specs.Sound.{IsSound}
-use Rattle.plist_state.specs.Marked.{state_in, marked_states, worlds_of, AreKept, IsKept}
+use Rattle.plist_state.specs.Marked.{state_in, marked_states, earlier_states, worlds_of, AreKept, IsKept}
 use Rattle.plist_state.proofs.Listed.{lists_at, lists_none, lists_put, lists_grown, owned_grown}
 use Rattle.plist_state.proofs.Marking.{world_same}
 use Rattle.plist_state.proofs.Named.{value_named, value_unnamed}
@@ -47,28 +47,28 @@ module _ (s : Numbered) (count : ℕ) (counted : IsNumbered s count) (x : Symbol
       (lists_put s count counted r.properties x n (g (row_of r.properties n)) is
       ∙ ap (with_list (lists s r.properties) x) (made ∙ ap f (sym (lists_at s r.properties x n is))))
 
-module _ {A E : Type 0} (res : Result A E) (ts : Tables) (ms ns : List (List Note)) (r u : NumberedRest) (same : rests_at ns u ≡ rests_at ms r)
-    (w : Worlds) (seen : ◌≡◌ {A = Worlds} (state_in (numbered ts) r, marked_states ts.1.marked (rests_at ms r)) w) where
+module _ {A E : Type 0} (res : Result A E) (past : List WorldState) (ts : Tables) (ms ns : List (List Note)) (r u : NumberedRest) (same : rests_at ns u ≡ rests_at ms r)
+    (w : Worlds) (seen : ◌≡◌ {A = Worlds} (state_in (numbered ts) r, past ++ marked_states ts.1.marked (rests_at ms r)) w) where
   pub world_listed : (count : ℕ) → IsNumbered (numbered ts) count → (x : Symbol) (n : ℕ) → number_of (numbered ts) x.0 x.1 ≡ Some n
       → (g : NumberedPlist → NumberedPlist) (f : Plist → Plist) → named (numbered ts) (g (row_of r.properties n)) ≡ f (named (numbered ts) (row_of r.properties n))
       → OnOk res (u ≡ with_changed_row r n g)
-      → OnOk res (◌≡◌ {A = Worlds} (state_in (numbered ts) u, marked_states ts.1.marked (rests_at ns u)) (with_changed_list w.0 x f, w.1))
+      → OnOk res (◌≡◌ {A = Worlds} (state_in (numbered ts) u, past ++ marked_states ts.1.marked (rests_at ns u)) (with_changed_list w.0 x f, w.1))
   world_listed count counted x n is g f made = done res
     where
       done : (q : Result A E) → OnOk q (u ≡ with_changed_row r n g)
-          → OnOk q (◌≡◌ {A = Worlds} (state_in (numbered ts) u, marked_states ts.1.marked (rests_at ns u)) (with_changed_list w.0 x f, w.1))
+          → OnOk q (◌≡◌ {A = Worlds} (state_in (numbered ts) u, past ++ marked_states ts.1.marked (rests_at ns u)) (with_changed_list w.0 x f, w.1))
       done (Err e) ok = tt
       done (Ok v) ok =
-          (λ i. (state_in (numbered ts) (ok i), marked_states ts.1.marked (same i)))
-          ∙ (λ i. (state_listed (numbered ts) count counted x n is r g f made i, marked_states ts.1.marked (rests_at ms r)))
+          (λ i. (state_in (numbered ts) (ok i), past ++ marked_states ts.1.marked (same i)))
+          ∙ (λ i. (state_listed (numbered ts) count counted x n is r g f made i, past ++ marked_states ts.1.marked (rests_at ms r)))
           ∙ ap (λ (v : Worlds). (with_changed_list v.0 x f, v.1)) seen
 
-  pub world_same_err : OnErr res (u ≡ r) → OnErr res (◌≡◌ {A = Worlds} (state_in (numbered ts) u, marked_states ts.1.marked (rests_at ns u)) w)
+  pub world_same_err : OnErr res (u ≡ r) → OnErr res (◌≡◌ {A = Worlds} (state_in (numbered ts) u, past ++ marked_states ts.1.marked (rests_at ns u)) w)
   world_same_err = done res
     where
-      done : (q : Result A E) → OnErr q (u ≡ r) → OnErr q (◌≡◌ {A = Worlds} (state_in (numbered ts) u, marked_states ts.1.marked (rests_at ns u)) w)
+      done : (q : Result A E) → OnErr q (u ≡ r) → OnErr q (◌≡◌ {A = Worlds} (state_in (numbered ts) u, past ++ marked_states ts.1.marked (rests_at ns u)) w)
       done (Ok v) err = tt
-      done (Err e) err = world_same ts ms ns r u err same ∙ seen
+      done (Err e) err = world_same past ts ms ns r u err same ∙ seen
 
 -- ---- what is seen of a symbol
 module _ (a : Inside) (w : Worlds) (seen : worlds_of a ≡ w) (x : Symbol) where
@@ -84,42 +84,45 @@ module _ (a : Inside) (kept : IsKept a) (w : Worlds) (seen : worlds_of a ≡ w) 
   pub property_seen : (count : ℕ) → IsNumbered (numbered a.packages) count → (n j : ℕ) → number_of (numbered a.packages) x.0 x.1 ≡ Some n → number_of (numbered a.packages) i.0 i.1 ≡ Some j
       → value_in (rest_of a.stored).properties n j ≡ property w.0 x i
   property_seen count counted n j owner indicator =
-      sym (value_named (numbered a.packages) count counted i j indicator (row_of (rest_of a.stored).properties n) (kept.owned.indicators n))
+      sym (value_named (numbered a.packages) count counted i j indicator (row_of (rest_of a.stored).properties n) (kept.now.owned.indicators n))
       ∙ ap (λ ps. value_at ps i) (row_seen a w seen x n owner)
 
   -- what has no number is no indicator
   pub no_property : (n : ℕ) → number_of (numbered a.packages) x.0 x.1 ≡ Some n → number_of (numbered a.packages) i.0 i.1 ≡ None → property w.0 x i ≡ None
   no_property n owner none =
       ap (λ ps. value_at ps i) (sym (row_seen a w seen x n owner))
-      ∙ value_unnamed (numbered a.packages) i none (row_of (rest_of a.stored).properties n) (kept.owned.indicators n)
+      ∙ value_unnamed (numbered a.packages) i none (row_of (rest_of a.stored).properties n) (kept.now.owned.indicators n)
 
   -- a property that is not there, removed
   pub property_out : property w.0 x i ≡ None → ◌≡◌ {A = Worlds} (without_property w.0 x i, w.1) w
   property_out absent =
-      ap (λ (t : WorldState). (t, w.1)) (removed_absent w.0 x i (subst (λ (v : Worlds). IsSound v.0) seen kept.sound) absent)
+      ap (λ (t : WorldState). (t, w.1)) (removed_absent w.0 x i (subst (λ (v : Worlds). IsSound v.0) seen kept.now.sound) absent)
 
 -- ---- other packages
 module _ (a : Inside) (ts : Tables) (grows : Grows a.packages.0 ts.0) (keeps : Keeps (numbered a.packages) (numbered ts))
     (counted : IsNumbered (numbered ts) (symbol_count ts.0)) (marked : ts.1.marked ≡ a.packages.1.marked) (kept : IsKept a) where
   same_lists : lists (numbered ts) (rest_of a.stored).properties ≡ lists (numbered a.packages) (rest_of a.stored).properties
-  same_lists = lists_grown (numbered a.packages) (numbered ts) (symbol_count ts.0) counted grows keeps (rest_of a.stored).properties kept.owned
+  same_lists = lists_grown (numbered a.packages) (numbered ts) (symbol_count ts.0) counted grows keeps (rest_of a.stored).properties kept.now.owned
 
   same_state : state_in (numbered ts) (rest_of a.stored) ≡ with_packages (state_in (numbered a.packages) (rest_of a.stored)) ts.0
   same_state = ap (λ (m : Properties). record (state_in (numbered ts) (rest_of a.stored)) { properties = m }) same_lists
 
   pub packages_rest : (w : Worlds) → worlds_of a ≡ w → worlds_of (record a { packages = ts }) ≡ (with_packages w.0 ts.0, w.1)
   packages_rest w seen =
-      (λ i. (same_state i, marked_states (marked i) (rests_at (marks_of a.marks.items) (rest_of a.stored))))
+      (λ i. (same_state i, earlier_states a.earlier.items ++ marked_states (marked i) (rests_at (marks_of a.marks.items) (rest_of a.stored))))
       ∙ ap (λ (v : Worlds). (with_packages v.0 ts.0, v.1)) seen
 
   pub packages_kept : packages.IsSound ts.0 → IsKept (record a { packages = ts })
   packages_kept sound = record {
-    values = kept.values;
-    indexed = kept.indexed;
-    sizes = kept.sizes;
-    owned = owned_grown (numbered a.packages) (numbered ts) (symbol_count ts.0) counted grows keeps (rest_of a.stored).properties kept.owned;
-    sound = subst IsSound (sym same_state) (sound_packages (state_in (numbered a.packages) (rest_of a.stored)) ts.0 kept.sound sound grows);
-    marked = subst (λ ss. AreKept ss (marks_of a.marks.items) (rest_of a.stored) a.stored.properties.entries) (sym marked) kept.marked;
+    now = record {
+      values = kept.now.values;
+      indexed = kept.now.indexed;
+      sizes = kept.now.sizes;
+      owned = owned_grown (numbered a.packages) (numbered ts) (symbol_count ts.0) counted grows keeps (rest_of a.stored).properties kept.now.owned;
+      sound = subst IsSound (sym same_state) (sound_packages (state_in (numbered a.packages) (rest_of a.stored)) ts.0 kept.now.sound sound grows);
+      marked = subst (λ ss. AreKept ss (marks_of a.marks.items) (rest_of a.stored) a.stored.properties.entries) (sym marked) kept.now.marked;
+    };
+    earlier = kept.earlier;
   }
 
 pub packages_unchanged : {A E : Type 0} (res : Result A E) (a : Inside) (ts : Tables) → IfErr res (λ _. ts ≡ a.packages) → (w : Worlds) → worlds_of a ≡ w → IfErr res (λ _. worlds_of (record a { packages = ts }) ≡ w)

@@ -1,7 +1,7 @@
 -- What a call on the readtables leaves of a world, whether it is refused or not: a change was noted, or nothing changed.
 --     left_kept      the world is kept
 --     left_marked, left_refused      the marked states are the same, and after a refusal the whole world
-use Rattle.std.proofs.Common.{◌≡◌, ℕ, Result, Ok, refl, ap, ◌∙◌}
+use Rattle.std.proofs.Common.{◌≡◌, ℕ, Result, Ok, ◌++◌, refl, ap, ◌∙◌}
 use Rattle.std.specs.Prelude.{IfErr}
 use Rattle.std.specs.Global.{Vec}
 use Rattle.std.specs.BTreeMap.{BTreeMap}
@@ -14,7 +14,7 @@ use Rattle.plist_state.specs.State.{Readtables, Worlds}
 use Rattle.plist_state.specs.Shown.{NumberedRest, readtables_of, rest_of}
 use Rattle.plist_state.specs.Changes.{Gives}
 use Rattle.plist_state.specs.Journal.{Continues, marks_of}
-use Rattle.plist_state.specs.Marked.{IsKept, state_in, marked_states, worlds_of}
+use Rattle.plist_state.specs.Marked.{IsKept, state_in, marked_states, earlier_states, worlds_of}
 use Rattle.plist_state.specs.Sound.{IsSound}
 use Rattle.plist_state.proofs.KeptWorld.{kept_gives}
 use Rattle.plist_state.proofs.ListRows.{wider_same}
@@ -33,19 +33,22 @@ module _ (a : Inside) (tables : BTreeMap (Vec ℕ) Table) (marks : Vec (Vec Note
   left_kept said gives kept sound =
       let rows = a.stored.properties.entries in
       record {
-        values = kept.values;
-        indexed = kept.indexed;
-        sizes = kept.sizes;
-        owned = kept.owned;
-        sound = kept_gives r (state_in (numbered a.packages) (rest_of a.stored)) (readtables_of tables) said gives unchanged kept.sound sound;
-        marked = kept_continued a.packages.1.marked (marks_of a.marks.items) (rest_of a.stored) rows kept.marked (marks_of marks.items) _ rows
-            (noted (rest_of a.stored)) (fits_now rows (rest_of a.stored) refl) (wider_same rows rows refl);
+        now = record {
+          values = kept.now.values;
+          indexed = kept.now.indexed;
+          sizes = kept.now.sizes;
+          owned = kept.now.owned;
+          sound = kept_gives r (state_in (numbered a.packages) (rest_of a.stored)) (readtables_of tables) said gives unchanged kept.now.sound sound;
+          marked = kept_continued a.packages.1.marked (marks_of a.marks.items) (rest_of a.stored) rows kept.now.marked (marks_of marks.items) _ rows
+              (noted (rest_of a.stored)) (fits_now rows (rest_of a.stored) refl) (wider_same rows rows refl);
+        };
+        earlier = kept.earlier;
       }
 
   module _ (w : Worlds) (seen : worlds_of a ≡ w) where
     pub left_marked : (worlds_of (with_tables a tables marks)).1 ≡ w.1
-    left_marked = ap (marked_states a.packages.1.marked) (noted (rest_of a.stored)).same ∙ ap (λ (w : Worlds). w.1) seen
+    left_marked = ap (λ rs. earlier_states a.earlier.items ++ marked_states a.packages.1.marked rs) (noted (rest_of a.stored)).same ∙ ap (λ (w : Worlds). w.1) seen
 
     pub left_refused : IfErr r (λ _. worlds_of (with_tables a tables marks) ≡ w)
     left_refused =
-        refused_same r a.packages (marks_of a.marks.items) (marks_of marks.items) (rest_of a.stored) (readtables_of tables) w unchanged (noted (rest_of a.stored)).same seen
+        refused_same r (earlier_states a.earlier.items) a.packages (marks_of a.marks.items) (marks_of marks.items) (rest_of a.stored) (readtables_of tables) w unchanged (noted (rest_of a.stored)).same seen

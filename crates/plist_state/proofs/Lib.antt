@@ -17,6 +17,7 @@ pub mod Notes
 pub mod Restored
 pub mod Unnoted
 pub mod Marking
+pub mod Earlier
 pub mod Left
 pub mod Viewed
 pub mod Pushed

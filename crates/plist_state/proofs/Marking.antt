@@ -69,16 +69,16 @@ owned_get zero (u ∷ ts) (s ∷ rs) t r a b all =
 owned_get (suc m) (u ∷ ts) (s ∷ rs) t r a b all = owned_get m ts rs t r a b all.1
 
 -- ---- a world that was left as it was
-pub world_same : (ts : Tables) (ms ns : List (List Note)) (r u : NumberedRest) → u ≡ r → rests_at ns u ≡ rests_at ms r
-    → ◌≡◌ {A = Worlds} (state_in (numbered ts) u, marked_states ts.1.marked (rests_at ns u)) (state_in (numbered ts) r, marked_states ts.1.marked (rests_at ms r))
-world_same ts ms ns r u rest same = λ i. (state_in (numbered ts) (rest i), marked_states ts.1.marked (same i))
+pub world_same : (past : List WorldState) (ts : Tables) (ms ns : List (List Note)) (r u : NumberedRest) → u ≡ r → rests_at ns u ≡ rests_at ms r
+    → ◌≡◌ {A = Worlds} (state_in (numbered ts) u, past ++ marked_states ts.1.marked (rests_at ns u)) (state_in (numbered ts) r, past ++ marked_states ts.1.marked (rests_at ms r))
+world_same past ts ms ns r u rest same = λ i. (state_in (numbered ts) (rest i), past ++ marked_states ts.1.marked (same i))
 
-pub refused_same : {A E : Type 0} (res : Result A E) (ts : Tables) (ms ns : List (List Note)) (r : NumberedRest) (later : Readtables) (w : Worlds)
-    → IfErr res (λ _. later ≡ r.readtables) → rests_at ns (record r { readtables = later }) ≡ rests_at ms r → ◌≡◌ {A = Worlds} (state_in (numbered ts) r, marked_states ts.1.marked (rests_at ms r)) w
-    → IfErr res (λ _. ◌≡◌ {A = Worlds} (state_in (numbered ts) (record r { readtables = later }), marked_states ts.1.marked (rests_at ns (record r { readtables = later }))) w)
-refused_same (Ok x) ts ms ns r later w tables same is = tt
-refused_same (Err e) ts ms ns r later w tables same is =
-    world_same ts ms ns r (record r { readtables = later }) (ap (λ (m : Readtables). record r { readtables = m }) tables) same ∙ is
+pub refused_same : {A E : Type 0} (res : Result A E) (past : List WorldState) (ts : Tables) (ms ns : List (List Note)) (r : NumberedRest) (later : Readtables) (w : Worlds)
+    → IfErr res (λ _. later ≡ r.readtables) → rests_at ns (record r { readtables = later }) ≡ rests_at ms r → ◌≡◌ {A = Worlds} (state_in (numbered ts) r, past ++ marked_states ts.1.marked (rests_at ms r)) w
+    → IfErr res (λ _. ◌≡◌ {A = Worlds} (state_in (numbered ts) (record r { readtables = later }), past ++ marked_states ts.1.marked (rests_at ns (record r { readtables = later }))) w)
+refused_same (Ok x) past ts ms ns r later w tables same is = tt
+refused_same (Err e) past ts ms ns r later w tables same is =
+    world_same past ts ms ns r (record r { readtables = later }) (ap (λ (m : Readtables). record r { readtables = m }) tables) same ∙ is
 
 -- ---- what is kept of the marks
 as_many_push : {A B : Type 0} (xs : List A) (ys : List B) (x : A) (y : B) → length xs ≡ length ys → length (xs ++ x ∷ []) ≡ length (ys ++ y ∷ [])
@@ -161,11 +161,11 @@ module _ (ts : List Numbered) (ms : List (List Note)) (r : NumberedRest) (rows :
 
 -- the world that was marked
 module _ {X : Type 0} where
-  first_marks : (past : List X) (x : X) (later : List X) → take (length past) (past ++ x ∷ later) ≡ past
+  pub first_marks : (past : List X) (x : X) (later : List X) → take (length past) (past ++ x ∷ later) ≡ past
   first_marks [] x later = refl
   first_marks (y ∷ past) x later = ap (λ xs. y ∷ xs) (first_marks past x later)
 
-  this_mark : (past : List X) (x : X) (later : List X) → slice_get (past ++ x ∷ later) (length past) ≡ Some x
+  pub this_mark : (past : List X) (x : X) (later : List X) → slice_get (past ++ x ∷ later) (length past) ≡ Some x
   this_mark [] x later = refl
   this_mark (y ∷ past) x later = this_mark past x later
 

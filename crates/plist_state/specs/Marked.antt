@@ -1,7 +1,10 @@
 -- What contracts see of a world, and what holds of it.
-use Rattle.std.specs.Prelude.{◌≡◌, List, [], ◌∷◌, length, All}
-use Rattle.package_table.specs.Numbers.{Numbered, numbered}
+use Rattle.std.specs.Prelude.{◌≡◌, ℕ, ◌<◌, ◌≤◌, ◌^◌, ◌++◌, List, [], ◌∷◌, length, All}
+use Rattle.std.specs.Global.{Vec}
+use Rattle.package_table.specs.Numbers.{Numbered, Tables, numbered}
 use Rattle.plist_state.specs.declared.note.Note.{Note}
+use Rattle.plist_state.specs.declared.replaced.Replaced.{Replaced}
+use Rattle.plist_state.specs.declared.stored.Stored.{Stored}
 use Rattle.plist_state.specs.declared.world.World.TheInside.{Inside}
 use Rattle.plist_state.specs.State.{Rest, WorldState, Worlds, state_with}
 use Rattle.plist_state.specs.Sound.{IsSound}
@@ -9,7 +12,7 @@ use Rattle.plist_state.specs.Lists.{lists, IsOwned}
 use Rattle.plist_state.specs.Shown.{NumberedRest, Rows, rest_of}
 use Rattle.plist_state.specs.Kept.{IsProperRows}
 use Rattle.plist_state.specs.Indexed.{AreIndexed}
-use Rattle.plist_state.specs.Sizes.{AreSizes}
+use Rattle.plist_state.specs.Sizes.{Sizes, AreSizes}
 use Rattle.plist_state.specs.Undoing.{rests_at}
 use Rattle.plist_state.specs.Journal.{marks_of, IsJournal}
 
@@ -34,10 +37,19 @@ marked_states [] rests = []
 marked_states (s ∷ ss) [] = []
 marked_states (s ∷ ss) (r ∷ rests) = state_in s r ∷ marked_states ss rests
 
--- the state of a world, and the states that were marked
+-- the state of what was replaced, and the states that were marked in it
+abbrev pub worlds_in : Replaced → Worlds
+worlds_in e = (state_in (numbered e.packages) (rest_of e.stored), marked_states e.packages.1.marked (rests_at (marks_of e.marks.items) (rest_of e.stored)))
+
+-- what was replaced has one mark more, at which another was put in its place
+abbrev pub earlier_states : List Replaced → List WorldState
+earlier_states [] = []
+earlier_states (e ∷ es) = (worlds_in e).1 ++ (worlds_in e).0 ∷ earlier_states es
+
+-- the state of a world, and the states that were marked: those of what was replaced come first
 abbrev pub worlds_of : Inside → Worlds
 worlds_of a =
-    (state_in (numbered a.packages) (rest_of a.stored), marked_states a.packages.1.marked (rests_at (marks_of a.marks.items) (rest_of a.stored)))
+    (state_in (numbered a.packages) (rest_of a.stored), earlier_states a.earlier.items ++ marked_states a.packages.1.marked (rests_at (marks_of a.marks.items) (rest_of a.stored)))
 
 -- at each mark, each number that has a list is that of a symbol
 abbrev pub AreOwned : List Numbered → List NumberedRest → Type 0
@@ -52,11 +64,30 @@ pub record AreKept (ss : List Numbered) (ms : List (List Note)) (r : NumberedRes
   pub owned : AreOwned ss (rests_at ms r)
   pub sound : All IsSound (marked_states ss (rests_at ms r))
 
--- each value is proper, each index is that of its row, each size that of its list, each list has its symbol, and the world is sound, now and at each mark
+-- each value is proper, each index is that of its row, each size that of its list, each list has its symbol, and the state is sound, now and at each mark
+pub record IsKeptPart (packages : Tables) (stored : Stored) (notes : List (Vec Note)) (noted : Sizes) : Type 0 where
+  pub values : IsProperRows stored.properties.entries
+  pub indexed : AreIndexed stored.properties.entries stored.indexes.entries
+  pub sizes : AreSizes (rest_of stored).properties noted
+  pub owned : IsOwned (numbered packages) (rest_of stored).properties
+  pub sound : IsSound (state_in (numbered packages) (rest_of stored))
+  pub marked : AreKept packages.1.marked (marks_of notes) (rest_of stored) stored.properties.entries
+
+-- what was replaced can be put back
+abbrev pub IsReplaced : Replaced → Type 0
+IsReplaced e = IsKeptPart e.packages e.stored e.marks.items e.sizes.entries
+
+-- what was replaced, which has so many marks
+pub record AreReplaced (es : List Replaced) (marks : ℕ) : Type 0 where
+  pub each : All IsReplaced es
+  pub count : marks ≡ length (earlier_states es)
+  pub below : marks < 2 ^ 62
+
+-- so it is with what the world keeps now, and with what was replaced
 pub record IsKept (a : Inside) : Type 0 where
-  pub values : IsProperRows a.stored.properties.entries
-  pub indexed : AreIndexed a.stored.properties.entries a.stored.indexes.entries
-  pub sizes : AreSizes (rest_of a.stored).properties a.sizes.entries
-  pub owned : IsOwned (numbered a.packages) (rest_of a.stored).properties
-  pub sound : IsSound (state_in (numbered a.packages) (rest_of a.stored))
-  pub marked : AreKept a.packages.1.marked (marks_of a.marks.items) (rest_of a.stored) a.stored.properties.entries
+  pub now : IsKeptPart a.packages a.stored a.marks.items a.sizes.entries
+  pub earlier : AreReplaced a.earlier.items a.earlier_marks
+
+-- On the way back to a mark of the world before, this world is nearer: it was marked there, at that mark or a later one.
+abbrev pub IsWayBack : ℕ → Worlds → Worlds → Type 0
+IsWayBack mark before w = (later : List WorldState) × (before.1 ≡ w.1 ++ w.0 ∷ later) × (mark ≤ length w.1)

@@ -8,12 +8,12 @@
 //! of package_table for the calls on packages. A call that is refused, or that runs out of memory, changes nothing, and
 //! `OutOfMemory` comes only where the definition refuses nothing.
 //!
-//! `World::mark` adds the state to the marked ones, `back_to` goes back to one, and `settle` forgets them all; every other
-//! call leaves the list as it is. A mark copies nothing. Each call that writes makes room for a note first, then moves what it
+//! `World::mark` adds the state to the marked ones, `put_in_place` does so and puts another world there, `back_to` goes back
+//! to one, and `settle` forgets them all; every other call leaves the list as it is. A mark copies nothing. Each call that writes makes room for a note first, then moves what it
 //! overwrites into the note (`Note`), and notes it under the newest mark (`journal`); `back_to` undoes the notes, the last first
 //! (`undo`), and does not fail: a row that was emptied stays, with its memory, and the journal's invariant (`IsJournal`
 //! of specs/Journal.antt) says that each row has memory for what is put back. The packages have marks of their own, which cut
-//! their lists.
+//! their lists. What another world was put in the place of is kept whole (`Replaced`), with its own marks.
 //!
 //! Property lists are kept by the numbers that package_table gives to symbols, and in them each indicator is such a number
 //! too. What is kept is a `NumberedRest` (specs/Shown.antt), of which the definitions of the journal speak; `lists` of
@@ -22,7 +22,8 @@
 //! - `world`: `World`, and what is asked of it
 //! - `readers`: the lists that it gives
 //! - `properties`, `packages`, `readtables`, `base`: the calls that write
-//! - `marks`: `mark`, `mark_count`, `back_to`, `settle`, over `journal` (notes under marks) and `undo` (notes undone)
+//! - `marks`: `mark`, `put_in_place`, `mark_count`, `back_to`, `settle`, over `journal` (notes under marks), `undo` (notes
+//!   undone) and `replaced` (what another world was put in the place of)
 //! - `note`: what is noted of a change; `overwritten`: what need not be
 //! - `numbers`: the number of a symbol, as `rows` takes it
 //! - `symbol`, `property`, `property_list`: `Symbol`, `BorrowedSymbol`, `Property`, `PropertyList`
@@ -49,6 +50,7 @@
 //!   `named_case`, `named_macro`, `named_dispatching`, `named_dispatched`, `dispatch_there`
 //! - proofs/Popped.antt: a first item taken off a list: `first_there`, `none_popped`, `with_popped_there`, `rest_value`
 //! - proofs/Lists.antt: a symbol is given a property list: `get-with_list`, `list-with_list`, `with_list_twice`, `kept`
+//! - proofs/AllSymbols.antt: that each symbol of a table is listed, and that they rise: `symbol_among`, `symbols_rise`
 //! - proofs/Orders.antt: symbols and names are in one order: `symbol_total`, `symbol_exact`, `symbol_tied`, `one_symbol`,
 //!   `name_total`, `name_exact`, `name_tied`, `one_name`
 #![tactic(auto)]
@@ -69,6 +71,7 @@ mod property;
 mod property_list;
 mod readers;
 mod readtables;
+mod replaced;
 mod row_index;
 mod rows;
 mod sizes;

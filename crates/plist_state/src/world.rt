@@ -4,12 +4,14 @@ ghost use Rattle.std.specs.Option.{option_map};
 ghost use Rattle.std.specs.FinMap as finite;
 ghost use Rattle.lisp_object.specs.Datum.{object_of, is_proper};
 ghost use Rattle.plist_state.specs.Changes.{plist, property};
+ghost use Rattle.plist_state.specs.Marked.{worlds_in, IsReplaced};
 ghost use Rattle.plist_state.specs.Pushed.{pair_size};
 ghost use Rattle.plist_state.specs.Shown.{symbol_of, symbol_named};
 ghost use Rattle.plist_state.specs.Sound.{IsSoundWorld};
 ghost use Rattle.plist_state.specs.State.{initial};
 
 use crate::note::Note;
+use crate::replaced::Replaced;
 use crate::sizes::ListSizes;
 use crate::stored::{Stored, first_stored};
 use crate::{BorrowedSymbol, PropertyList, Symbol, rows, sizes, tables};
@@ -30,6 +32,9 @@ pub struct World {
     pub(crate) marks: Vec<Vec<Note>>,
     // How large long lists are that items were put before.
     pub(crate) sizes: ListSizes,
+    // What was replaced while there are marks that lead back to it, the first first, and how many marks that are.
+    pub(crate) earlier: Vec<Replaced>,
+    pub(crate) earlier_marks: usize,
 }
 
 // A call, so that a crate above does not see what is kept at each exit of a function that owns a world.
@@ -41,6 +46,8 @@ impl Drop for World {
             stored: _,
             marks: _,
             sizes: _,
+            earlier: _,
+            earlier_marks: _,
         } = self;
     }
 }
@@ -81,7 +88,32 @@ impl World {
             stored: first_stored(alloc)?,
             marks: Vec::new(alloc),
             sizes: BTreeMap::new(alloc),
+            earlier: Vec::new(alloc),
+            earlier_marks: 0,
         })
+    }
+
+    // What it keeps, where no state is marked.
+    pub(crate) fn into_parts(self) -> Replaced
+        requires { self.1 ≡ [] }
+        ensures kept { IsReplaced result }
+        ensures same { worlds_in result ≡ self }
+    {
+        let World {
+            packages,
+            stored,
+            marks,
+            sizes,
+            alloc: _,
+            earlier: _,
+            earlier_marks: _,
+        } = self;
+        Replaced {
+            packages,
+            stored,
+            marks,
+            sizes,
+        }
     }
 
     /// What holds of every world. For proofs: it does nothing.

@@ -2,7 +2,6 @@ use Rattle.std.proofs.Common.{◌≡◌, Option, unwrap_or, sym, ap, ◌∙◌}
 use Rattle.std.specs.Prelude.{codes}
 use Rattle.std.specs.Option.{option_map}
 use Rattle.std.proofs.lemmas.Result.{IfOk-weaker}
-use Rattle.lisp_object.specs.declared.datum.Datum
 use Rattle.lisp_object.specs.declared.datum.Datum.{Datum}
 use Rattle.lisp_object.specs.Object.{nil}
 use Rattle.lisp_object.specs.Datum.{object_of, is_proper}

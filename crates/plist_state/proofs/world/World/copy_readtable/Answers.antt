@@ -15,7 +15,7 @@ invariant_of-self c =
     let e = c.copy.ensures in
     let at_home : IsSymbol s.packages (keyword, c.args.to.now) = subst (λ (w : Worlds). IsSymbol w.0.packages (keyword, c.args.to.now)) (sym c.self.view_is) c.requires in
     left_kept c.self.inside c.copy.new.tables c.copy.new.marks c.copy.result e.unchanged e.marked _ e.gives c.self.invariant
-    (sound_copied s c.args.from.now c.args.to.now c.self.invariant.sound at_home)
+    (sound_copied s c.args.from.now c.args.to.now c.self.invariant.now.sound at_home)
 
 pub returns-clause-marked : goal.returns-clause-marked
 returns-clause-marked c =

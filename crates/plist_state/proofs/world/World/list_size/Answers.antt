@@ -32,7 +32,7 @@ returns-in-Some-noted c =
     let s = numbered c.self.inside.packages in
     let owner : number_of s x.0 x.1 ≡ Some c.in-Some.owner = (λ k. number_of s (sym c.home.ensures k) (sym c.name.ensures k)) ∙ sym c.in-Some.ensures in
     let indicator : number_of s i.0 i.1 ≡ Some c.in-Some-number_of.indicator = (λ k. number_of s (sym c.home-2.ensures k) (sym c.name-2.ensures k)) ∙ sym c.in-Some-number_of.ensures in
-    sym (c.in-Some-noted.ensures (rest_of c.self.inside.stored).properties c.self.invariant.sizes)
+    sym (c.in-Some-noted.ensures (rest_of c.self.inside.stored).properties c.self.invariant.now.sizes)
     ∙ ap pair_size (property_seen c.self.inside c.self.invariant c.args.self.now c.self.view_is x i (symbol_count s.0) c.numbering.ensures c.in-Some.owner c.in-Some-number_of.indicator owner indicator)
 
 pub returns-in-Some-value : goal.returns-in-Some-value

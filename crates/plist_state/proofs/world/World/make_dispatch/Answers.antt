@@ -14,8 +14,8 @@ invariant_of-self c =
     let s : WorldState = state_in (numbered c.self.inside.packages) (rest_of c.self.inside.stored) in
     let e = c.make_dispatch.ensures in
     left_kept c.self.inside c.make_dispatch.new.tables c.make_dispatch.new.marks c.make_dispatch.result e.unchanged e.marked _ e.gives c.self.invariant
-    (sound_changed s c.args.name.now (λ (t : Table). Ok (with_entry t c.args.c (dispatching_entry c.args.non_terminating))) c.self.invariant.sound
-    (λ t u named made. named_dispatching s.packages c.args.c c.args.non_terminating t u c.requires (dispatch_there s c.self.invariant.sound) named made))
+    (sound_changed s c.args.name.now (λ (t : Table). Ok (with_entry t c.args.c (dispatching_entry c.args.non_terminating))) c.self.invariant.now.sound
+    (λ t u named made. named_dispatching s.packages c.args.c c.args.non_terminating t u c.requires (dispatch_there s c.self.invariant.now.sound) named made))
 
 pub returns-clause-marked : goal.returns-clause-marked
 returns-clause-marked c =

@@ -10,7 +10,7 @@ pub new-requires-clause-indicators : goal.new-requires-clause-indicators
 new-requires-clause-indicators c =
     let s = numbered c.self.inside.packages in
     are_numbers s (items_in c.row.result)
-    (subst (λ (ps : NumberedPlist). All (λ p. IsNumber s p.0) ps) (sym c.row.ensures.list) (c.self.invariant.owned.indicators c.in-Some.number))
+    (subst (λ (ps : NumberedPlist). All (λ p. IsNumber s p.0) ps) (sym c.row.ensures.list) (c.self.invariant.now.owned.indicators c.in-Some.number))
 
 pub returns-in-Some : goal.returns-in-Some
 returns-in-Some c =

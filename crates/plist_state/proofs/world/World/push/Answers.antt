@@ -11,7 +11,7 @@ use Rattle.plist_state.specs.Shown.{NumberedRest, symbol_of, rest_of}
 use Rattle.plist_state.specs.Sound.{IsSymbol, IsValue, IsSound}
 use Rattle.plist_state.specs.Lists.{same_number, row_of, value_in, IsNumber, named, IsOwned}
 use Rattle.plist_state.specs.Journal.{marks_of}
-use Rattle.plist_state.specs.Marked.{state_in}
+use Rattle.plist_state.specs.Marked.{state_in, earlier_states}
 use Rattle.plist_state.specs.Sizes.{AreSizes, AreOtherSizes}
 use Rattle.plist_state.proofs.InState.{with_changed_row, state_listed, world_listed, property_seen}
 use Rattle.plist_state.proofs.KeptWorld.{kept_rest}
@@ -60,20 +60,23 @@ invariant_of-self c =
     let at_home : IsSymbol s.0 x = subst (λ (w : Worlds). IsSymbol w.0.packages x) (sym c.self.view_is) c.requires.symbol in
     let indicator : IsSymbol s.0 i = subst (λ (w : Worlds). IsSymbol w.0.packages i) (sym c.self.view_is) c.requires.indicator in
     let value : IsValue s.0 (pushed v (property (state_in s r) x i)) = subst (λ (w : Worlds). IsValue w.0.packages (pushed v (property w.0 x i))) (sym c.self.view_is) c.requires.value in
-    let numbers = all_with same_number (λ p. IsNumber s p.0) row j (pushed v (value_by same_number row j)) (number_is s (symbol_count s.0) c.numbering.ensures i j indicator_is) (λ p k. k) (c.self.invariant.owned.indicators n) in
+    let numbers = all_with same_number (λ p. IsNumber s p.0) row j (pushed v (value_by same_number row j)) (number_is s (symbol_count s.0) c.numbering.ensures i j indicator_is) (λ p k. k) (c.self.invariant.now.owned.indicators n) in
     let same : named s (with_pushed_by same_number row j v) ≡ with_pushed_by same_symbol (named s row) i v =
-    pushed_named s (symbol_count s.0) c.numbering.ensures i j indicator_is row (c.self.invariant.owned.indicators n) v in
+    pushed_named s (symbol_count s.0) c.numbering.ensures i j indicator_is row (c.self.invariant.now.owned.indicators n) v in
     record {
-      values = c.push.ensures.wider.values c.self.invariant.values;
-      indexed = c.push.ensures.indexed;
-      sizes = subst (λ (q : NumberedRest). AreSizes q.properties a.sizes.entries) (sym c.in_err-push.ensures.err) c.self.invariant.sizes;
-      owned = kept_rest c.push.result (λ q. IsOwned s q.properties) r made u c.push.ensures.ok c.push.ensures.err c.self.invariant.owned
-          (owned_put s (symbol_count s.0) c.numbering.ensures r.properties x n _ owner_is numbers c.self.invariant.owned);
-      marked = kept_continued a.packages.1.marked (marks_of a.marks.items) r a.stored.properties.entries c.self.invariant.marked (marks_of c.push.new.marks.items) u c.push.new.stored.properties.entries
-          c.push.ensures.marked (fits_now a.stored.properties.entries r refl) c.push.ensures.wider;
-      sound = kept_rest c.push.result (λ q. IsSound (state_in s q)) r made u c.push.ensures.ok c.push.ensures.err c.self.invariant.sound
-          (subst IsSound (sym (state_listed s (symbol_count s.0) c.numbering.ensures x n owner_is r (λ ps. with_pushed_by same_number ps j v) (λ ps. with_pushed_by same_symbol ps i v) same))
-          (sound_put (state_in s r) x i (pushed v (property (state_in s r) x i)) c.self.invariant.sound at_home indicator value));
+      now = record {
+        values = c.push.ensures.wider.values c.self.invariant.now.values;
+        indexed = c.push.ensures.indexed;
+        sizes = subst (λ (q : NumberedRest). AreSizes q.properties a.sizes.entries) (sym c.in_err-push.ensures.err) c.self.invariant.now.sizes;
+        owned = kept_rest c.push.result (λ q. IsOwned s q.properties) r made u c.push.ensures.ok c.push.ensures.err c.self.invariant.now.owned
+            (owned_put s (symbol_count s.0) c.numbering.ensures r.properties x n _ owner_is numbers c.self.invariant.now.owned);
+        marked = kept_continued a.packages.1.marked (marks_of a.marks.items) r a.stored.properties.entries c.self.invariant.now.marked (marks_of c.push.new.marks.items) u c.push.new.stored.properties.entries
+            c.push.ensures.marked (fits_now a.stored.properties.entries r refl) c.push.ensures.wider;
+        sound = kept_rest c.push.result (λ q. IsSound (state_in s q)) r made u c.push.ensures.ok c.push.ensures.err c.self.invariant.now.sound
+            (subst IsSound (sym (state_listed s (symbol_count s.0) c.numbering.ensures x n owner_is r (λ ps. with_pushed_by same_number ps j v) (λ ps. with_pushed_by same_symbol ps i v) same))
+            (sound_put (state_in s r) x i (pushed v (property (state_in s r) x i)) c.self.invariant.now.sound at_home indicator value));
+      };
+      earlier = c.self.invariant.earlier;
     }
 
 pub invariant_of-self-2 : goal.invariant_of-self-2
@@ -94,25 +97,28 @@ invariant_of-self-2 c =
     let at_home : IsSymbol s.0 x = subst (λ (w : Worlds). IsSymbol w.0.packages x) (sym c.self.view_is) c.requires.symbol in
     let indicator : IsSymbol s.0 i = subst (λ (w : Worlds). IsSymbol w.0.packages i) (sym c.self.view_is) c.requires.indicator in
     let value : IsValue s.0 (pushed v (property (state_in s r) x i)) = subst (λ (w : Worlds). IsValue w.0.packages (pushed v (property w.0 x i))) (sym c.self.view_is) c.requires.value in
-    let numbers = all_with same_number (λ p. IsNumber s p.0) row j (pushed v (value_by same_number row j)) (number_is s (symbol_count s.0) c.numbering.ensures i j indicator_is) (λ p k. k) (c.self.invariant.owned.indicators n) in
+    let numbers = all_with same_number (λ p. IsNumber s p.0) row j (pushed v (value_by same_number row j)) (number_is s (symbol_count s.0) c.numbering.ensures i j indicator_is) (λ p k. k) (c.self.invariant.now.owned.indicators n) in
     let same : named s (with_pushed_by same_number row j v) ≡ with_pushed_by same_symbol (named s row) i v =
-    pushed_named s (symbol_count s.0) c.numbering.ensures i j indicator_is row (c.self.invariant.owned.indicators n) v in
+    pushed_named s (symbol_count s.0) c.numbering.ensures i j indicator_is row (c.self.invariant.now.owned.indicators n) v in
     let size_is : pair_size (Some (pushed v (value_in r.properties n j))) ≡ Some c.args.size =
     ap (λ o. pair_size (Some (pushed v o))) (property_seen a c.self.invariant c.args.self.now c.self.view_is x i (symbol_count s.0) c.numbering.ensures n j owner_is indicator_is) ∙ c.requires.size in
     record {
-      values = c.push.ensures.wider.values c.self.invariant.values;
-      indexed = c.push.ensures.indexed;
-      sizes = c.note.ensures u.properties
-          (subst (λ (q : NumberedRest). AreOtherSizes q.properties n j a.sizes.entries) (sym c.in_ok-push.ensures.ok)
-          (others_with r.properties n j a.sizes.entries c.self.invariant.sizes (pushed v (value_in r.properties n j))))
-          (subst (λ (q : NumberedRest). pair_size (value_in q.properties n j) ≡ Some c.args.size) (sym c.in_ok-push.ensures.ok) (size_pushed r.properties n j v c.args.size size_is));
-      owned = kept_rest c.push.result (λ q. IsOwned s q.properties) r made u c.push.ensures.ok c.push.ensures.err c.self.invariant.owned
-          (owned_put s (symbol_count s.0) c.numbering.ensures r.properties x n _ owner_is numbers c.self.invariant.owned);
-      marked = kept_continued a.packages.1.marked (marks_of a.marks.items) r a.stored.properties.entries c.self.invariant.marked (marks_of c.push.new.marks.items) u c.push.new.stored.properties.entries
-          c.push.ensures.marked (fits_now a.stored.properties.entries r refl) c.push.ensures.wider;
-      sound = kept_rest c.push.result (λ q. IsSound (state_in s q)) r made u c.push.ensures.ok c.push.ensures.err c.self.invariant.sound
-          (subst IsSound (sym (state_listed s (symbol_count s.0) c.numbering.ensures x n owner_is r (λ ps. with_pushed_by same_number ps j v) (λ ps. with_pushed_by same_symbol ps i v) same))
-          (sound_put (state_in s r) x i (pushed v (property (state_in s r) x i)) c.self.invariant.sound at_home indicator value));
+      now = record {
+        values = c.push.ensures.wider.values c.self.invariant.now.values;
+        indexed = c.push.ensures.indexed;
+        sizes = c.note.ensures u.properties
+            (subst (λ (q : NumberedRest). AreOtherSizes q.properties n j a.sizes.entries) (sym c.in_ok-push.ensures.ok)
+            (others_with r.properties n j a.sizes.entries c.self.invariant.now.sizes (pushed v (value_in r.properties n j))))
+            (subst (λ (q : NumberedRest). pair_size (value_in q.properties n j) ≡ Some c.args.size) (sym c.in_ok-push.ensures.ok) (size_pushed r.properties n j v c.args.size size_is));
+        owned = kept_rest c.push.result (λ q. IsOwned s q.properties) r made u c.push.ensures.ok c.push.ensures.err c.self.invariant.now.owned
+            (owned_put s (symbol_count s.0) c.numbering.ensures r.properties x n _ owner_is numbers c.self.invariant.now.owned);
+        marked = kept_continued a.packages.1.marked (marks_of a.marks.items) r a.stored.properties.entries c.self.invariant.now.marked (marks_of c.push.new.marks.items) u c.push.new.stored.properties.entries
+            c.push.ensures.marked (fits_now a.stored.properties.entries r refl) c.push.ensures.wider;
+        sound = kept_rest c.push.result (λ q. IsSound (state_in s q)) r made u c.push.ensures.ok c.push.ensures.err c.self.invariant.now.sound
+            (subst IsSound (sym (state_listed s (symbol_count s.0) c.numbering.ensures x n owner_is r (λ ps. with_pushed_by same_number ps j v) (λ ps. with_pushed_by same_symbol ps i v) same))
+            (sound_put (state_in s r) x i (pushed v (property (state_in s r) x i)) c.self.invariant.now.sound at_home indicator value));
+      };
+      earlier = c.self.invariant.earlier;
     }
 
 pub returns-clause-ok : goal.returns-clause-ok
@@ -125,10 +131,10 @@ returns-clause-ok c =
     let n = c.number-owner.result in
     let j = c.number-indicator.result in
     let v = object_of c.args.first in
-    world_listed {A = Unit {0}} {E = Unit {0}} (Ok tt) a.packages (marks_of a.marks.items) (marks_of c.push.new.marks.items) (rest_of a.stored) (rest_of c.push.new.stored) c.push.ensures.marked.same
+    world_listed {A = Unit {0}} {E = Unit {0}} (Ok tt) (earlier_states a.earlier.items) a.packages (marks_of a.marks.items) (marks_of c.push.new.marks.items) (rest_of a.stored) (rest_of c.push.new.stored) c.push.ensures.marked.same
     c.args.self.now c.self.view_is (symbol_count s.0) c.numbering.ensures (symbol_of c.args.symbol.now) n owner_is
     (λ ps. with_pushed_by same_number ps j v) (λ ps. with_pushed_by same_symbol ps i v)
-    (pushed_named s (symbol_count s.0) c.numbering.ensures i j indicator_is (row_of (rest_of a.stored).properties n) (c.self.invariant.owned.indicators n) v)
+    (pushed_named s (symbol_count s.0) c.numbering.ensures i j indicator_is (row_of (rest_of a.stored).properties n) (c.self.invariant.now.owned.indicators n) v)
     c.in_ok-push.ensures.ok
 
 on_err : {A E P : Type 0} (r : Result A E) → P → OnErr r P
@@ -139,5 +145,5 @@ pub returns-in_err-push-clause-err : goal.returns-in_err-push-clause-err
 returns-in_err-push-clause-err c =
     let a = c.self.inside in
     on_err c.from_residual.result
-    (world_same a.packages (marks_of a.marks.items) (marks_of c.push.new.marks.items) (rest_of a.stored) (rest_of c.push.new.stored) c.in_err-push.ensures.err c.push.ensures.marked.same
+    (world_same (earlier_states a.earlier.items) a.packages (marks_of a.marks.items) (marks_of c.push.new.marks.items) (rest_of a.stored) (rest_of c.push.new.stored) c.in_err-push.ensures.err c.push.ensures.marked.same
     ∙ c.self.view_is)

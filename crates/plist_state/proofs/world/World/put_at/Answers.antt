@@ -8,7 +8,7 @@ use Rattle.plist_state.specs.Shown.{NumberedRest, symbol_named, rest_of}
 use Rattle.plist_state.specs.Sound.{IsSymbol, IsValue, IsSound}
 use Rattle.plist_state.specs.Lists.{same_number, row_of, IsNumber, named, IsOwned}
 use Rattle.plist_state.specs.Journal.{marks_of}
-use Rattle.plist_state.specs.Marked.{state_in}
+use Rattle.plist_state.specs.Marked.{state_in, earlier_states}
 use Rattle.plist_state.specs.Sizes.{AreSizes}
 use Rattle.plist_state.proofs.InState.{with_changed_row, state_listed, world_listed, world_same_err}
 use Rattle.plist_state.proofs.KeptWorld.{kept_rest}
@@ -43,22 +43,25 @@ invariant_of-self c =
     let at_home : IsSymbol s.0 x = subst (λ (w : Worlds). IsSymbol w.0.packages x) (sym c.self.view_is) c.requires.symbol in
     let indicator : IsSymbol s.0 i = subst (λ (w : Worlds). IsSymbol w.0.packages i) (sym c.self.view_is) c.requires.indicator in
     let value : IsValue s.0 v = subst (λ (w : Worlds). IsValue w.0.packages v) (sym c.self.view_is) c.requires.value in
-    let numbers = all_with same_number (λ p. IsNumber s p.0) row j v (number_is s (symbol_count s.0) c.numbering.ensures i j c.number-indicator.ensures) (λ p k. k) (c.self.invariant.owned.indicators n) in
+    let numbers = all_with same_number (λ p. IsNumber s p.0) row j v (number_is s (symbol_count s.0) c.numbering.ensures i j c.number-indicator.ensures) (λ p k. k) (c.self.invariant.now.owned.indicators n) in
     let same : named s (with_value_by same_number row j v) ≡ with_value (named s row) i v =
-    with_named s (symbol_count s.0) c.numbering.ensures i j c.number-indicator.ensures row (c.self.invariant.owned.indicators n) v in
+    with_named s (symbol_count s.0) c.numbering.ensures i j c.number-indicator.ensures row (c.self.invariant.now.owned.indicators n) v in
     record {
-      values = c.put.ensures.wider.values c.self.invariant.values;
-      indexed = c.put.ensures.indexed;
-      sizes = kept_rest c.put.result (λ q. AreSizes q.properties c.forget.new.sizes.entries) r made u c.put.ensures.ok c.put.ensures.err
-          (c.forget.ensures r.properties (same_others r.properties n j a.sizes.entries c.self.invariant.sizes))
-          (c.forget.ensures made.properties (others_with r.properties n j a.sizes.entries c.self.invariant.sizes v));
-      owned = kept_rest c.put.result (λ q. IsOwned s q.properties) r made u c.put.ensures.ok c.put.ensures.err c.self.invariant.owned
-          (owned_put s (symbol_count s.0) c.numbering.ensures r.properties x n _ c.number-owner.ensures numbers c.self.invariant.owned);
-      marked = kept_continued a.packages.1.marked (marks_of a.marks.items) r a.stored.properties.entries c.self.invariant.marked (marks_of c.put.new.marks.items) u c.put.new.stored.properties.entries
-          c.put.ensures.marked (fits_now a.stored.properties.entries r refl) c.put.ensures.wider;
-      sound = kept_rest c.put.result (λ q. IsSound (state_in s q)) r made u c.put.ensures.ok c.put.ensures.err c.self.invariant.sound
-          (subst IsSound (sym (state_listed s (symbol_count s.0) c.numbering.ensures x n c.number-owner.ensures r (λ ps. with_value_by same_number ps j v) (λ ps. with_value ps i v) same))
-          (sound_put (state_in s r) x i v c.self.invariant.sound at_home indicator value));
+      now = record {
+        values = c.put.ensures.wider.values c.self.invariant.now.values;
+        indexed = c.put.ensures.indexed;
+        sizes = kept_rest c.put.result (λ q. AreSizes q.properties c.forget.new.sizes.entries) r made u c.put.ensures.ok c.put.ensures.err
+            (c.forget.ensures r.properties (same_others r.properties n j a.sizes.entries c.self.invariant.now.sizes))
+            (c.forget.ensures made.properties (others_with r.properties n j a.sizes.entries c.self.invariant.now.sizes v));
+        owned = kept_rest c.put.result (λ q. IsOwned s q.properties) r made u c.put.ensures.ok c.put.ensures.err c.self.invariant.now.owned
+            (owned_put s (symbol_count s.0) c.numbering.ensures r.properties x n _ c.number-owner.ensures numbers c.self.invariant.now.owned);
+        marked = kept_continued a.packages.1.marked (marks_of a.marks.items) r a.stored.properties.entries c.self.invariant.now.marked (marks_of c.put.new.marks.items) u c.put.new.stored.properties.entries
+            c.put.ensures.marked (fits_now a.stored.properties.entries r refl) c.put.ensures.wider;
+        sound = kept_rest c.put.result (λ q. IsSound (state_in s q)) r made u c.put.ensures.ok c.put.ensures.err c.self.invariant.now.sound
+            (subst IsSound (sym (state_listed s (symbol_count s.0) c.numbering.ensures x n c.number-owner.ensures r (λ ps. with_value_by same_number ps j v) (λ ps. with_value ps i v) same))
+            (sound_put (state_in s r) x i v c.self.invariant.now.sound at_home indicator value));
+      };
+      earlier = c.self.invariant.earlier;
     }
 
 pub returns-clause-ok : goal.returns-clause-ok
@@ -69,14 +72,14 @@ returns-clause-ok c =
     let n = c.number-owner.result in
     let j = c.number-indicator.result in
     let v = object_of c.args.value in
-    world_listed c.put.result a.packages (marks_of a.marks.items) (marks_of c.put.new.marks.items) (rest_of a.stored) (rest_of c.put.new.stored) c.put.ensures.marked.same
+    world_listed c.put.result (earlier_states a.earlier.items) a.packages (marks_of a.marks.items) (marks_of c.put.new.marks.items) (rest_of a.stored) (rest_of c.put.new.stored) c.put.ensures.marked.same
     c.args.self.now c.self.view_is (symbol_count s.0) c.numbering.ensures (symbol_named c.args.symbol) n c.number-owner.ensures
     (λ ps. with_value_by same_number ps j v) (λ ps. with_value ps i v)
-    (with_named s (symbol_count s.0) c.numbering.ensures i j c.number-indicator.ensures (row_of (rest_of a.stored).properties n) (c.self.invariant.owned.indicators n) v)
+    (with_named s (symbol_count s.0) c.numbering.ensures i j c.number-indicator.ensures (row_of (rest_of a.stored).properties n) (c.self.invariant.now.owned.indicators n) v)
     c.put.ensures.ok
 
 pub returns-clause-err : goal.returns-clause-err
 returns-clause-err c =
     let a = c.self.inside in
-    world_same_err c.put.result a.packages (marks_of a.marks.items) (marks_of c.put.new.marks.items) (rest_of a.stored) (rest_of c.put.new.stored) c.put.ensures.marked.same
+    world_same_err c.put.result (earlier_states a.earlier.items) a.packages (marks_of a.marks.items) (marks_of c.put.new.marks.items) (rest_of a.stored) (rest_of c.put.new.stored) c.put.ensures.marked.same
     c.args.self.now c.self.view_is c.put.ensures.err

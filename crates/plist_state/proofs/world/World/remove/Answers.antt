@@ -11,7 +11,7 @@ use Rattle.plist_state.specs.Shown.{NumberedRest, symbol_of, rest_of}
 use Rattle.plist_state.specs.Sound.{IsSymbol, IsSound}
 use Rattle.plist_state.specs.Lists.{same_number, row_of, IsNumber, named, IsOwned}
 use Rattle.plist_state.specs.Journal.{marks_of}
-use Rattle.plist_state.specs.Marked.{state_in}
+use Rattle.plist_state.specs.Marked.{state_in, earlier_states}
 use Rattle.plist_state.specs.Sizes.{AreSizes}
 use Rattle.plist_state.proofs.InState.{with_changed_row, state_listed, world_listed, world_same_err, property_seen, no_property, property_out}
 use Rattle.plist_state.proofs.KeptWorld.{kept_rest}
@@ -63,21 +63,24 @@ invariant_of-self c =
     let made : NumberedRest = with_changed_row r n (λ ps. without_value_by same_number ps j) in
     let at_home : IsSymbol s.0 x = subst (λ (w : Worlds). IsSymbol w.0.packages x) (sym c.self.view_is) c.requires in
     let same : named s (without_value_by same_number row j) ≡ without_value (named s row) i =
-    without_named s (symbol_count s.0) c.numbering.ensures i j is row (c.self.invariant.owned.indicators n) in
+    without_named s (symbol_count s.0) c.numbering.ensures i j is row (c.self.invariant.now.owned.indicators n) in
     record {
-      values = c.remove.ensures.wider.values c.self.invariant.values;
-      indexed = c.remove.ensures.indexed;
-      sizes = kept_rest c.remove.result (λ q. AreSizes q.properties c.forget.new.sizes.entries) r made u c.remove.ensures.ok c.remove.ensures.err
-          (c.forget.ensures r.properties (same_others r.properties n j a.sizes.entries c.self.invariant.sizes))
-          (c.forget.ensures made.properties (others_without r.properties n j a.sizes.entries c.self.invariant.sizes));
-      owned = kept_rest c.remove.result (λ q. IsOwned s q.properties) r made u c.remove.ensures.ok c.remove.ensures.err c.self.invariant.owned
-          (owned_put s (symbol_count s.0) c.numbering.ensures r.properties x n _ owner_is
-          (all_without same_number (λ p. IsNumber s p.0) row j (c.self.invariant.owned.indicators n)) c.self.invariant.owned);
-      marked = kept_continued a.packages.1.marked (marks_of a.marks.items) r a.stored.properties.entries c.self.invariant.marked (marks_of c.remove.new.marks.items) u c.remove.new.stored.properties.entries
-          c.remove.ensures.marked (fits_now a.stored.properties.entries r refl) c.remove.ensures.wider;
-      sound = kept_rest c.remove.result (λ q. IsSound (state_in s q)) r made u c.remove.ensures.ok c.remove.ensures.err c.self.invariant.sound
-          (subst IsSound (sym (state_listed s (symbol_count s.0) c.numbering.ensures x n owner_is r (λ ps. without_value_by same_number ps j) (λ ps. without_value ps i) same))
-          (sound_removed (state_in s r) x i c.self.invariant.sound at_home));
+      now = record {
+        values = c.remove.ensures.wider.values c.self.invariant.now.values;
+        indexed = c.remove.ensures.indexed;
+        sizes = kept_rest c.remove.result (λ q. AreSizes q.properties c.forget.new.sizes.entries) r made u c.remove.ensures.ok c.remove.ensures.err
+            (c.forget.ensures r.properties (same_others r.properties n j a.sizes.entries c.self.invariant.now.sizes))
+            (c.forget.ensures made.properties (others_without r.properties n j a.sizes.entries c.self.invariant.now.sizes));
+        owned = kept_rest c.remove.result (λ q. IsOwned s q.properties) r made u c.remove.ensures.ok c.remove.ensures.err c.self.invariant.now.owned
+            (owned_put s (symbol_count s.0) c.numbering.ensures r.properties x n _ owner_is
+            (all_without same_number (λ p. IsNumber s p.0) row j (c.self.invariant.now.owned.indicators n)) c.self.invariant.now.owned);
+        marked = kept_continued a.packages.1.marked (marks_of a.marks.items) r a.stored.properties.entries c.self.invariant.now.marked (marks_of c.remove.new.marks.items) u c.remove.new.stored.properties.entries
+            c.remove.ensures.marked (fits_now a.stored.properties.entries r refl) c.remove.ensures.wider;
+        sound = kept_rest c.remove.result (λ q. IsSound (state_in s q)) r made u c.remove.ensures.ok c.remove.ensures.err c.self.invariant.now.sound
+            (subst IsSound (sym (state_listed s (symbol_count s.0) c.numbering.ensures x n owner_is r (λ ps. without_value_by same_number ps j) (λ ps. without_value ps i) same))
+            (sound_removed (state_in s r) x i c.self.invariant.now.sound at_home));
+      };
+      earlier = c.self.invariant.earlier;
     }
 
 pub returns-clause-ok : goal.returns-clause-ok
@@ -89,16 +92,16 @@ returns-clause-ok c =
     let n = c.number-owner.result in
     let j = c.in-Some.indicator in
     let is : number_of s i.0 i.1 ≡ Some j = (λ k. number_of s (sym c.home.ensures k) (sym c.name.ensures k)) ∙ sym c.in-Some.ensures in
-    world_listed c.remove.result a.packages (marks_of a.marks.items) (marks_of c.remove.new.marks.items) (rest_of a.stored) (rest_of c.remove.new.stored) c.remove.ensures.marked.same
+    world_listed c.remove.result (earlier_states a.earlier.items) a.packages (marks_of a.marks.items) (marks_of c.remove.new.marks.items) (rest_of a.stored) (rest_of c.remove.new.stored) c.remove.ensures.marked.same
     c.args.self.now c.self.view_is (symbol_count s.0) c.numbering.ensures (symbol_of c.args.symbol.now) n owner_is
     (λ ps. without_value_by same_number ps j) (λ ps. without_value ps i)
-    (without_named s (symbol_count s.0) c.numbering.ensures i j is (row_of (rest_of a.stored).properties n) (c.self.invariant.owned.indicators n))
+    (without_named s (symbol_count s.0) c.numbering.ensures i j is (row_of (rest_of a.stored).properties n) (c.self.invariant.now.owned.indicators n))
     c.remove.ensures.ok
 
 pub returns-clause-err : goal.returns-clause-err
 returns-clause-err c =
     let a = c.self.inside in
-    world_same_err c.remove.result a.packages (marks_of a.marks.items) (marks_of c.remove.new.marks.items) (rest_of a.stored) (rest_of c.remove.new.stored) c.remove.ensures.marked.same
+    world_same_err c.remove.result (earlier_states a.earlier.items) a.packages (marks_of a.marks.items) (marks_of c.remove.new.marks.items) (rest_of a.stored) (rest_of c.remove.new.stored) c.remove.ensures.marked.same
     c.args.self.now c.self.view_is c.remove.ensures.err
 
 pub returns-clause-had : goal.returns-clause-had

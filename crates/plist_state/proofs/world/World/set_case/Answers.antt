@@ -13,7 +13,7 @@ invariant_of-self c =
     let s : WorldState = state_in (numbered c.self.inside.packages) (rest_of c.self.inside.stored) in
     let e = c.set_case.ensures in
     left_kept c.self.inside c.set_case.new.tables c.set_case.new.marks c.set_case.result e.unchanged e.marked _ e.gives c.self.invariant
-    (sound_changed s c.args.name.now (λ (t : Table). Ok (record t { letters = c.args.letters })) c.self.invariant.sound
+    (sound_changed s c.args.name.now (λ (t : Table). Ok (record t { letters = c.args.letters })) c.self.invariant.now.sound
     (λ t u named made. named_case s.packages c.args.letters t u named made))
 
 pub returns-clause-marked : goal.returns-clause-marked

@@ -23,13 +23,16 @@ invariant_of-self-2 c =
     let there : IsTrue (finite.contains_key s.readtables c.args.name.now) = search rules in
     let named : c.replace-before.new.dest.items ≡ c.args.name.now = ap (λ (v : Vec ℕ). v.items) c.replace-before.ensures.after ∙ c.in_ok-name.ensures.name in
     record {
-      values = c.self.invariant.values;
-      indexed = c.self.invariant.indexed;
-      sizes = c.self.invariant.sizes;
-      owned = c.self.invariant.owned;
-      sound = subst (λ n. IsSound (record s { current_readtable = n })) (sym named) (sound_in_readtable s c.args.name.now c.self.invariant.sound there);
-      marked = kept_continued a.packages.1.marked (marks_of a.marks.items) r a.stored.properties.entries c.self.invariant.marked (marks_of c.push_note.new.marks.items) u a.stored.properties.entries
-          (continues_noted (marks_of a.marks.items) _ (marks_of c.push_note.new.marks.items) (InReadtable c.replace-before.result) r u c.in_ok-name.ensures.same c.push_note.ensures tt
-          (λ i. record r { current_readtable = (c.replace-before.ensures.value i).items }))
-          (fits_now a.stored.properties.entries r refl) (wider_same a.stored.properties.entries a.stored.properties.entries refl);
+      now = record {
+        values = c.self.invariant.now.values;
+        indexed = c.self.invariant.now.indexed;
+        sizes = c.self.invariant.now.sizes;
+        owned = c.self.invariant.now.owned;
+        sound = subst (λ n. IsSound (record s { current_readtable = n })) (sym named) (sound_in_readtable s c.args.name.now c.self.invariant.now.sound there);
+        marked = kept_continued a.packages.1.marked (marks_of a.marks.items) r a.stored.properties.entries c.self.invariant.now.marked (marks_of c.push_note.new.marks.items) u a.stored.properties.entries
+            (continues_noted (marks_of a.marks.items) _ (marks_of c.push_note.new.marks.items) (InReadtable c.replace-before.result) r u c.in_ok-name.ensures.same c.push_note.ensures tt
+            (λ i. record r { current_readtable = (c.replace-before.ensures.value i).items }))
+            (fits_now a.stored.properties.entries r refl) (wider_same a.stored.properties.entries a.stored.properties.entries refl);
+      };
+      earlier = c.self.invariant.earlier;
     }

@@ -11,7 +11,7 @@ invariant_of-self c =
     let s : WorldState = state_in (numbered c.self.inside.packages) (rest_of c.self.inside.stored) in
     let e = c.set_syntax.ensures in
     left_kept c.self.inside c.set_syntax.new.tables c.set_syntax.new.marks c.set_syntax.result e.unchanged e.marked _ e.gives c.self.invariant
-    (sound_syntax s c.args.to.now c.args.c c.args.from.now c.args.d c.self.invariant.sound c.requires.to)
+    (sound_syntax s c.args.to.now c.args.c c.args.from.now c.args.d c.self.invariant.now.sound c.requires.to)
 
 pub returns-clause-marked : goal.returns-clause-marked
 returns-clause-marked c =

@@ -1,4 +1,4 @@
-use Rattle.std.proofs.Common.{◌≡◌, [], sym, ap, subst, ◌∙◌}
+use Rattle.std.proofs.Common.{◌≡◌, [], ◌++◌, sym, ap, subst, ◌∙◌}
 use Rattle.package_table.specs.Numbers.{Numbered, Tables, numbered, without_marks}
 use Rattle.plist_state.specs.State.{Worlds}
 use Rattle.plist_state.specs.Lists.{IsOwned}
@@ -7,8 +7,9 @@ use Rattle.plist_state.specs.Sound.{IsSound}
 use Rattle.plist_state.specs.Sizes.{AreSizes}
 use Rattle.plist_state.specs.Undoing.{rests_at}
 use Rattle.plist_state.specs.Journal.{marks_of}
-use Rattle.plist_state.specs.Marked.{state_in, marked_states}
+use Rattle.plist_state.specs.Marked.{state_in, marked_states, earlier_states}
 use Rattle.plist_state.proofs.Marking.{kept_none}
+use Rattle.plist_state.proofs.Earlier.{replaced_none}
 use Rattle.plist_state.proofs.world.World.settle.Goals as goal
 
 pub invariant_of-self : goal.invariant_of-self
@@ -20,13 +21,16 @@ invariant_of-self c =
     let packages : c.settle.new.self ≡ without_marks a.packages = c.settle.ensures in
     let both : ◌≡◌ {A = Numbered × NumberedRest} (numbered c.settle.new.self, u) (numbered a.packages, r) = λ i. (numbered (packages i), rest i) in
     record {
-      values = c.tidy.ensures.wider.values c.self.invariant.values;
-      indexed = c.tidy.ensures.indexed;
-      sizes = subst (λ (q : NumberedRest). AreSizes q.properties a.sizes.entries) (sym rest) c.self.invariant.sizes;
-      owned = subst (λ (p : Numbered × NumberedRest). IsOwned p.0 p.1.properties) (sym both) c.self.invariant.owned;
-      sound = subst (λ (p : Numbered × NumberedRest). IsSound (state_in p.0 p.1)) (sym both) c.self.invariant.sound;
-      marked = kept_none c.settle.new.self.1.marked (marks_of c.clear.new.self.items) u c.tidy.new.stored.properties.entries
-          (ap (λ (ts : Tables). ts.1.marked) packages) (ap marks_of c.clear.ensures.items);
+      now = record {
+        values = c.tidy.ensures.wider.values c.self.invariant.now.values;
+        indexed = c.tidy.ensures.indexed;
+        sizes = subst (λ (q : NumberedRest). AreSizes q.properties a.sizes.entries) (sym rest) c.self.invariant.now.sizes;
+        owned = subst (λ (p : Numbered × NumberedRest). IsOwned p.0 p.1.properties) (sym both) c.self.invariant.now.owned;
+        sound = subst (λ (p : Numbered × NumberedRest). IsSound (state_in p.0 p.1)) (sym both) c.self.invariant.now.sound;
+        marked = kept_none c.settle.new.self.1.marked (marks_of c.clear-2.new.self.items) u c.tidy.new.stored.properties.entries
+            (ap (λ (ts : Tables). ts.1.marked) packages) (ap marks_of c.clear-2.ensures.items);
+      };
+      earlier = replaced_none c.clear.new.self.items c.clear.ensures.items;
     }
 
 pub returns : goal.returns
@@ -36,6 +40,6 @@ returns c =
     let u : NumberedRest = rest_of c.tidy.new.stored in
     let rest : u ≡ r = c.tidy.ensures.same in
     let packages : c.settle.new.self ≡ without_marks a.packages = c.settle.ensures in
-    let now : ◌≡◌ {A = Worlds} (state_in (numbered c.settle.new.self) u, marked_states c.settle.new.self.1.marked (rests_at (marks_of c.clear.new.self.items) u)) (state_in (numbered a.packages) r, []) =
-    λ i. (state_in (numbered (packages i)) (rest i), marked_states (packages i).1.marked (rests_at (marks_of c.clear.new.self.items) (rest i))) in
+    let now : ◌≡◌ {A = Worlds} (state_in (numbered c.settle.new.self) u, earlier_states c.clear.new.self.items ++ marked_states c.settle.new.self.1.marked (rests_at (marks_of c.clear-2.new.self.items) u)) (state_in (numbered a.packages) r, []) =
+    λ i. (state_in (numbered (packages i)) (rest i), earlier_states (c.clear.ensures.items i) ++ marked_states (packages i).1.marked (rests_at (marks_of c.clear-2.new.self.items) (rest i))) in
     now ∙ ap (λ (w : Worlds). (w.0, [])) c.self.view_is

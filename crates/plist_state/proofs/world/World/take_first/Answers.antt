@@ -11,7 +11,7 @@ use Rattle.plist_state.specs.Shown.{NumberedRest, symbol_of, rest_of}
 use Rattle.plist_state.specs.Sound.{IsSymbol, IsValue, IsSound}
 use Rattle.plist_state.specs.Lists.{same_number, row_of, IsNumber, named, IsOwned}
 use Rattle.plist_state.specs.Journal.{marks_of}
-use Rattle.plist_state.specs.Marked.{state_in}
+use Rattle.plist_state.specs.Marked.{state_in, earlier_states}
 use Rattle.plist_state.specs.Sizes.{AreSizes}
 use Rattle.plist_state.proofs.InState.{with_changed_row, state_listed, world_listed, world_same_err, property_seen}
 use Rattle.plist_state.proofs.KeptWorld.{kept_rest}
@@ -60,23 +60,26 @@ invariant_of-self c =
     let at_home : IsSymbol s.0 x = subst (λ (w : Worlds). IsSymbol w.0.packages x) (sym c.self.view_is) c.requires.symbol in
     let indicator : IsSymbol s.0 i = subst (λ (w : Worlds). IsSymbol w.0.packages i) (sym c.self.view_is) c.requires.indicator in
     let there : holds_pair (property (state_in s r) x i) ≡ true = subst (λ (w : Worlds). holds_pair (property w.0 x i) ≡ true) (sym c.self.view_is) c.requires.list in
-    let value : IsValue s.0 (popped (property (state_in s r) x i)) = rest_value s.0 (property (state_in s r) x i) (λ v. sound_value (state_in s r) x i v c.self.invariant.sound) there in
-    let numbers = all_with same_number (λ p. IsNumber s p.0) row j rest (number_is s (symbol_count s.0) c.numbering.ensures i j indicator_is) (λ p k. k) (c.self.invariant.owned.indicators n) in
+    let value : IsValue s.0 (popped (property (state_in s r) x i)) = rest_value s.0 (property (state_in s r) x i) (λ v. sound_value (state_in s r) x i v c.self.invariant.now.sound) there in
+    let numbers = all_with same_number (λ p. IsNumber s p.0) row j rest (number_is s (symbol_count s.0) c.numbering.ensures i j indicator_is) (λ p k. k) (c.self.invariant.now.owned.indicators n) in
     let same : named s (with_popped_by same_number row j) ≡ with_popped_by same_symbol (named s row) i =
-    popped_named s (symbol_count s.0) c.numbering.ensures i j indicator_is row (c.self.invariant.owned.indicators n) in
+    popped_named s (symbol_count s.0) c.numbering.ensures i j indicator_is row (c.self.invariant.now.owned.indicators n) in
     record {
-      values = c.pop.ensures.wider.values c.self.invariant.values;
-      indexed = c.pop.ensures.indexed;
-      sizes = kept_rest c.pop.result (λ q. AreSizes q.properties c.forget.new.sizes.entries) r made u c.pop.ensures.ok c.pop.ensures.err
-          (c.forget.ensures r.properties (same_others r.properties n j a.sizes.entries c.self.invariant.sizes))
-          (c.forget.ensures made.properties (others_with r.properties n j a.sizes.entries c.self.invariant.sizes rest));
-      owned = kept_rest c.pop.result (λ q. IsOwned s q.properties) r made u c.pop.ensures.ok c.pop.ensures.err c.self.invariant.owned
-          (owned_put s (symbol_count s.0) c.numbering.ensures r.properties x n _ owner_is numbers c.self.invariant.owned);
-      marked = kept_continued a.packages.1.marked (marks_of a.marks.items) r a.stored.properties.entries c.self.invariant.marked (marks_of c.pop.new.marks.items) u c.pop.new.stored.properties.entries
-          c.pop.ensures.marked (fits_now a.stored.properties.entries r refl) c.pop.ensures.wider;
-      sound = kept_rest c.pop.result (λ q. IsSound (state_in s q)) r made u c.pop.ensures.ok c.pop.ensures.err c.self.invariant.sound
-          (subst IsSound (sym (state_listed s (symbol_count s.0) c.numbering.ensures x n owner_is r (λ ps. with_popped_by same_number ps j) (λ ps. with_popped_by same_symbol ps i) same))
-          (sound_put (state_in s r) x i (popped (property (state_in s r) x i)) c.self.invariant.sound at_home indicator value));
+      now = record {
+        values = c.pop.ensures.wider.values c.self.invariant.now.values;
+        indexed = c.pop.ensures.indexed;
+        sizes = kept_rest c.pop.result (λ q. AreSizes q.properties c.forget.new.sizes.entries) r made u c.pop.ensures.ok c.pop.ensures.err
+            (c.forget.ensures r.properties (same_others r.properties n j a.sizes.entries c.self.invariant.now.sizes))
+            (c.forget.ensures made.properties (others_with r.properties n j a.sizes.entries c.self.invariant.now.sizes rest));
+        owned = kept_rest c.pop.result (λ q. IsOwned s q.properties) r made u c.pop.ensures.ok c.pop.ensures.err c.self.invariant.now.owned
+            (owned_put s (symbol_count s.0) c.numbering.ensures r.properties x n _ owner_is numbers c.self.invariant.now.owned);
+        marked = kept_continued a.packages.1.marked (marks_of a.marks.items) r a.stored.properties.entries c.self.invariant.now.marked (marks_of c.pop.new.marks.items) u c.pop.new.stored.properties.entries
+            c.pop.ensures.marked (fits_now a.stored.properties.entries r refl) c.pop.ensures.wider;
+        sound = kept_rest c.pop.result (λ q. IsSound (state_in s q)) r made u c.pop.ensures.ok c.pop.ensures.err c.self.invariant.now.sound
+            (subst IsSound (sym (state_listed s (symbol_count s.0) c.numbering.ensures x n owner_is r (λ ps. with_popped_by same_number ps j) (λ ps. with_popped_by same_symbol ps i) same))
+            (sound_put (state_in s r) x i (popped (property (state_in s r) x i)) c.self.invariant.now.sound at_home indicator value));
+      };
+      earlier = c.self.invariant.earlier;
     }
 
 pub returns-clause-ok : goal.returns-clause-ok
@@ -89,14 +92,14 @@ returns-clause-ok c =
     let n = c.number-owner.result in
     let j = c.number-indicator.result in
     popped_put c.pop.result c.args.self.now.0 c.args.self.now.1 _ (symbol_of c.args.symbol.now) i c.requires.list
-    (world_listed c.pop.result a.packages (marks_of a.marks.items) (marks_of c.pop.new.marks.items) (rest_of a.stored) (rest_of c.pop.new.stored) c.pop.ensures.marked.same
+    (world_listed c.pop.result (earlier_states a.earlier.items) a.packages (marks_of a.marks.items) (marks_of c.pop.new.marks.items) (rest_of a.stored) (rest_of c.pop.new.stored) c.pop.ensures.marked.same
     c.args.self.now c.self.view_is (symbol_count s.0) c.numbering.ensures (symbol_of c.args.symbol.now) n owner_is
     (λ ps. with_popped_by same_number ps j) (λ ps. with_popped_by same_symbol ps i)
-    (popped_named s (symbol_count s.0) c.numbering.ensures i j indicator_is (row_of (rest_of a.stored).properties n) (c.self.invariant.owned.indicators n))
+    (popped_named s (symbol_count s.0) c.numbering.ensures i j indicator_is (row_of (rest_of a.stored).properties n) (c.self.invariant.now.owned.indicators n))
     c.pop.ensures.ok)
 
 pub returns-clause-err : goal.returns-clause-err
 returns-clause-err c =
     let a = c.self.inside in
-    world_same_err c.pop.result a.packages (marks_of a.marks.items) (marks_of c.pop.new.marks.items) (rest_of a.stored) (rest_of c.pop.new.stored) c.pop.ensures.marked.same
+    world_same_err c.pop.result (earlier_states a.earlier.items) a.packages (marks_of a.marks.items) (marks_of c.pop.new.marks.items) (rest_of a.stored) (rest_of c.pop.new.stored) c.pop.ensures.marked.same
     c.args.self.now c.self.view_is c.pop.ensures.err
