@@ -39,13 +39,20 @@ shown_names t p = if bytes_eq p keyword then [] else external_names t p
 abbrev pub imported_name : Name × Name → Object
 imported_name r = texts (r.0 ∷ r.1 ∷ [])
 
--- the name of a package, the packages that it uses, its own names, its external ones and its imports
+-- the name of a package, the packages that it uses, these for its own names, its external ones and its imports
+abbrev pub package_with : Table → Name → List Name → Object
+package_with t p own =
+    list_of (text p ∷ texts (used_names t p) ∷ texts own ∷ texts (shown_names t p) ∷ list_of (map imported_name (imports t p)) ∷ [])
+
+-- all but COMMON-LISP, where each has these for its own names
+abbrev pub packages_with : Table → (Name → List Name) → Object
+packages_with t own = list_of (map (λ p. package_with t p (own p)) (filter (λ p. not (bytes_eq p common_lisp)) (package_names t)))
+
 abbrev pub package_object : Table → Name → Object
-package_object t p =
-    list_of (text p ∷ texts (used_names t p) ∷ texts (made_names t p) ∷ texts (shown_names t p) ∷ list_of (map imported_name (imports t p)) ∷ [])
+package_object t p = package_with t p (made_names t p)
 
 abbrev pub packages_object : Table → Object
-packages_object t = list_of (map (package_object t) (filter (λ p. not (bytes_eq p common_lisp)) (package_names t)))
+packages_object t = packages_with t (made_names t)
 
 -- ---- property lists
 
@@ -116,9 +123,13 @@ tables_object_in version s =
 abbrev pub line : Table → Object → List ℕ
 line packages x = printed packages common_lisp_user x ++ 10 ∷ []
 
+-- the lines of a state, with these for the first object and the third
+abbrev pub lines_with : WorldState → Object → Object → List ℕ
+lines_with s first third = line s.packages first ++ line s.packages (properties_object s) ++ line s.packages third
+
 -- with this for the third object
 abbrev pub snapshot_with : WorldState → Object → List ℕ
-snapshot_with s third = line s.packages (packages_object s.packages) ++ line s.packages (properties_object s) ++ line s.packages third
+snapshot_with s third = lines_with s (packages_object s.packages) third
 
 -- the text of a state, as it is written: version 2
 abbrev pub snapshot : WorldState → List ℕ

@@ -8,8 +8,9 @@
 //! printed text is read, under the standard readtable and in the same packages, as the same object. What it asks of the tokens in
 //! the text, specs/Tokens.antt says. snapshot_text reads the text.
 //!
-//! - `writer`: `write`, `write_in`; `package_rows`, `property_texts`: packages and property lists as text, `table_rows`: readtables as data;
-//!   `texts`: lists of texts; `printing`: data printed at the end of a text
+//! - `writer`: `write`, `write_in`, and `write_kept`, which leaves out names that a test does not keep; `name_test`: `NameTest`;
+//!   `package_rows`, `property_texts`: packages and property lists as text, `table_rows`: readtables as data; `texts`: lists of texts;
+//!   `printing`: data printed at the end of a text
 //! - `laws`: `printed_objects_read_back`, `one_text_one_state`, `snapshot_lines_are_read`
 //!
 //! # Laws for the crates above
@@ -22,6 +23,8 @@
 //!   limits of a snapshot.
 //! - proofs/OneLine.antt, proofs/SameText.antt, proofs/SamePackages.antt, proofs/RowsByKey.antt: a text is that of
 //!   one sound state.
+//! - proofs/PlainLines.antt: the first line and the third are of texts, numbers and NIL, which are printed alike with all packages.
+//! - proofs/RowsWritten.antt: lists that are written item by item, and the images of what passes a test.
 //! - proofs/PackageEntries.antt: the lists of the names of a package say what is at each name.
 //! - proofs/Versions.antt: the third object of a state, by version.
 //! - proofs/Ascii.antt: the names of sound packages are of characters.
@@ -30,6 +33,7 @@
 #![tactic(auto)]
 
 mod laws;
+mod name_test;
 mod package_rows;
 mod printing;
 mod property_texts;
@@ -38,5 +42,6 @@ mod texts;
 mod writer;
 
 pub use laws::{one_text_one_state, printed_objects_read_back, snapshot_lines_are_read};
+pub use name_test::NameTest;
 pub use table_rows::table_named;
-pub use writer::{write, write_in};
+pub use writer::{write, write_in, write_kept};

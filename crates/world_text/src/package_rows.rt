@@ -6,10 +6,12 @@ ghost use Rattle.lisp_object.specs.Datum.{object_of, is_proper};
 ghost use Rattle.lisp_object.specs.Ascii.{is_ascii};
 ghost use Rattle.package_table.specs.Table.{IsPackage, common_lisp, initial as initial_packages};
 ghost use Rattle.package_table.specs.Lookup.{is_present};
-ghost use Rattle.world_text.specs.Snapshot.{made_names, texts, imported_name, shown_names, package_object, packages_object};
+ghost use Rattle.world_text.specs.KeptNames.{kept_names};
+ghost use Rattle.world_text.specs.Snapshot.{texts, imported_name, shown_names, package_with, packages_with};
 ghost use Rattle.package_table.specs.Readers.{used_names, own_names, imports};
 ghost use Rattle.world_text.specs.Texts.{later_text, object_text};
 
+use crate::name_test::NameTest;
 use crate::printing::push_printed;
 use crate::texts::{imports_of, push_text, push_texts, texts_of};
 use lisp_object::{Bytes, Datum};
@@ -42,6 +44,14 @@ fn leave_made(names: &mut Vec<&[u8]>, first: &Packages, owner: &[u8])
         (map (λ n. n.now) names.old.items) }
 {
     names.retain(|name| !first.is_present(owner, name));
+}
+
+// Leaves the names that a test keeps.
+fn leave_kept<T: NameTest>(names: &mut Vec<&[u8]>, test: &T, owner: &[u8])
+    ensures { map (λ n. n.now) names.new.items
+        ≡ filter (T.keeps test.now owner.now) (map (λ n. n.now) names.old.items) }
+{
+    names.retain(|name| test.is_kept(owner, name));
 }
 
 // The names but COMMON-LISP.
@@ -86,22 +96,24 @@ fn used_of(alloc: Global, packages: &Packages, owner: &[u8]) -> Result<Datum, Al
     texts_of(alloc, names.as_slice())
 }
 
-// Adds the names made at home in a package, after a space.
-fn push_own(
+// Adds the names made at home in a package that a test keeps, after a space.
+fn push_own<T: NameTest>(
     alloc: Global,
     text: &mut Vec<u8>,
     packages: &Packages,
     first: &Packages,
+    test: &T,
     owner: &[u8],
 ) -> Result<(), AllocError>
     requires { first.now.0 ≡ initial_packages }
     ensures { OnOk result (text.new.items
         ≡ text.old.items ++ later_text packages.now.0
-        (texts (made_names packages.now.0 owner.now))) }
+        (texts (kept_names (T.keeps test.now) packages.now.0 owner.now))) }
 {
     packages.soundness();
     let mut names = own(alloc, packages, owner)?;
     leave_made(&mut names, first, owner);
+    leave_kept(&mut names, test, owner);
     push_texts(alloc, text, packages, names.as_slice())?;
     Ok(())
 }
@@ -150,22 +162,23 @@ fn push_after_space(
 }
 
 // Adds the lists of a package, each after a space: the packages that it uses, its own names, its external ones and its imports.
-fn push_lists(
+fn push_lists<T: NameTest>(
     alloc: Global,
     text: &mut Vec<u8>,
     packages: &Packages,
     first: &Packages,
+    test: &T,
     owner: &[u8],
 ) -> Result<(), AllocError>
     requires { first.now.0 ≡ initial_packages }
     ensures { let t = packages.now.0 in let p = owner.now in OnOk result (text.new.items
         ≡ text.old.items ++ flat_map (λ x. later_text t x) (texts (used_names t p)
-        ∷ texts (made_names t p) ∷ texts (shown_names t p)
+        ∷ texts (kept_names (T.keeps test.now) t p) ∷ texts (shown_names t p)
         ∷ list_of (map imported_name (imports t p)) ∷ [])) }
 {
     let used = used_of(alloc, packages, owner)?;
     push_after_space(alloc, text, packages, used)?;
-    push_own(alloc, text, packages, first, owner)?;
+    push_own(alloc, text, packages, first, test, owner)?;
     push_shown(alloc, text, packages, owner)?;
     let imported = imported_of(alloc, packages, owner)?;
     push_after_space(alloc, text, packages, imported)?;
@@ -173,58 +186,61 @@ fn push_lists(
 }
 
 // Adds a package: its name and its lists.
-fn push_package(
+fn push_package<T: NameTest>(
     alloc: Global,
     text: &mut Vec<u8>,
     packages: &Packages,
     first: &Packages,
+    test: &T,
     owner: &Bytes,
 ) -> Result<(), AllocError>
     requires first { first.now.0 ≡ initial_packages }
     requires name { list_all is_ascii owner.now ≡ true }
-    ensures { OnOk result (text.new.items
-        ≡ text.old.items ++ object_text packages.now.0
-        (package_object packages.now.0 owner.now)) }
+    ensures { let t = packages.now.0 in OnOk result (text.new.items
+        ≡ text.old.items ++ object_text t (package_with t owner.now
+        (kept_names (T.keeps test.now) t owner.now))) }
 {
     text.push(b'(')?;
     push_text(alloc, text, packages, owner.as_slice())?;
-    push_lists(alloc, text, packages, first, owner.as_slice())?;
+    push_lists(alloc, text, packages, first, test, owner.as_slice())?;
     text.push(b')')?;
     Ok(())
 }
 
 // Adds the packages of these names, each after a space.
-fn push_later(
+fn push_later<T: NameTest>(
     alloc: Global,
     text: &mut Vec<u8>,
     packages: &Packages,
     first: &Packages,
+    test: &T,
     names: &[&Bytes],
 ) -> Result<(), AllocError>
     requires first { first.now.0 ≡ initial_packages }
     requires names { list_all (λ n. list_all is_ascii n.now) names.now ≡ true }
-    ensures { OnOk result (text.new.items
-        ≡ text.old.items ++ flat_map (λ n. later_text packages.now.0
-        (package_object packages.now.0 n.now)) names.now) }
+    ensures { let t = packages.now.0 in OnOk result (text.new.items
+        ≡ text.old.items ++ flat_map (λ n. later_text t (package_with t n.now
+        (kept_names (T.keeps test.now) t n.now))) names.now) }
 {
     for name in names {
         text.push(b' ')?;
-        push_package(alloc, text, packages, first, name)?;
+        push_package(alloc, text, packages, first, test, name)?;
     }
     Ok(())
 }
 
 // Adds the printed list of all packages but COMMON-LISP, beside those that are there from the first. One list of names is in
 // memory at a time.
-fn push_beside(
+fn push_beside<T: NameTest>(
     alloc: Global,
     text: &mut Vec<u8>,
     packages: &Packages,
     first: &Packages,
+    test: &T,
 ) -> Result<(), AllocError>
     requires { first.now.0 ≡ initial_packages }
-    ensures { OnOk result (text.new.items
-        ≡ text.old.items ++ object_text packages.now.0 (packages_object packages.now.0)) }
+    ensures { let t = packages.now.0 in OnOk result (text.new.items
+        ≡ text.old.items ++ object_text t (packages_with t (kept_names (T.keeps test.now) t))) }
 {
     packages.soundness();
     let names = packages.names(alloc)?;
@@ -233,21 +249,22 @@ fn push_beside(
         return push_printed(alloc, text, Datum::nil(alloc)?, packages);
     };
     text.push(b'(')?;
-    push_package(alloc, text, packages, first, one)?;
-    push_later(alloc, text, packages, first, later)?;
+    push_package(alloc, text, packages, first, test, one)?;
+    push_later(alloc, text, packages, first, test, later)?;
     text.push(b')')?;
     Ok(())
 }
 
-/// Adds the printed list of all packages but COMMON-LISP.
-pub(crate) fn push_packages(
+/// Adds the printed list of all packages but COMMON-LISP, with the names that a test keeps.
+pub(crate) fn push_packages<T: NameTest>(
     alloc: Global,
     text: &mut Vec<u8>,
     packages: &Packages,
+    test: &T,
 ) -> Result<(), AllocError>
-    ensures { OnOk result (text.new.items
-        ≡ text.old.items ++ object_text packages.now.0 (packages_object packages.now.0)) }
+    ensures { let t = packages.now.0 in OnOk result (text.new.items
+        ≡ text.old.items ++ object_text t (packages_with t (kept_names (T.keeps test.now) t))) }
 {
     let first = Packages::new(alloc)?;
-    push_beside(alloc, text, packages, &first)
+    push_beside(alloc, text, packages, &first, test)
 }

@@ -2,9 +2,11 @@
 ghost use Rattle.std.specs.Prelude.{◌≡◌, [], ◌∷◌, ◌++◌, true, IfOk, OnOk};
 ghost use Rattle.std.specs.Option.{option_map};
 ghost use Rattle.lisp_object.specs.Datum.{object_of, is_proper};
-ghost use Rattle.world_text.specs.Snapshot.{line, packages_object, properties_object, tables_object_1};
+ghost use Rattle.world_text.specs.KeptNames.{kept_names, kept_snapshot};
+ghost use Rattle.world_text.specs.Snapshot.{line, packages_with, properties_object, tables_object_1};
 ghost use Rattle.world_text.specs.Snapshot.{snapshot, snapshot_in, snapshot_with};
 
+use crate::name_test::{EveryName, NameTest};
 use crate::package_rows::push_packages;
 use crate::printing::push_printed;
 use crate::property_texts::push_properties;
@@ -37,16 +39,17 @@ fn push_line(
     end_line(text)
 }
 
-// Adds the line of the packages.
-fn push_package_line(
+// Adds the line of the packages, with the names that a test keeps.
+fn push_package_line<T: NameTest>(
     alloc: Global,
     text: &mut Vec<u8>,
     packages: &Packages,
+    test: &T,
 ) -> Result<(), AllocError>
-    ensures { OnOk result (text.new.items
-        ≡ text.old.items ++ line packages.now.0 (packages_object packages.now.0)) }
+    ensures { let t = packages.now.0 in OnOk result (text.new.items
+        ≡ text.old.items ++ line t (packages_with t (kept_names (T.keeps test.now) t))) }
 {
-    push_packages(alloc, text, packages)?;
+    push_packages(alloc, text, packages, test)?;
     end_line(text)
 }
 
@@ -59,14 +62,32 @@ fn push_property_line(alloc: Global, text: &mut Vec<u8>, world: &World) -> Resul
     end_line(text)
 }
 
-// The lines of the packages and of the property lists.
-fn first_lines(alloc: Global, world: &World) -> Result<Vec<u8>, AllocError>
+// The lines of the packages, with the names that a test keeps, and of the property lists.
+fn first_lines<T: NameTest>(alloc: Global, world: &World, test: &T) -> Result<Vec<u8>, AllocError>
     ensures { let s = world.now.0 in IfOk result (λ text. text.items
-        ≡ line s.packages (packages_object s.packages) ++ line s.packages (properties_object s)) }
+        ≡ line s.packages (packages_with s.packages (kept_names (T.keeps test.now) s.packages))
+        ++ line s.packages (properties_object s)) }
 {
     let mut text = Vec::new(alloc);
-    push_package_line(alloc, &mut text, world.packages())?;
+    push_package_line(alloc, &mut text, world.packages(), test)?;
     push_property_line(alloc, &mut text, world)?;
+    Ok(text)
+}
+
+/// The text of the world with those of the names made in its packages that a test keeps: `write`, for a world that has these
+/// names alone. What is external, imported or used is written whatever the test says.
+///
+/// # Errors
+/// Out of memory.
+pub fn write_kept<T: NameTest>(
+    alloc: Global,
+    world: &World,
+    test: &T,
+) -> Result<Vec<u8>, AllocError>
+    ensures { IfOk result (λ text. text.items ≡ kept_snapshot (T.keeps test.now) world.now.0) }
+{
+    let mut text = first_lines(alloc, world, test)?;
+    push_line(alloc, &mut text, tables_of(alloc, world)?, world.packages())?;
     Ok(text)
 }
 
@@ -78,9 +99,7 @@ fn first_lines(alloc: Global, world: &World) -> Result<Vec<u8>, AllocError>
 pub fn write(alloc: Global, world: &World) -> Result<Vec<u8>, AllocError>
     ensures { IfOk result (λ text. text.items ≡ snapshot world.now.0) }
 {
-    let mut text = first_lines(alloc, world)?;
-    push_line(alloc, &mut text, tables_of(alloc, world)?, world.packages())?;
-    Ok(text)
+    write_kept(alloc, world, &EveryName)
 }
 
 // The same in version 1.
@@ -88,7 +107,7 @@ fn write_1(alloc: Global, world: &World) -> Result<Vec<u8>, AllocError>
     ensures { IfOk result (λ text. text.items
         ≡ snapshot_with world.now.0 (tables_object_1 world.now.0)) }
 {
-    let mut text = first_lines(alloc, world)?;
+    let mut text = first_lines(alloc, world, &EveryName)?;
     push_line(
         alloc,
         &mut text,
