@@ -18,6 +18,7 @@
 //! - proofs/PackageRows.antt: the line of packages, part by part.
 //! - proofs/PackageLists.antt, proofs/OwnNames.antt: what the lists of packages and of their names say.
 //! - proofs/PartFinds.antt, proofs/PartMakes.antt, proofs/PartSteps.antt: packages that are a part of others, while they are made.
+//! - proofs/PartCounts.antt: a part has no more packages and symbols.
 //! - proofs/PartSame.antt, proofs/AllPackages.antt: where all is made, the packages are the same.
 //! - proofs/PropertyParts.antt: property lists, made one after the other.
 //! - proofs/Begins.antt, proofs/KeysSoFar.antt: packages that are begun, and keys of which no two are one.
