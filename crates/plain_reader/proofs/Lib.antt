@@ -1,5 +1,6 @@
 mod Calls
 mod Coming
+mod DirectForms
 mod Fronts
 mod Items
 mod Listing

@@ -23,7 +23,7 @@ pub(crate) struct Taken<'a> {
 /// An object at the front of the text, where `room` more calls may be opened. `known` becomes false where it has a symbol that
 /// is in no package, or may be in none.
 #[cycle(objects)]
-fn object<'a>(
+pub(crate) fn object<'a>(
     with: &Context<'_>,
     room: u32,
     known: &mut bool,
@@ -151,7 +151,10 @@ fn quoted<'a>(
 }
 
 /// A text without escapes, whose first double quote was before it.
-fn string<'a>(with: &Context<'_>, text: &'a [u8]) -> Result<Option<Taken<'a>>, AllocError>
+pub(crate) fn string<'a>(
+    with: &Context<'_>,
+    text: &'a [u8],
+) -> Result<Option<Taken<'a>>, AllocError>
     requires { IsTrue with.now.texts }
     ensures takes { (room : ℕ)
         → IfOk result (λ found. IfSome found (Takes with.now room (34 ∷ text.now))) }

@@ -10,8 +10,11 @@ ghost use Rattle.package_table.specs.Symbols.{are_there};
 ghost use Rattle.user_macros.specs.Functions.{Functions};
 ghost use Rattle.lisp_reading.specs.Setting.{setting_of};
 ghost use Rattle.lisp_reading.specs.Reading.{is_whitespace, form, reads};
+ghost use Rattle.plain_reader.specs.Direct.{object_of_direct};
 
 use crate::context::Context;
+use crate::direct::DirectForm;
+use crate::forms::direct;
 use crate::objects::{is_blank, list};
 use lisp_object::Datum;
 use lisp_reading::Limits;
@@ -20,7 +23,7 @@ use readtable_core::standard_names::{STD_LIST, STD_QUOTE, STD_STRING};
 use readtable_core::{Case, Readtable};
 use std::alloc::{AllocError, Global};
 
-/// Under a higher limit of nesting, no form is read here.
+/// Under a higher limit of nesting, no form is read here: each open list may be a call on the stack.
 const MAX_NESTING: u32 = 1000;
 
 /// A form that begins a text: its object, its end, and whether each of its symbols is known to be one of the packages.
@@ -64,7 +67,6 @@ pub fn read_plain(
     if bytes.len() > limits.text {
         return Ok(None);
     }
-    // each open list is a call on the stack
     if limits.nesting > MAX_NESTING {
         return Ok(None);
     }
@@ -91,6 +93,82 @@ pub fn read_plain(
                 None => Ok(None),
                 Some(taken) => Ok(Some(PlainForm {
                     datum: taken.object.into_datum(),
+                    end: bytes.len() - taken.rest.len(),
+                    known,
+                })),
+            }
+        }
+        _ => Ok(None),
+    }
+}
+
+/// A form that begins a text and is not made, its end, and whether each of its symbols is known to be one of the packages.
+#[derive(Drop)]
+pub struct ReadDirect {
+    pub form: DirectForm,
+    pub end: usize,
+    pub known: bool,
+}
+
+/// What `read_plain` gives of the text `bytes`, where it is GET of two quoted symbols, or SETF of that place to a literal, with
+/// one whitespace character between its parts. It is not made: what it says is given, so that it can be carried out from its
+/// text. None says nothing of the text.
+pub fn read_direct(
+    alloc: Global,
+    limits: Limits,
+    readtable: &Readtable,
+    base: u8,
+    packages: &Packages,
+    current: &[u8],
+    bytes: &[u8],
+) -> Result<Option<ReadDirect>, AllocError>
+    requires lowest_base { 2 ≤ base }
+    requires highest_base { base ≤ 36 }
+    requires current { IsPackage packages.now.0 current.now }
+    ensures form { (functions : Functions) (more : List ℕ) →
+        let setting = setting_of limits readtable.now base packages.now.0 current.now functions in
+        IfOk result (λ found. IfSome found
+        (λ d. reads setting (bytes.now ++ more) ≡ form (object_of_direct d.form) 0 d.end d.end)) }
+    ensures known { IfOk result (λ found. IfSome found
+        (λ d. d.known ≡ true → are_there packages.now.0 (object_of_direct d.form) ≡ true)) }
+    ensures sound { IfOk result (λ found. IfSome found (λ d. IsSound (object_of_direct d.form))) }
+
+    // Where the form ends.
+    ensures some { IfOk result (λ found. IfSome found (λ d. 0 < d.end)) }
+    ensures within { IfOk result (λ found. IfSome found (λ d. d.end ≤ length bytes.now)) }
+{
+    if bytes.len() > limits.text {
+        return Ok(None);
+    }
+    if limits.nesting > MAX_NESTING {
+        return Ok(None);
+    }
+    match bytes {
+        [c, rest @ ..] if *c == b'(' => {
+            if !calls(readtable, b'(', STD_LIST) || is_blank(readtable, b')') {
+                return Ok(None);
+            }
+            if !calls(readtable, b'\'', STD_QUOTE) {
+                return Ok(None);
+            }
+            readtable.soundness();
+            let with = Context {
+                alloc,
+                limits,
+                readtable,
+                base,
+                packages,
+                current,
+                current_package: packages.package(current),
+                standard: base == 10 && is_upcase(readtable.case()),
+                quotes: true,
+                texts: calls(readtable, b'"', STD_STRING),
+            };
+            let mut known = true;
+            match direct(&with, limits.nesting, &mut known, rest)? {
+                None => Ok(None),
+                Some(taken) => Ok(Some(ReadDirect {
+                    form: taken.form,
                     end: bytes.len() - taken.rest.len(),
                     known,
                 })),

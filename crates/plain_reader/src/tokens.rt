@@ -27,6 +27,7 @@ pub(crate) fn token<'a>(
         → IfOk result (λ found. IfSome found (Takes with.now room text.now)) }
     ensures known { IfOk result (λ found. IfStill known.old known.new
         (IfSome found (λ t. AreThere with.now t.object))) }
+    ensures token { IfOk result (λ found. IfSome found (λ t. t.token ≡ true)) }
     ensures shorter { IfOk result (λ found. IfSome found (LeavesLess text.now)) }
 {
     let Some(count) = token_length(with.readtable, text) else {

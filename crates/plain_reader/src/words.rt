@@ -80,7 +80,9 @@ fn upcase(name: &mut [u8])
     }
 }
 
-fn upper_case(c: u8) -> u8
+/// The upper-case letter of a lower-case one, and any other character as it is.
+#[inline(always)]
+pub(crate) fn upper_case(c: u8) -> u8
     ensures { result ≡ upper_case c }
 {
     if c.is_ascii_lowercase() { c - 32 } else { c }
