@@ -1,0 +1,15 @@
+pub mod Members
+pub mod NeededSymbols
+pub mod KeptPackages
+pub mod KeptSound
+pub mod ForgottenSound
+pub mod FoundStays
+pub mod Filtered
+pub mod Marking
+pub mod Imports
+pub mod DatumSymbols
+pub mod UnmarkedSymbols
+pub mod KeptLists
+pub mod NeededObjects
+pub mod KeptText
+pub mod NothingForgotten

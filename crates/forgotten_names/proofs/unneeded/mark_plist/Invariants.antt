@@ -1,0 +1,9 @@
+use Rattle.std.proofs.Common.{take}
+use Rattle.package_table.specs.Numbers.{numbered}
+use Rattle.forgotten_names.specs.Marks.{AddsMarks}
+use Rattle.forgotten_names.specs.Needed.{plist_symbols}
+use Rattle.forgotten_names.proofs.unneeded.mark_plist.Given as goal
+
+-- those of the properties so far
+abbrev pub invariant-loop-index : goal.invariant-loop-index
+invariant-loop-index l = AddsMarks (numbered l.packages) l.fn.marks.items l.marks.items (plist_symbols (take l.index l.list))
