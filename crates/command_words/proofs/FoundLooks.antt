@@ -15,7 +15,8 @@ use Rattle.clap.proofs.OnLiterals.{clap_on_literals}
 use Rattle.clap.proofs.ValueTestLemmas.{Accepts-accepts, accepts-Accepts}
 use Rattle.clap.proofs.WalkLemmas.{first_value-rows}
 use Rattle.command_words.specs.CheckLine as checking
-use Rattle.command_words.specs.LookLine.{Finds, IsLooked, looking_line, number_of, place_given, text_of}
+use Rattle.command_words.specs.LookLine.{IsLooked, looking_line, number_of, place_given, text_of}
+use Rattle.command_words.specs.Rules.{FindsCommand}
 use Rattle.command_words.specs.declared.check.Check.{Check}
 use Rattle.command_words.specs.declared.looks.Look.{Look}
 use Rattle.command_words.specs.declared.looks.RecordPlace.{RecordPlace}
@@ -46,15 +47,15 @@ module _ (f : Found) (id : Text) (least : ℕ) where
 
 -- the command that was found, by its name and its rows
 pub look_found : (m : ArgMatches) (name : Text) (f : Found) (folder : Text) (look : Look) → Some name ≡ subcommand_name_of m
-    → Some (rows_of f) ≡ option_map (λ (p : Text × List Row). p.1) (subcommand_rows_of m) → IsLooked name (rows_of f) folder look
-    → Finds (subcommand_rows_of m) folder look
+    → Some (rows_of f) ≡ option_map (λ (p : Text × List Row). p.1) (subcommand_rows_of m) → IsLooked folder look name (rows_of f)
+    → FindsCommand (IsLooked folder look) (subcommand_rows_of m)
 look_found m name f folder look named listed looked =
-    subst (λ (o : Option (Text × List Row)). Finds o folder look)
+    subst (FindsCommand (IsLooked folder look))
     (named_found (λ b. (out-SubCommand (box_value b)).name.now) (λ b. rows_of (found_of (out-SubCommand (box_value b)).matches)) (out-ArgMatches m).subcommand name (rows_of f) named listed)
     looked
 
 pub check_found : (o : Option (Text × List Row)) (rows : List Row) (check : Check) → Some rows ≡ option_map (λ (p : Text × List Row). p.1) o → checking.IsCheck rows check
-    → checking.Finds o check
+    → FindsCommand (λ name rows. checking.IsCheck rows check) o
 check_found None rows check listed is = absurd (cc)
 check_found (Some found) rows check listed is = let same : rows ≡ found.1 = cc in subst (λ (r : List Row). checking.IsCheck r check) same is
 

@@ -9,7 +9,7 @@ use Rattle.clap.specs.declared.parser.matches.Found.{Found}
 use Rattle.clap.specs.declared.parser.matches.ValueSource.TheVariants.{CommandLine}
 use Rattle.clap.proofs.OnLiterals.{clap_on_literals}
 use Rattle.clap.proofs.WalkLemmas.{first_value-rows}
-use Rattle.command_words.specs.CommandLine.{IsNumber, existing_for, given_number, number_in}
+use Rattle.command_words.specs.CommandLine.{IsNumberIn, existing_for, given_number, number_in}
 use Rattle.command_words.specs.MessageLine.{AsksForMessages, IsMessageLine, Messages, message_faults, message_line, messages_in, messages_line, messages_of, missing_folder}
 use Rattle.command_words.specs.Rules.{is_set}
 use Rattle.command_words.proofs.CommandLineLaws.{among_first, differs, in_range, no_hyphen, number_is}
@@ -105,7 +105,7 @@ module _ (program : Text) (x : ℕ) (xs : Text) (e : (x == 45) ≡ false) where
       right_with (codes "--messages" ∷ codes "--snapshot-every" ∷ (y ∷ ys) ∷ []) (message_rows (given (codes "snapshot-every") (y ∷ ys) CommandLine ∷ [])) false
       (given_number 0 (Some (y ∷ ys))) (adds_counting (x ∷ xs) y ys d passes) (asks_number (x ∷ xs) (y ∷ ys))
 
-  right_number : (number : Text) (every : ℕ) → IsNumber 1000000 every number
+  right_number : (number : Text) (every : ℕ) → IsNumberIn 1 1000000 every number
       → IsRight (program ∷ codes "run" ∷ (x ∷ xs) ∷ codes "--messages" ∷ codes "--snapshot-every" ∷ number ∷ []) (x ∷ xs) false every
   right_number [] every (numeral, is, above, below) = let none : 0 < 0 = numeral.0 in absurd (omega arith)
   right_number (y ∷ ys) every (numeral, is, above, below) =

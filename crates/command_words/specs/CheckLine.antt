@@ -3,7 +3,7 @@ use Rattle.std.specs.Prelude.{◌≡◌, if◌then◌else◌, bytes_eq, List, Op
 use Rattle.std.specs.Borrow.{Bor}
 use Rattle.clap.specs.Words.{App, Row, Rule, Text, first_of, new_app, new_rule, subcommand_of, with_rule, with_subcommand}
 use Rattle.clap.specs.declared.builder.action.ArgAction.TheVariants.{Set}
-use Rattle.command_words.specs.Rules.{bare_line, option_rule}
+use Rattle.command_words.specs.Rules.{FindsCommand, bare_line, option_rule}
 use Rattle.command_words.specs.declared.check.Check.{Check}
 
 -- FILE: one value
@@ -25,10 +25,6 @@ pub record IsCheck (rows : List Row) (check : Check) : Type 0 where
   pub file : option_map (λ (file : Bor Text). file.now) check.file ≡ file_given (first_of (codes "FILE") rows)
   pub store : option_map (λ (store : Bor Text). store.now) check.store ≡ first_of (codes "store") rows
 
-abbrev pub Finds : Option (Text × List Row) → Check → Type 0
-Finds None check = ⊥
-Finds (Some found) check = IsCheck found.1 check
-
 -- the words do
 abbrev pub AsksToCheck : List Text → Check → Type 0
-AsksToCheck words check = Finds (subcommand_of checking_line words) check
+AsksToCheck words check = FindsCommand (λ name rows. IsCheck rows check) (subcommand_of checking_line words)

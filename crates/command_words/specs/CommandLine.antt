@@ -157,10 +157,6 @@ existing_for true = codes "--existing" ∷ []
 abbrev pub IsNumberIn : ℕ → ℕ → ℕ → Text → Type 0
 IsNumberIn least most n number = IsNumeral 10 number × (digits_value 10 number ≡ n) × (least ≤ n) × (n ≤ most)
 
--- from 1 on
-abbrev pub IsNumber : ℕ → ℕ → Text → Type 0
-IsNumber = IsNumberIn 1
-
 -- snapshots are taken as without an option on them
 abbrev pub AsksForNone : Wanted → Type 0
 AsksForNone wanted = (wanted.snapshot_every ≡ 0) × (wanted.snapshot_ratio ≡ 10)
@@ -169,7 +165,7 @@ AsksForNone wanted = (wanted.snapshot_every ≡ 0) × (wanted.snapshot_ratio ≡
 abbrev pub HasNumber : List Text → Text → Wanted → Type 0
 HasNumber words folder wanted =
     (number : Text)
-    × ((IsNumber 1000000 wanted.snapshot_every number × (wanted.snapshot_ratio ≡ 10)
+    × ((IsNumberIn 1 1000000 wanted.snapshot_every number × (wanted.snapshot_ratio ≡ 10)
     × (words ≡ codes "run" ∷ folder ∷ (flag_for wanted.mode ++ codes "--snapshot-every" ∷ number ∷ [])))
     ⊎ (IsNumberIn 0 18446744073709551615 wanted.snapshot_ratio number × (wanted.snapshot_every ≡ 0)
     × (words ≡ codes "run" ∷ folder ∷ (flag_for wanted.mode ++ codes "--snapshot-ratio" ∷ number ∷ []))))

@@ -9,7 +9,7 @@ use Rattle.std.specs.Str.Parse.{digits_value, without_leading_plus}
 use Rattle.clap.specs.ValueTests.{is_unsigned_in}
 use Rattle.clap.specs.Words.{App, Row, Rule, Text, first_of, new_rule, subcommand_of, with_rule, with_subcommand}
 use Rattle.clap.specs.declared.builder.action.ArgAction.TheVariants.{Set}
-use Rattle.command_words.specs.Rules.{bare_line, flag_rule, folder_line, is_set, option_rule, place_rule}
+use Rattle.command_words.specs.Rules.{FindsCommand, bare_line, flag_rule, folder_line, is_set, option_rule, place_rule}
 use Rattle.command_words.specs.declared.looks.InfoPart.{InfoPart}
 use Rattle.command_words.specs.declared.looks.Look.{Look}
 use Rattle.command_words.specs.declared.looks.Look.TheVariants.{Backup, Dump, Info, Log, Show}
@@ -60,8 +60,8 @@ abbrev pub number_of : Text → Option ℕ
 number_of text = if is_unsigned_in 0 (2 ^ 64 - 1) text then Some (digits_value 10 (without_leading_plus text)) else None
 
 -- the same of digits alone
-abbrev pub digits_of : Text → Option ℕ
-digits_of text = if list_all is_ascii_digit text then number_of text else None
+abbrev pub plain_number_of : Text → Option ℕ
+plain_number_of text = if list_all is_ascii_digit text then number_of text else None
 
 abbrev pub is_dot : ℕ → Bool
 is_dot byte = byte == 46
@@ -70,7 +70,7 @@ abbrev pub place_of : Text → Option RecordPlace
 place_of text =
     if nat_lt (position_or_len is_dot text) (length text)
     then option_and_then (λ generation. option_map (λ number. record { generation = Some generation; number = number })
-    (digits_of (after_first is_dot text))) (digits_of (before_first is_dot text))
+    (plain_number_of (after_first is_dot text))) (plain_number_of (before_first is_dot text))
     else option_map (λ number. record { generation = None; number = number }) (number_of text)
 
 -- the place that an option gives: no record before the least one, and that one where the option is not there
@@ -112,14 +112,9 @@ IsLook name rows (Backup to) = (name ≡ codes "backup") × (Some to.now ≡ fir
 IsLook name rows (Dump place) = (name ≡ codes "dump") × (Some place ≡ place_given 0 (first_of (codes "at") rows))
 
 -- and for this folder
-abbrev pub IsLooked : Text → List Row → Text → Look → Type 0
-IsLooked name rows folder look = (Some folder ≡ first_of (codes "DIR") rows) × IsLook name rows look
+abbrev pub IsLooked : Text → Look → Text → List Row → Type 0
+IsLooked folder look name rows = (Some folder ≡ first_of (codes "DIR") rows) × IsLook name rows look
 
--- what was found asks for a look into the store of this folder
-abbrev pub Finds : Option (Text × List Row) → Text → Look → Type 0
-Finds None folder look = ⊥
-Finds (Some found) folder look = IsLooked found.0 found.1 folder look
-
--- the words do
+-- the words ask for a look into the store of this folder
 abbrev pub AsksToLook : List Text → Text → Look → Type 0
-AsksToLook words folder look = Finds (subcommand_of looking_line words) folder look
+AsksToLook words folder look = FindsCommand (IsLooked folder look) (subcommand_of looking_line words)

@@ -3,7 +3,7 @@ use Rattle.std.specs.Prelude.{◌≡◌, ◌⊎◌, ℕ, Bool, false, List, [], 
 use Rattle.clap.specs.Kinds.{Kinds, or_else}
 use Rattle.clap.specs.Words.{App, Row, Text, fault_of, first_of, subcommand_of, with_rule, with_subcommand}
 use Rattle.clap.specs.declared.error.kind.ErrorKind.TheVariants.{MissingRequiredArgument}
-use Rattle.command_words.specs.CommandLine.{IsNoOption, IsNumber, every_rule, existing_for, number_in}
+use Rattle.command_words.specs.CommandLine.{IsNoOption, IsNumberIn, every_rule, existing_for, number_in}
 use Rattle.command_words.specs.Rules.{bare_line, flag_rule, folder_line, is_set}
 
 abbrev pub message_line : App
@@ -40,7 +40,7 @@ message_faults words = or_else (fault_of messages_line words) (missing_folder (m
 abbrev pub IsMessageLine : List Text → Text → Bool → ℕ → Type 0
 IsMessageLine words folder existing every =
     ((every ≡ 0) × (words ≡ codes "run" ∷ folder ∷ codes "--messages" ∷ existing_for existing))
-    ⊎ ((existing ≡ false) × ((number : Text) × IsNumber 1000000 every number
+    ⊎ ((existing ≡ false) × ((number : Text) × IsNumberIn 1 1000000 every number
     × (words ≡ codes "run" ∷ folder ∷ codes "--messages" ∷ codes "--snapshot-every" ∷ number ∷ [])))
 
 -- the words are the program's name, and this command

@@ -1,8 +1,8 @@
 -- What a command line is made of.
-use Rattle.std.specs.Prelude.{Bool, true, false, Option, Some, codes}
+use Rattle.std.specs.Prelude.{Bool, true, false, List, Option, Some, None, codes}
 use Rattle.std.specs.Option.{option_map_or}
 use Rattle.std.specs.Str.{bytes_eq}
-use Rattle.clap.specs.Words.{App, Rule, Text, new_app, new_rule, with_rule}
+use Rattle.clap.specs.Words.{App, Row, Rule, Text, new_app, new_rule, with_rule}
 use Rattle.clap.specs.Simple.{on_top}
 use Rattle.clap.specs.declared.builder.action.ArgAction.TheVariants.{Set, SetTrue}
 
@@ -39,3 +39,8 @@ bare_line = on_top (λ s. record s { subcommand_required = true }) (new_app (cod
 -- whether a flag is there, which has the value true
 abbrev pub is_set : Option Text → Bool
 is_set flag = option_map_or (bytes_eq (codes "true")) flag false
+
+-- a command was found, and its name and its rows are so
+abbrev pub FindsCommand : (Text → List Row → Type 0) → Option (Text × List Row) → Type 0
+FindsCommand is None = ⊥
+FindsCommand is (Some found) = is found.0 found.1

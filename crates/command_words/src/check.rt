@@ -2,13 +2,14 @@
 ghost use Rattle.std.specs.Prelude.{◌≡◌, codes, false, map, option_map, IfOk, IfSome, Some};
 ghost use Rattle.clap.specs.Words.{app_of, first_of, found_of, rows_of, rule_of, subcommand_rows_of};
 ghost use Rattle.clap.specs.declared.builder.command.Command.TheViews.{out-Command as fields_of};
-ghost use Rattle.command_words.specs.CheckLine.{check_line, checking_line, file_given, file_rule, AsksToCheck, Finds};
+ghost use Rattle.command_words.specs.CheckLine.{check_line, checking_line, file_given, file_rule, AsksToCheck, IsCheck};
+ghost use Rattle.command_words.specs.Rules.{FindsCommand};
 
 use crate::help::{CHECK_HELP, CHECK_USAGE};
 use crate::look_lines::bare_command;
 use crate::rules::{Help, new_command, with_arg, with_option};
 use crate::tips::with_tip;
-use clap::error::ErrorKind;
+use crate::words::nothing_asked;
 use clap::{Arg, ArgAction, ArgMatches, Command, Error};
 use std::alloc::{AllocError, Global};
 use std::convert::AsStr;
@@ -60,17 +61,10 @@ fn checked_by_line<'a, S: AsStr>(
     }
 }
 
-// The words passed, and yet the command was not found.
-fn nothing_asked(command: &mut Command<'_>) -> Error {
-    match command.error(ErrorKind::MissingSubcommand, "no command was given") {
-        Ok(error) => error,
-        Err(memory) => Error::from(memory),
-    }
-}
-
 // What was found, if it is the command.
 fn check_by<'a>(matches: &ArgMatches<'a>) -> Option<Check<'a>>
-    ensures { IfSome result (Finds (subcommand_rows_of matches.now)) }
+    ensures { IfSome result (λ check.
+        FindsCommand (λ name rows. IsCheck rows check) (subcommand_rows_of matches.now)) }
 {
     let (_name, found) = matches.subcommand()?;
     Some(Check {
@@ -81,7 +75,8 @@ fn check_by<'a>(matches: &ArgMatches<'a>) -> Option<Check<'a>>
 
 // The file. One that is named by a hyphen is standard input.
 fn file_in<'a>(found: &ArgMatches<'a>) -> Option<&'a str>
-    ensures { option_map (λ file. file.now) result ≡ file_given (first_of (codes "FILE") (rows_of (found_of found.now))) }
+    ensures { option_map (λ file. file.now) result
+        ≡ file_given (first_of (codes "FILE") (rows_of (found_of found.now))) }
 {
     match found.get_str(FILE) {
         Some(name) => file_named(name),

@@ -6,15 +6,15 @@ ghost use Rattle.command_words.specs.LookLine.{backup_line, dump_line, info_line
 ghost use Rattle.command_words.specs.Rules.{bare_line, flag_rule, folder_line};
 
 use crate::help::{
-    BACKUP_HELP, BACKUP_USAGE, DUMP_HELP, DUMP_USAGE, INFO_HELP, INFO_USAGE, LOG_HELP, LOG_USAGE,
-    SHOW_HELP, SHOW_USAGE, USAGE,
+    BACKUP_HELP, BACKUP_USAGE, INFO_HELP, INFO_USAGE, LOG_HELP, LOG_USAGE, SHOW_HELP, SHOW_USAGE,
+    USAGE,
 };
 use crate::looks::{
     AT, BACKUP, DESTINATION, FILES, FORMS, FROM, INDICATOR, INFO, JSON, LIKE, LOG, PACKAGE, PLACES,
     SHOW, SYMBOL,
 };
 use crate::rules::{Help, PROGRAM, folder_command, place, with_arg, with_flag, with_option};
-use crate::words::DUMP;
+use crate::words::{DUMP, dump_help};
 use clap::{Arg, ArgAction, Command};
 use std::alloc::{AllocError, Global};
 
@@ -52,11 +52,7 @@ pub(crate) fn bare_command<'a>(alloc: Global) -> Command<'a>
 }
 
 // A command with its folder, into which it only looks.
-fn store_command<'a>(
-    alloc: Global,
-    name: &'a str,
-    help: Help<'a>,
-) -> Result<Command<'a>, AllocError>
+fn look_command<'a>(alloc: Global, name: &'a str, help: Help<'a>) -> Result<Command<'a>, AllocError>
     ensures line { IfOk result (λ command. app_of command ≡ folder_line name.entry.now) }
     ensures local { IfOk result (λ command. (fields_of command).has_globals ≡ false) }
 {
@@ -84,7 +80,7 @@ fn names_command<'a>(alloc: Global) -> Result<Command<'a>, AllocError>
     ensures local { IfOk result (λ command. (fields_of command).has_globals ≡ false) }
 {
     let command = rows_command(alloc)?;
-    let help = "Those of the symbols of this name, in any case; a * at an end stands for any text";
+    let help = "Those of the symbols of this name, in any case; each * stands for any text";
     let command = with_option(command, alloc, LIKE, "NAME", help)?;
     with_arg(command, symbol_place(alloc))
 }
@@ -116,7 +112,7 @@ fn info_command<'a>(alloc: Global) -> Result<Command<'a>, AllocError>
         usage: INFO_USAGE,
         end: INFO_HELP,
     };
-    let command = store_command(alloc, INFO, help)?;
+    let command = look_command(alloc, INFO, help)?;
     let help = "Those of the half in use and of the files alone, without opening the store";
     let command = with_flag(command, alloc, FILES, help)?;
     with_json(command, alloc)
@@ -132,7 +128,7 @@ fn rows_command<'a>(alloc: Global) -> Result<Command<'a>, AllocError>
         usage: SHOW_USAGE,
         end: SHOW_HELP,
     };
-    let command = store_command(alloc, SHOW, help)?;
+    let command = look_command(alloc, SHOW, help)?;
     let help = "Those of the symbols of this package";
     let command = with_option(command, alloc, PACKAGE, "NAME", help)?;
     let help = "Those with an indicator of this name";
@@ -148,7 +144,7 @@ fn log_command<'a>(alloc: Global) -> Result<Command<'a>, AllocError>
         usage: LOG_USAGE,
         end: LOG_HELP,
     };
-    let command = store_command(alloc, LOG, help)?;
+    let command = look_command(alloc, LOG, help)?;
     let help = "From this record on, counted from 1; G.N is that of generation G";
     let command = with_option(command, alloc, FROM, "N", help)?;
     let help = "Write each number with the generation of the half before it, as G.N";
@@ -165,7 +161,7 @@ fn backup_command<'a>(alloc: Global) -> Result<Command<'a>, AllocError>
         usage: BACKUP_USAGE,
         end: BACKUP_HELP,
     };
-    let command = store_command(alloc, BACKUP, help)?;
+    let command = look_command(alloc, BACKUP, help)?;
     let help = "The folder of the new store, which must not be there";
     with_arg(command, place(alloc, DESTINATION, help))
 }
@@ -174,12 +170,7 @@ fn dump_command<'a>(alloc: Global) -> Result<Command<'a>, AllocError>
     ensures line { IfOk result (λ command. app_of command ≡ dump_line) }
     ensures local { IfOk result (λ command. (fields_of command).has_globals ≡ false) }
 {
-    let help = Help {
-        about: "Writes the text of the world",
-        usage: DUMP_USAGE,
-        end: DUMP_HELP,
-    };
-    let command = store_command(alloc, DUMP, help)?;
+    let command = look_command(alloc, DUMP, dump_help())?;
     let help =
         "The world after the first N records of the half in use; G.N of that of generation G";
     with_option(command, alloc, AT, "N", help)

@@ -3,12 +3,13 @@ ghost use Rattle.std.specs.Prelude.{◌≡◌, map, IfOk, Some};
 ghost use Rattle.std.specs.Char.{is_ascii_digit};
 ghost use Rattle.std.specs.List.{list_all};
 ghost use Rattle.clap.specs.Words.{app_of, first_of, found_of, rows_of, subcommand_rows_of};
-ghost use Rattle.command_words.specs.LookLine.{digits_of, looking_line, place_given, place_of, number_of, AreRecords, AsksToLook, Finds, IsInfo, IsLook, IsLooked, IsShown};
+ghost use Rattle.command_words.specs.LookLine.{plain_number_of, looking_line, place_given, place_of, number_of, AreRecords, AsksToLook, IsInfo, IsLook, IsLooked, IsShown};
+ghost use Rattle.command_words.specs.Rules.{FindsCommand};
 
 use crate::look_lines::looking_command;
 use crate::rules::{DIRECTORY, flag_is_set};
 use crate::tips::with_tip;
-use crate::words::DUMP;
+use crate::words::{DUMP, nothing_asked};
 use clap::error::ErrorKind;
 use clap::{ArgMatches, Command, Error};
 use std::alloc::{AllocError, Global};
@@ -91,7 +92,7 @@ impl RecordPlace {
     fn of(word: &str, least: u64) -> Option<RecordPlace>
         ensures { result ≡ place_given least (Some word.now) }
     {
-        let place = place_in(word)?;
+        let place = place_of(word)?;
         if place.number < least {
             return None;
         }
@@ -100,23 +101,23 @@ impl RecordPlace {
 }
 
 // The place that a word writes.
-fn place_in(word: &str) -> Option<RecordPlace>
+fn place_of(word: &str) -> Option<RecordPlace>
     ensures { result ≡ place_of word.now }
 {
     match word.split_once('.') {
         Some((generation, number)) => Some(RecordPlace {
-            generation: Some(digits_in(generation)?),
-            number: digits_in(number)?,
+            generation: Some(plain_number_of(generation)?),
+            number: plain_number_of(number)?,
         }),
         None => Some(RecordPlace {
             generation: None,
-            number: number_in(word)?,
+            number: number_of(word)?,
         }),
     }
 }
 
 // The number that a word writes.
-fn number_in(word: &str) -> Option<u64>
+fn number_of(word: &str) -> Option<u64>
     ensures { result ≡ number_of word.now }
 {
     match word.parse::<u64>() {
@@ -126,11 +127,11 @@ fn number_in(word: &str) -> Option<u64>
 }
 
 // The number that a word of digits alone writes.
-fn digits_in(word: &str) -> Option<u64>
-    ensures { result ≡ digits_of word.now }
+fn plain_number_of(word: &str) -> Option<u64>
+    ensures { result ≡ plain_number_of word.now }
 {
     if are_digits(word) {
-        number_in(word)
+        number_of(word)
     } else {
         None
     }
@@ -204,44 +205,45 @@ fn looked_by_line<'a, S: AsStr>(
 enum Mistake<'a> {
     // There is no command with its folder.
     NoCommand,
-    // Properties are asked for as forms and as JSON.
-    TwoLayouts,
+    // Forms are asked for, and this too, which are no forms.
+    FormsWith(&'static str),
     // The value of this option is no place.
     NoPlace(&'a str, &'a str),
 }
 
 // The refusal of words that passed.
 fn error_of(alloc: Global, command: &mut Command<'_>, mistake: Mistake<'_>) -> Error {
-    match told_of(alloc, command, mistake) {
+    let told = match mistake {
+        Mistake::NoCommand => return nothing_asked(command),
+        Mistake::FormsWith(other) => two_layouts(alloc, command, other),
+        Mistake::NoPlace(option, value) => no_place(alloc, command, option, value),
+    };
+    match told {
         Ok(error) => error,
         Err(memory) => Error::from(memory),
     }
 }
 
-fn told_of(
+fn two_layouts(alloc: Global, command: &mut Command<'_>, other: &str) -> Result<Error, AllocError> {
+    let text = format!(in alloc; "the argument '--forms' cannot be used with '--{other}'")?;
+    command.error(ErrorKind::ArgumentConflict, text.as_str())
+}
+
+fn no_place(
     alloc: Global,
     command: &mut Command<'_>,
-    mistake: Mistake<'_>,
+    option: &str,
+    value: &str,
 ) -> Result<Error, AllocError> {
-    match mistake {
-        Mistake::NoCommand => {
-            command.error(ErrorKind::MissingRequiredArgument, "no command was given")
-        }
-        Mistake::TwoLayouts => command.error(
-            ErrorKind::ArgumentConflict,
-            "the argument '--forms' cannot be used with '--json'",
-        ),
-        Mistake::NoPlace(option, value) => {
-            let wanted = "the number of a record, or G.N: N in the half of generation G";
-            let text = format!(in alloc; "invalid value '{value}' for '--{option} <N>': {wanted}")?;
-            command.error(ErrorKind::ValueValidation, text.as_str())
-        }
-    }
+    let wanted = "the number of a record, or G.N: N in the half of generation G";
+    let text = format!(in alloc; "invalid value '{value}' for '--{option} <N>': {wanted}")?;
+    command.error(ErrorKind::ValueValidation, text.as_str())
 }
 
 // What was found.
 fn looked_by<'a>(matches: &ArgMatches<'a>) -> Result<Looked<'a>, Mistake<'a>>
-    ensures { IfOk result (λ looked. Finds (subcommand_rows_of matches.now) looked.folder.now looked.look) }
+    ensures { IfOk result (λ looked.
+        FindsCommand (IsLooked looked.folder.now looked.look) (subcommand_rows_of matches.now)) }
 {
     match matches.subcommand() {
         Some((name, found)) => looked_at(name, found),
@@ -251,7 +253,8 @@ fn looked_by<'a>(matches: &ArgMatches<'a>) -> Result<Looked<'a>, Mistake<'a>>
 
 // What the command of this name looks at, and in which folder.
 fn looked_at<'a>(name: &str, found: &ArgMatches<'a>) -> Result<Looked<'a>, Mistake<'a>>
-    ensures { IfOk result (λ looked. IsLooked name.now (rows_of (found_of found.now)) looked.folder.now looked.look) }
+    ensures { IfOk result (λ looked.
+        IsLooked looked.folder.now looked.look name.now (rows_of (found_of found.now))) }
 {
     match found.get_str(DIRECTORY) {
         Some(folder) => {
@@ -298,7 +301,7 @@ fn one_layout<'a>(shown: Shown<'a>) -> Result<Shown<'a>, Mistake<'a>>
     ensures { IfOk result (λ given. given ≡ shown.entry) }
 {
     if shown.forms && shown.json {
-        return Err(Mistake::TwoLayouts);
+        return Err(Mistake::FormsWith(JSON));
     }
     Ok(shown)
 }
@@ -330,7 +333,8 @@ fn place_by<'a>(
     option: &'static str,
     least: u64,
 ) -> Result<RecordPlace, Mistake<'a>>
-    ensures { IfOk result (λ place. Some place ≡ place_given least (first_of option.entry.now (rows_of (found_of found.now)))) }
+    ensures { IfOk result (λ place.
+        Some place ≡ place_given least (first_of option.entry.now (rows_of (found_of found.now)))) }
 {
     let Some(value) = found.get_str(option) else {
         return Ok(RecordPlace {

@@ -7,9 +7,9 @@ ghost use Rattle.command_words.specs.MessageLine.{message_faults, message_line, 
 
 use crate::help::{MESSAGES_HELP, MESSAGES_USAGE};
 use crate::look_lines::bare_command;
-use crate::rules::{DIRECTORY, EXISTING, Help, flag_is_set, folder_command, with_arg, with_flag};
+use crate::rules::{DIRECTORY, EXISTING, Help, flag_is_set, with_arg, with_flag};
 use crate::tips::with_tip;
-use crate::words::{EVERY, RUN, every_option, nothing_asked, number_in};
+use crate::words::{EVERY, RUN, every_option, nothing_asked, number_in, store_command};
 use clap::{ArgMatches, Command, Error};
 use std::alloc::{AllocError, Global};
 use std::convert::AsStr;
@@ -93,13 +93,7 @@ fn message_command<'a>(alloc: Global) -> Result<Command<'a>, AllocError>
         usage: MESSAGES_USAGE,
         end: MESSAGES_HELP,
     };
-    let command = folder_command(
-        alloc,
-        RUN,
-        help,
-        "The folder of the store, made where it is missing",
-        "Refuse a folder that holds no store, and make nothing",
-    )?;
+    let command = store_command(alloc, RUN, help)?;
     let help = "Serve frames in place of forms";
     let command = with_flag(command, alloc, MESSAGES, help)?;
     with_arg(command, every_option(alloc))

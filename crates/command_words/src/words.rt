@@ -89,8 +89,8 @@ pub struct Asked<'a> {
     pub task: Task,
 }
 
-// A command with its folder, whose store is made where it is missing.
-fn store_command<'a>(
+/// A command with its folder, whose store is made where it is missing.
+pub(crate) fn store_command<'a>(
     alloc: Global,
     name: &'a str,
     help: Help<'a>,
@@ -175,8 +175,8 @@ fn run_command<'a>(alloc: Global) -> Result<Command<'a>, AllocError>
     with_flag(command, alloc, QUIET, help)
 }
 
-// The program without its commands.
-fn bare_command<'a>(alloc: Global) -> Command<'a>
+// The program without its commands, which tells its version.
+fn program_command<'a>(alloc: Global) -> Command<'a>
     ensures line { app_of result ≡ program_line }
     ensures local { (fields_of result).has_globals ≡ false }
 {
@@ -205,7 +205,7 @@ fn writing_command<'a>(alloc: Global) -> Result<Command<'a>, AllocError>
     ensures { IfOk result (λ command. app_of command ≡ writing_line) }
 {
     let run = run_command(alloc)?;
-    let with_run = bare_command(alloc).subcommand(run)?;
+    let with_run = program_command(alloc).subcommand(run)?;
     let help = Help {
         about: "Takes a snapshot, and tells the half in use",
         usage: SNAPSHOT_USAGE,
@@ -226,18 +226,22 @@ fn whole_command<'a>(alloc: Global) -> Result<Command<'a>, AllocError>
     let with_upgrade = writing_command(alloc)?;
     let export = export_command(alloc)?;
     let with_export = with_upgrade.subcommand(export)?;
-    let help = Help {
-        about: "Writes the text of the world",
-        usage: DUMP_USAGE,
-        end: DUMP_HELP,
-    };
-    let with_dump = with_command(alloc, with_export, DUMP, help)?;
+    let with_dump = with_command(alloc, with_export, DUMP, dump_help())?;
     let help = Help {
         about: "Tells the half in use, its generation and how many records it has",
         usage: VERIFY_USAGE,
         end: VERIFY_HELP,
     };
     with_command(alloc, with_dump, VERIFY, help)
+}
+
+/// What the help says of `dump`.
+pub(crate) fn dump_help() -> Help<'static> {
+    Help {
+        about: "Writes the text of the world",
+        usage: DUMP_USAGE,
+        end: DUMP_HELP,
+    }
 }
 
 // The mode for the value of the flag.

@@ -9,6 +9,6 @@ with_folder name program = with_subcommand program (folder_line name).top
 
 pub returns : goal.returns
 returns c =
-    let run = c.in_ok-with_run.ensures.shape c.in_ok-run.ensures.local ∙ ap₂ with_subcommand c.bare_command.ensures.line (ap (λ (a : App). a.top) c.in_ok-run.ensures.line) in
+    let run = c.in_ok-with_run.ensures.shape c.in_ok-run.ensures.local ∙ ap₂ with_subcommand c.program_command.ensures.line (ap (λ (a : App). a.top) c.in_ok-run.ensures.line) in
     let snapshot = c.in_ok-with_snapshot.ensures ∙ ap (with_folder (codes "snapshot")) run in
     IfOk-weaker c.with_command-2.result _ _ (λ _ is. is ∙ ap (with_folder (codes "upgrade")) snapshot) c.with_command-2.ensures

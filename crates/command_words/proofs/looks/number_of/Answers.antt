@@ -1,5 +1,5 @@
 use Rattle.command_words.proofs.FoundLooks.{none_parsed, number_parsed}
-use Rattle.command_words.proofs.looks.number_in.Goals as goal
+use Rattle.command_words.proofs.looks.number_of.Goals as goal
 
 pub returns-in-Ok : goal.returns-in-Ok
 returns-in-Ok c = number_parsed c.args.word.now c.in-Ok.number c.in-Ok.ensures.value.0
