@@ -33,6 +33,8 @@ APPLE NAME "red"
 $ ./pazturrok show store --like 'ap*' --indicator PRICE
 APPLE PRICE 7
 APRICOT PRICE 1/2
+$ ./pazturrok show store --like 'a*t'
+APRICOT PRICE 1/2
 $ ./pazturrok show store APPLE --json
 {"symbol":"APPLE","home":"COMMON-LISP-USER"}
 {"symbol":"APPLE","indicator":"PRICE","value":"7"}
@@ -55,7 +57,7 @@ With `--json` the commands `show`, `log` and `info` write objects of JSON (RFC 8
 
 | Command | Members |
 |---|---|
-| `show` | `symbol`, `indicator` and `value`: the three texts of a line, each as a string. With SYMBOL an object with `symbol` and `home` comes first |
+| `show` | `symbol`, `indicator` and `value`: the three texts of a line, each as a string. With SYMBOL an object with `symbol` and `home` comes first. |
 | `log` | `generation`, `record`, `mode`, which is `"current"` or `"rescue"`, and `form`, the text as a string |
 | `info` | one object: `half`, which is `"A"` or `"B"`, and the names of the other lines, each with its number. With `--files` those of the world are not there, and an age that is not known never is |
 

@@ -10,7 +10,7 @@ PICTURE = "docs/pictures/crates.svg"
 # The crates whose head does not name all modules. The list only gets shorter. To change the head of a low crate is to prove all crates
 # above it anew, so it waits for the next change there.
 HEADLESS = set("""feeding_laws form_check lisp_object log_look message_laws property_rows
-    store_commands store_laws store_program store_reports""".split())
+    store_commands store_laws store_program""".split())
 
 
 def drawn():

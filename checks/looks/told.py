@@ -1,7 +1,9 @@
 """What looks tell of a small store: a symbol and its home, names like a pattern, JSON that says the same as the lines,
 the figures of the files alone, and nothing more once the reader of the output has gone."""
+import itertools
 import json
 import os
+import re
 import subprocess
 from typing import Any, Callable, Dict, List, Tuple
 
@@ -81,7 +83,13 @@ def symbols(looks: Looks) -> None:
 
 
 PATTERNS = {"C8": ["C8"], "c8": ["C8"], "C8*": ["C8", "C80"], "*C8": ["C8", "XC8"], "*c8*": ["C8", "C80", "XC8"],
-            "*80": ["C80"], "C": [], "": [], "C8**": [], "*OO B*": ["|foo bar|"], "C800*": [], "*C800": []}
+            "*80": ["C80"], "C": [], "": [], "C8**": ["C8", "C80"], "*OO B*": ["|foo bar|"], "C800*": [], "*C800": [],
+            "f*b*r": ["|foo bar|"], "*o*o*": ["|foo bar|"], "*o*o*o*": [], "c*8": ["C8"], "c*8*0": ["C80"], "c8*8": []}
+# the names of the symbols with properties, in the order in which they are shown
+NAMES = ("APPLE", "C8", "C80", "XC8", "foo bar", "APPLE")
+# how many properties each of them has
+COUNTS = (2, 1, 1, 1, 1, 1)
+LETTERS = "*c80"
 
 
 def patterns(looks: Looks) -> None:
@@ -89,8 +97,16 @@ def patterns(looks: Looks) -> None:
     for pattern, names in PATTERNS.items():
         found = [line.rsplit(" ", 2)[0] for line in looks.told("show", "--like", pattern)]
         looks.check(f"names like {pattern!r}", found, names)
-    for pattern in ("*", "**"):
+    for pattern in ("*", "**", "***"):
         looks.check(f"names like {pattern}", looks.told("show", "--like", pattern), looks.told("show"))
+    for length in range(4):
+        for letters in itertools.product(LETTERS, repeat=length):
+            pattern = "".join(letters)
+            test = re.compile(".*".join(map(re.escape, pattern.split("*"))), re.IGNORECASE)
+            like = [test.fullmatch(name) is not None for name in NAMES]
+            wanted = sum(count for count, is_like in zip(COUNTS, like) if is_like)
+            looks.check(f"how many are like {pattern!r}", len(looks.told("show", "--like", pattern, "--json")), wanted)
+    looks.check("a pattern of many stars", looks.told("show", "--like", "*a*p" * 5000 + "*e"), [])
 
 
 def all_objects(looks: Looks) -> List[Dict[str, str]]:

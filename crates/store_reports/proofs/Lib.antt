@@ -1,3 +1,3 @@
 pub mod Added
 pub mod Joined
-pub mod Parts
+pub mod ShownTexts

@@ -1,13 +1,13 @@
 -- Which properties of a world are shown, and how.
-use Rattle.std.specs.Prelude.{◌≡◌, ◌≢◌, ℕ, Bool, true, false, ◌&&◌, ◌||◌, bytes_eq, ◌-◌, if◌then◌else◌, List, [], ◌∷◌, ◌++◌, length, drop, take, codes, is_some, Option, Result, Ok, Err}
+use Rattle.std.specs.Prelude.{◌≡◌, ◌≢◌, ℕ, Bool, true, false, ◌&&◌, bytes_eq, if◌then◌else◌, List, [], ◌∷◌, ◌++◌, codes, is_some, Option, Result, Ok, Err}
 use Rattle.std.specs.Borrow.{Bor}
 use Rattle.std.specs.FinMap as finite
 use Rattle.std.specs.Global.{Vec}
 use Rattle.std.specs.List.{flat_map, list_all}
 use Rattle.std.specs.Option.{option_map_or}
-use Rattle.std.specs.Str.{str_eq_ignore_ascii_case}
 use Rattle.lisp_object.specs.Ascii.{is_ascii}
 use Rattle.lisp_object.specs.Object.{Object, symbol}
+use Rattle.name_patterns.specs.Pattern.{is_like}
 use Rattle.package_table.specs.Readers.{own_names, package_names}
 use Rattle.package_table.specs.Table.{Name, Table, common_lisp_user}
 use Rattle.canon_printer.specs.Printed.{printed}
@@ -28,43 +28,6 @@ use Rattle.store_reports.specs.declared.showing.ShowError.TheVariants as showing
 -- a name is the one that is asked for, if one is
 abbrev pub is_named : Option (Bor Name) → Name → Bool
 is_named wanted name = option_map_or (λ (w : Bor Name). bytes_eq w.now name) wanted true
-
--- a text begins with a part, in upper or lower case
-abbrev pub begins_with : List ℕ → List ℕ → Bool
-begins_with part text = str_eq_ignore_ascii_case (take (length part) text) part
-
--- it ends with one
-abbrev pub ends_with : List ℕ → List ℕ → Bool
-ends_with part text = str_eq_ignore_ascii_case (drop (length text - length part) text) part
-
--- a text has a part in it somewhere
-unfoldable pub has_part : List ℕ → List ℕ → Bool
-has_part part [] = begins_with part []
-has_part part (c ∷ cs) = begins_with part (c ∷ cs) || has_part part cs
-
--- a pattern begins with a star, or ends with one
-abbrev pub has_star_before : List ℕ → Bool
-has_star_before pattern = bytes_eq (take 1 pattern) (42 ∷ [])
-
-abbrev pub has_star_after : List ℕ → Bool
-has_star_after pattern = bytes_eq (drop (length pattern - 1) pattern) (42 ∷ [])
-
--- a pattern without these
-abbrev pub without_star_before : List ℕ → List ℕ
-without_star_before pattern = if has_star_before pattern then drop 1 pattern else pattern
-
-abbrev pub without_star_after : List ℕ → List ℕ
-without_star_after pattern = if has_star_after pattern then take (length pattern - 1) pattern else pattern
-
--- A name is like a pattern, in upper or lower case. A star at the front or at the end of the pattern stands for any text there. Of `*` alone the
--- one star is at the end.
-abbrev pub is_like : List ℕ → List ℕ → Bool
-is_like pattern name =
-    let front = without_star_after pattern in
-    let part = without_star_before front in
-    if has_star_after pattern
-    then (if has_star_before front then has_part part name else begins_with part name)
-    else (if has_star_before front then ends_with part name else str_eq_ignore_ascii_case name part)
 
 -- the symbols of a package, and those whose names are like a pattern
 unfoldable pub takes_symbol : Selection → Symbol → Bool

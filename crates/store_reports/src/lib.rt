@@ -6,7 +6,8 @@
 //! - `backup`: a new store with the world of another one (module `backups`), at a place that something makes and names (`Places`, module
 //!   `places`); `backup_onto`: on a disk that is there.
 //!
-//! All but these two give bytes and write nothing. In lines control characters are escaped (module `escaped`); JSON is that of module `json`.
+//! All but these two give bytes and write nothing. In lines control characters are escaped (module `escaped`); JSON is that of module
+//! `json`, and `numbers` writes numbers in both.
 #![tactic(auto)]
 
 mod backups;

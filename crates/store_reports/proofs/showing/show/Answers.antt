@@ -2,7 +2,7 @@ use Rattle.std.proofs.Common.{◌≡◌, false, rules, tests, true}
 use Rattle.std.specs.Prelude.{is_some}
 use Rattle.store_reports.specs.Shown.{has_wanted}
 use Rattle.store_reports.specs.declared.showing.ShowError.TheVariants as showing
-use Rattle.store_reports.proofs.Parts.{no_indicator, no_symbol, some_shown}
+use Rattle.store_reports.proofs.ShownTexts.{no_indicator, no_symbol, some_shown}
 use Rattle.store_reports.proofs.showing.show.Goals as goal
 
 pub returns-then-is_some-clause-shown : goal.returns-then-is_some-clause-shown

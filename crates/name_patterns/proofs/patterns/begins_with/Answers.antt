@@ -3,7 +3,7 @@ use Rattle.std.specs.Char.{to_ascii_lowercase}
 use Rattle.std.proofs.lemmas.Bool.Decides.{same_from_decides}
 use Rattle.std.proofs.lemmas.List.{take_min}
 use Rattle.std.proofs.lemmas.Slice.Eq.{bytes_eq-Decides}
-use Rattle.store_reports.proofs.selection.begins_with.Goals as goal
+use Rattle.name_patterns.proofs.patterns.begins_with.Goals as goal
 
 pub returns : goal.returns
 returns c =
