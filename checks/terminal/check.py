@@ -62,13 +62,16 @@ class Terminal:
 CONTROL_D = "\x04"
 WELCOME = "Type a form and Enter; help tells more, Ctrl-D ends. For editing lines: rlwrap ./pazturrok run DIR\n"
 HELP = """(SETF (GET 'APPLE 'PRICE) 7) sets a property, (GET 'APPLE 'PRICE) gives it, (SYMBOL-PLIST 'APPLE) gives all of a symbol.
-An answer that begins with ! is a refusal: docs/use/refusals.md has the numbers, docs/use/operators.md the operators.
+An answer that begins with ! is a refusal: ./pazturrok help 31 tells of the number 31, ./pazturrok help GET of the operator GET;
+docs/use/operators.md has all operators.
 Ctrl-D at the beginning of a line ends. Each answer is in the store by then.
 """
 LEAVING = "Ctrl-D at the beginning of a line ends.\n"
-UNKNOWN_OPERATOR = """The current package finds no operator of this name: docs/use/operators.md has all. If none is found any more, the package does not
-use COMMON-LISP, and (COMMON-LISP:IN-PACKAGE "CL-USER") leads back.
+UNKNOWN_OPERATOR = """The current package finds no operator of this name: docs/use/operators.md has all. + and the other functions are known after
+./pazturrok run DIR --operators. If none is found any more, the package does not use COMMON-LISP, and
+(COMMON-LISP:IN-PACKAGE "CL-USER") leads back.
 """
+BESIDE = "Beside this session: ./pazturrok %s\n"
 CUT = """A terminal hands on 4,095 bytes of a line, and dropped the rest of this one. The form is open: Ctrl-C ends the session without it.
 Write it in shorter lines, or send it from a file: ./pazturrok run DIR < FILE
 """
@@ -259,6 +262,8 @@ with tempfile.TemporaryDirectory() as room:
     it = Terminal("run", store)
     it.step("a word for help", "help\n", "! 30 NOT-A-FORM\n", WELCOME + "> " + HELP + "> ")
     it.step("a word to leave", " 12\nexit\n", "12\n! 30 NOT-A-FORM\n", "> " + LEAVING + "> ")
+    it.step("help of an operator", "help GET\n", "! 30 NOT-A-FORM\n" * 2, BESIDE % "help GET" + "> ")
+    it.step("help of a number", "help 31\n", "! 30 NOT-A-FORM\n31\n", BESIDE % "help 31" + "> ")
     it.step("a package without operators", '(MAKE-PACKAGE "BOOK")\n(IN-PACKAGE "BOOK")\n', '"BOOK"\n"BOOK"\n', "> > ")
     it.step("its first form", "(LIST 1)\n", "! 31 UNKNOWN-OPERATOR\n", UNKNOWN_OPERATOR + "> ")
     it.step("its second form", "(LIST 1)\n", "! 31 UNKNOWN-OPERATOR\n", "> ")

@@ -20,12 +20,14 @@ const WELCOME: &[u8] =
     b"Type a form and Enter; help tells more, Ctrl-D ends. For editing lines: rlwrap ./pazturrok run DIR\n";
 
 const HELP: &[u8] =
-    b"(SETF (GET 'APPLE 'PRICE) 7) sets a property, (GET 'APPLE 'PRICE) gives it, (SYMBOL-PLIST 'APPLE) gives all of a symbol.\nAn answer that begins with ! is a refusal: docs/use/refusals.md has the numbers, docs/use/operators.md the operators.\nCtrl-D at the beginning of a line ends. Each answer is in the store by then.\n";
+    b"(SETF (GET 'APPLE 'PRICE) 7) sets a property, (GET 'APPLE 'PRICE) gives it, (SYMBOL-PLIST 'APPLE) gives all of a symbol.\nAn answer that begins with ! is a refusal: ./pazturrok help 31 tells of the number 31, ./pazturrok help GET of the operator GET;\ndocs/use/operators.md has all operators.\nCtrl-D at the beginning of a line ends. Each answer is in the store by then.\n";
+
+const BESIDE: &[u8] = b"Beside this session: ./pazturrok ";
 
 const LEAVING: &[u8] = b"Ctrl-D at the beginning of a line ends.\n";
 
 const UNKNOWN_OPERATOR: &[u8] =
-    b"The current package finds no operator of this name: docs/use/operators.md has all. If none is found any more, the package does not\nuse COMMON-LISP, and (COMMON-LISP:IN-PACKAGE \"CL-USER\") leads back.\n";
+    b"The current package finds no operator of this name: docs/use/operators.md has all. + and the other functions are known after\n./pazturrok run DIR --operators. If none is found any more, the package does not use COMMON-LISP, and\n(COMMON-LISP:IN-PACKAGE \"CL-USER\") leads back.\n";
 
 const UNANSWERED: &[u8] =
     b"Nothing was answered: a form is open, or the readtable makes comments of what is typed; --rescue reads under the standard one.\n";
@@ -54,7 +56,7 @@ pub struct Terminal<'a, I, P> {
     line: Line,
     last: u8,
     // the line that is typed, if it is a short one
-    typed: ArrayVec<u8, 8>,
+    typed: ArrayVec<u8, 64>,
     // how many lines were typed that left a form open since the last answer
     open_lines: u8,
     gave_text: bool,
@@ -195,13 +197,27 @@ impl<I, P: Write> Terminal<'_, I, P> {
         ensures { self.new.input ≡ self.old.input }
     {
         if self.last == b'\n' {
-            let _ = write_text(&mut self.prompts, told_of(self.typed.as_slice()));
+            self.tell_line();
         }
         let is_unknown = heard == Heard::UnknownOperator;
         if is_unknown && !self.told_operators {
             let _ = write_text(&mut self.prompts, UNKNOWN_OPERATOR);
         }
         self.told_operators = is_unknown;
+    }
+
+    // Tells more after a line that asks for help, or that would leave.
+    fn tell_line(&mut self)
+        ensures { self.new.input ≡ self.old.input }
+    {
+        let typed = self.typed.as_slice();
+        if asks_for_page(typed) {
+            let _ = write_text(&mut self.prompts, BESIDE);
+            let _ = write_text(&mut self.prompts, typed);
+            let _ = write_text(&mut self.prompts, b"\n");
+        } else {
+            let _ = write_text(&mut self.prompts, told_of(typed));
+        }
     }
 }
 
@@ -213,6 +229,16 @@ fn told_of(typed: &[u8]) -> &'static [u8] {
         LEAVING
     } else {
         b""
+    }
+}
+
+// Whether a line asks for what the pages say of an operator or of a number.
+fn asks_for_page(typed: &[u8]) -> bool {
+    match typed {
+        [b'h', b'e', b'l', b'p', b' ', word @ ..] => {
+            !word.is_empty() && word.iter().all(|byte| byte.is_ascii_graphic())
+        }
+        _ => false,
     }
 }
 
