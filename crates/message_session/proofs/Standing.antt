@@ -1,5 +1,5 @@
 -- Where a session stands to the recipient of its answers, and that they may be handed to it.
-use Rattle.std.proofs.Common.{◌≡◌, ◌≢◌, ℕ, ◌+◌, ◌<◌, Bool, true, false, List, [], length, Option, Some, IsTrue, take, Result, Ok, Err, inl, inr, refl, sym, ap, subst, ◌∙◌, arith}
+use Rattle.std.proofs.Common.{◌≡◌, ◌≢◌, ◌⊎◌, ℕ, ◌+◌, ◌<◌, Bool, true, false, List, [], length, Option, Some, IsTrue, take, Result, Ok, Err, inl, inr, refl, sym, ap, subst, ◌∙◌, arith}
 use Rattle.std.specs.Option.{option_map}
 use Rattle.std.specs.Prelude.{unwrap_or}
 use Rattle.disk_trait.specs.Disk.{Image, State, IsHonest, IsSound, Throughout}
@@ -30,9 +30,9 @@ use Rattle.prevalence_store.specs.declared.outcome.Outcome.TheVariants.{Accepted
 use Rattle.prevalence_store.specs.meaning.Acceptance.{after}
 use Rattle.prevalence_store.specs.meaning.Files.{MeansWorld}
 use Rattle.messages.specs.Answers.{Round, answered, begun, closed}
-use Rattle.messages.specs.Calls.{AnswersRequests, AreAnswered, entries_by, left_after}
+use Rattle.messages.specs.Calls.{AnswersRequests, AreAnswered, Fail, entries_by, left_after}
 use Rattle.messages.specs.Fronts.{AnswersFirst}
-use Rattle.prevalence_store.specs.steps.Failure.{is_device}
+use Rattle.messages.proofs.Settling.{unchanged_or_failed}
 use Rattle.prevalence_store.proofs.Surviving.{both_survive, fewer_survive, none_taken}
 use Rattle.user_macros.specs.Functions.{Functions}
 
@@ -186,24 +186,21 @@ module _ (functions : Functions) {D R : Type 0} (state : D → State) (sound : (
     module _ (frames : List Sent) (come : ComeNext told frames) (requests : List Request) (alike : AskAlike requests frames) (number : ℕ)
         (answers : (w : WorldState) → old.world ≡ Some w → AnswersFirst functions state old new w last requests (Err number)) where
       none_of_requests : AcknowledgesNone functions state told new
-      none_of_requests account is = by (is_device left.0) refl where
+      none_of_requests account is = by (unchanged_or_failed functions state old new far.0 last first.front number first.answers) where
         far : (world : WorldState) × (old.world ≡ Some world) × IsAtRest functions state account old last world
         far = rests account is
 
         first : AnswersFirst functions state old new far.0 last requests (Err number)
         first = answers far.0 far.1
 
-        left : AnswersRequests functions state old new far.0 last first.front (Err number)
-        left = first.answers
-
-        by : (failed : Bool) → is_device left.0 ≡ failed → AreUnderWay functions state account new
-        by false calm =
-            subst (λ (s : StoreView D R). AreUnderWay functions state account s) (sym (left.2.unchanged calm)) (none_at_rest told old last rests account is)
-        by true device =
+        by : (new ≡ old) ⊎ Fail functions state old new far.0 (answered functions (begun last far.0) first.front) → AreUnderWay functions state account new
+        by (inl same) =
+            subst (λ (s : StoreView D R). AreUnderWay functions state account s) (sym same) (none_at_rest told old last rests account is)
+        by (inr failed) =
             under_way old new last (take (length first.front) frames) first.front (front_alike requests first.front first.rest frames first.parts alike)
             account (next_taken account frames (length first.front) (come account is)) far.0 far.1 far.2
-            (left.2.stopped device).survives (left.2.stopped device).all_or_none
-            (λ _. made_of_some functions far.0 (answered functions (begun last far.0) first.front) (left.2.stopped device).some (left.2.stopped device).again)
+            failed.survives failed.all_or_none
+            (λ _. made_of_some functions far.0 (answered functions (begun last far.0) first.front) failed.some failed.again)
 
       pub unanswered : (number ≢ DEVICE → new ≡ old) → (why : Stop) → StopsAfter number why → RestsOrStops functions state told new last (Err why)
       unanswered unchanged (stop.Untaken n) stops = λ account is.

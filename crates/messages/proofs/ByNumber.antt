@@ -5,15 +5,15 @@ use Rattle.lisp_object.specs.declared.refusal.TheConstants.{DEVICE}
 use Rattle.messages.specs.Refusals.{AreRefusedBy}
 use Rattle.plist_state.specs.State.{WorldState}
 use Rattle.prevalence_store.specs.calls.Store.{StoreView}
-use Rattle.prevalence_store.specs.declared.failure.Failure.{Failure}
-use Rattle.prevalence_store.specs.declared.failure.Failure.TheVariants.{Refused, Full, DeviceFault, OutOfMemory}
+use Rattle.prevalence_store.specs.declared.failure.Unlogged.{Unlogged}
+use Rattle.prevalence_store.specs.declared.failure.Unlogged.TheVariants.{Full, DeviceFault, OutOfMemory}
 use Rattle.messages.specs.declared.own.Own.{Own}
 use Rattle.messages.specs.declared.request.Request.{Request}
 use Rattle.prevalence_store.specs.meaning.Acceptance.{IsFormNumber, accepts}
 use Rattle.messages.specs.Answers.{answered, begun}
 use Rattle.messages.specs.Position.{own_text}
 use Rattle.messages.specs.Calls.{AnswersRequests, AreLeft, IsOwnRefused, RefusesOwn}
-use Rattle.prevalence_store.specs.steps.Failure.{failure_number}
+use Rattle.prevalence_store.specs.steps.Failure.{failure_number, of_unlogged}
 use Rattle.session_words.specs.declared.mode.Mode.{Mode}
 use Rattle.session_words.specs.declared.mode.Mode.TheVariants.{Rescue}
 use Rattle.user_macros.specs.Functions.{Functions}
@@ -25,31 +25,33 @@ module _ (functions : Functions)
   own_number w own number (inr other) = omega (arith, other.0)
 
   module _ {D R : Type 0} (state : D → State) (old new : StoreView D R) (world : WorldState) (last : ℕ) (requests : List Request) where
-    form_number : (number : ℕ) → RefusesOwn functions (begun last world) requests (Refused number) → number < DEVICE
-    form_number number (inl before) = own_number _ _ number (before.4.1 number refl).1
-    form_number number (inr after) = own_number _ _ number (after number refl).1
+    form_number : (number : ℕ) → RefusesOwn functions (begun last world) requests number → number < DEVICE
+    form_number number (inl before) = own_number _ _ number before.4.1.1
+    form_number number (inr after) = own_number _ _ number after.1
 
-    by_cause : (cause : Failure) → AreLeft functions state old new world (answered functions (begun last world) requests) cause
-        → RefusesOwn functions (begun last world) requests cause → AreRefusedBy functions state old new world last requests (failure_number cause)
-    by_cause (Refused number) left own = let below = form_number number own in record {
+    by_form : (number : ℕ) → RefusesOwn functions (begun last world) requests number → new ≡ old → AreRefusedBy functions state old new world last requests number
+    by_form number own same = let below = form_number number own in record {
       device = λ is. absurd (omega (arith, is, below));
-      unchanged = λ _. left.unchanged refl;
+      unchanged = λ _. same;
       full = λ is. absurd (omega (arith, is, below));
       own = λ _ _ _. (below, own);
     }
-    by_cause Full left own = record {
+
+    by_cause : (cause : Unlogged) → AreLeft functions state old new world (answered functions (begun last world) requests) cause
+        → AreRefusedBy functions state old new world last requests (failure_number (of_unlogged cause))
+    by_cause Full left = record {
       device = λ is. absurd (omega (arith, is));
       unchanged = λ _. left.unchanged refl;
       full = λ _. left.full refl;
       own = λ _ other _. absurd (other refl);
     }
-    by_cause DeviceFault left own = record {
+    by_cause DeviceFault left = record {
       device = λ _. left.stopped refl;
       unchanged = λ other. absurd (other refl);
       full = λ is. absurd (omega (arith, is));
       own = λ other _ _. absurd (other refl);
     }
-    by_cause OutOfMemory left own = record {
+    by_cause OutOfMemory left = record {
       device = λ is. absurd (omega (arith, is));
       unchanged = λ _. left.unchanged refl;
       full = λ is. absurd (omega (arith, is));
@@ -57,4 +59,5 @@ module _ (functions : Functions)
     }
 
     pub by_number : (number : ℕ) → AnswersRequests functions state old new world last requests (Err number) → AreRefusedBy functions state old new world last requests number
-    by_number number refused = subst (AreRefusedBy functions state old new world last requests) (sym refused.1) (by_cause refused.0 refused.2 refused.3)
+    by_number number (inl own) = by_form number own.0 own.1
+    by_number number (inr unlogged) = subst (AreRefusedBy functions state old new world last requests) (sym unlogged.1) (by_cause unlogged.0 unlogged.2)

@@ -14,7 +14,8 @@ use Rattle.std.proofs.Math.Seq.{get_or-append_seam}
 use Rattle.disk_trait.specs.Disk.{State}
 use Rattle.plist_state.specs.State.{WorldState}
 use Rattle.session_words.specs.declared.mode.Mode.TheVariants.{Current}
-use Rattle.prevalence_store.specs.declared.failure.Failure.{Failure}
+use Rattle.prevalence_store.specs.declared.failure.Unadded.{Unadded}
+use Rattle.prevalence_store.specs.declared.failure.Unadded.TheVariants.{OutOfMemory, Refused}
 use Rattle.messages.specs.declared.own.Own.TheVariants.{Clearing, Position}
 use Rattle.messages.specs.declared.request.Answer.{Answer}
 use Rattle.messages.specs.declared.request.Replies.{Replies}
@@ -27,7 +28,7 @@ use Rattle.messages.specs.Answers.{Round, answer_in, answer_to_question, begun, 
 use Rattle.messages.specs.Calls.{AnswersRequests, RefusesOwn, RefusesRequest}
 use Rattle.messages.specs.Fronts.{AnswersFirst, answer_length, first_of, is_full, is_none_left, room_left}
 use Rattle.messages.specs.Position.{position_property}
-use Rattle.messages.specs.Rounds.{told_in}
+use Rattle.messages.specs.Rounds.{IfRefused, told_in}
 use Rattle.user_macros.specs.Functions.{Functions}
 
 -- ---- one answer more
@@ -130,8 +131,9 @@ module _ (functions : Functions) where
           ∙ ap (λ rest. take count requests ++ rest) (first_step most far next_of (drop (count + 1) requests))
 
       -- the next one is not answered
-      pub at_fault : (cause : Failure) → RefusesRequest functions far next_of cause → RefusesOwn functions first (first_of functions most first requests) cause
-      at_fault cause refused = inl (take count requests, next_of, _, parts, subst (λ (r : Round). RefusesRequest functions r next_of cause) is.answered refused)
+      pub at_fault : (cause : Unadded) → IfRefused cause (RefusesRequest functions far next_of) → IfRefused cause (RefusesOwn functions first (first_of functions most first requests))
+      at_fault (Refused number) refused = inl (take count requests, next_of, _, parts, subst (λ (r : Round). RefusesRequest functions r next_of number) is.answered refused)
+      at_fault OutOfMemory refused = tt
 
       module _ (next : Round) (next_is : next ≡ one_request functions far next_of) where
         one_more : next ≡ each_request functions first (take (count + 1) requests)

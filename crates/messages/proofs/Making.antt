@@ -23,7 +23,6 @@ use Rattle.plist_state.specs.State.{WorldState}
 use Rattle.prevalence_store.specs.declared.batch.Batch.{Batch}
 use Rattle.prevalence_store.specs.declared.failure.Unadded.{Unadded}
 use Rattle.prevalence_store.specs.declared.failure.Unadded.TheVariants as unadded
-use Rattle.prevalence_store.specs.declared.failure.Failure.TheVariants.{Refused}
 use Rattle.messages.specs.declared.own.Own.{Own}
 use Rattle.messages.specs.declared.own.Own.TheVariants.{Clearing, Position}
 use Rattle.messages.specs.declared.request.Request.{Request}
@@ -36,7 +35,6 @@ use Rattle.messages.specs.Answers.{Round, answer_in, answer_to_question, asked_i
 use Rattle.messages.specs.Position.{own_form, own_left, own_text, position_property, with_position, without_position}
 use Rattle.messages.specs.Rounds.{IsMade, IsNeeded, IsOwnForm, round_in, told_in}
 use Rattle.prevalence_store.specs.steps.Batch.{IsNotAdded, entries_in}
-use Rattle.prevalence_store.specs.steps.Failure.{of_unadded}
 use Rattle.prevalence_store.specs.steps.Group.{IsTurn}
 use Rattle.prevalence_store.proofs.steps.Grouping.{fit_both, one_replayed}
 use Rattle.prevalence_store.proofs.steps.Taking.{one_record}
@@ -143,14 +141,11 @@ module _ (functions : Functions) where
       )
 
   -- it is not refused
-  pub own_not_refused : (own : Own) (world : WorldState) (read : ReadForm) (text : List ℕ) (cause : Unadded) (number : ℕ) → IsNeeded own world → IsOwnForm functions own world read text
-      → IsNotAdded (accept functions.names world (object_of read.datum)) cause → of_unadded cause ≡ Refused number → ⊥
-  own_not_refused own world read text unadded.OutOfMemory number needed is given refused = absurd (cc)
-  own_not_refused own world read text (unadded.Refused code) number needed is given refused =
+  pub own_not_refused : (own : Own) (world : WorldState) (read : ReadForm) (text : List ℕ) (number : ℕ) → IsNeeded own world → IsOwnForm functions own world read text
+      → IsNotAdded (accept functions.names world (object_of read.datum)) (unadded.Refused number) → ⊥
+  own_not_refused own world read text number needed is given =
       let here = own_accepted functions.names world own is.all_there needed in
-      let same : code ≡ number = cc in
-      let added : accept functions.names world (object_of read.datum) ≡ Err number = given ∙ ap (λ n. Err n) same in
-      no_error here.0 (own_left own world) number (sym here.1 ∙ ap (accept functions.names world) (sym is.object) ∙ added)
+      no_error here.0 (own_left own world) number (sym here.1 ∙ ap (accept functions.names world) (sym is.object) ∙ given)
 
   pub own_round : (own : Own) (held : Held) (batch : Batch) (world new : WorldState) (read : ReadForm) (text : List ℕ) (e : Evaluated) → IsNeeded own world → IsOwnForm functions own world read text
       → accept functions.names world (object_of read.datum) ≡ Ok (done e new) → entries_in batch ≡ entries_in held.batch ++ records_of e.wrote Rescue text

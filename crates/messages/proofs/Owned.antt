@@ -1,12 +1,11 @@
 -- On the store's own forms.
 --     clearing_there, setting_there      whether the packages have each symbol of one
 --     read_parts, own_read      one that is read as what it is
---     form_taken, form_left, memory_refuses_none, not_cleared, not_closed      why a form of the store's own is not carried out
---     refuses_question, refuses_message, memory_refuses_no_request      so why requests are refused before one of them
---     at_request, at_end, unlogged_refused      and among all of them
+--     form_taken, form_left, not_cleared, not_closed      why a form of the store's own is not carried out
+--     refuses_question, refuses_message      so why requests are refused before one of them
+--     at_end      and after all of them
 --     no_device      which number is that of a device fault alone
-use Rattle.std.proofs.Common.{◌≡◌, ◌≢◌, ℕ, ◌+◌, ◌<◌, Bool, true, false, ◌&&◌, List, ◌++◌, length, take, drop, get_or, codes, None, Some, IsSome, Result, Ok, Err, IfErr, refl, sym, ap, subst, ◌∙◌, inl, inr}
-use Rattle.std.proofs.lemmas.List.{drop_more, take-append-drop}
+use Rattle.std.proofs.Common.{◌≡◌, ◌≢◌, ℕ, ◌<◌, Bool, true, false, ◌&&◌, List, length, codes, None, Some, IsSome, Result, Ok, Err, IfErr, refl, sym, ap, subst, ◌∙◌, inr}
 use Rattle.lisp_object.specs.Datum.{object_of}
 use Rattle.lisp_object.specs.declared.refusal.TheConstants.{DEVICE}
 use Rattle.lisp_object.proofs.Objects.{object_laws}
@@ -19,9 +18,8 @@ use Rattle.package_table.specs.Symbols.{are_there}
 use Rattle.package_table.specs.Table.{Table, common_lisp, common_lisp_user}
 use Rattle.plist_state.specs.State.{WorldState}
 use Rattle.session_words.specs.declared.mode.Mode.TheVariants.{Rescue}
-use Rattle.prevalence_store.specs.declared.failure.Failure.{Failure}
-use Rattle.prevalence_store.specs.declared.failure.Failure.TheVariants.{Refused, Full, DeviceFault, OutOfMemory}
 use Rattle.prevalence_store.specs.declared.failure.Unadded.{Unadded}
+use Rattle.prevalence_store.specs.declared.failure.Unadded.TheVariants.{OutOfMemory, Refused}
 use Rattle.prevalence_store.specs.declared.failure.Unlogged.{Unlogged}
 use Rattle.prevalence_store.specs.declared.failure.Unlogged.TheVariants as unlogged
 use Rattle.messages.specs.declared.own.Own.{Own}
@@ -29,11 +27,11 @@ use Rattle.messages.specs.declared.own.Own.TheVariants.{Clearing, Position}
 use Rattle.messages.specs.declared.request.Request.{Request}
 use Rattle.prevalence_store.specs.meaning.Acceptance.{read_in}
 use Rattle.messages.specs.Answers.{Round, each_request}
-use Rattle.messages.specs.Calls.{IsNotCleared, IsNotClosed, IsNotOld, IsOwnRead, RefusesForm, RefusesOwn, RefusesRequest}
+use Rattle.messages.specs.Calls.{IsNotCleared, IsNotClosed, IsNotOld, IsOwnRead, IsOwnRefused, RefusesOwn, RefusesRequest}
 use Rattle.messages.specs.Position.{own_form, own_text, position_property}
-use Rattle.messages.specs.Rounds.{IsNeeded, IsOwnForm, own_datum}
+use Rattle.messages.specs.Rounds.{IfRefused, IsNeeded, IsOwnForm, own_datum}
 use Rattle.prevalence_store.specs.steps.Batch.{IsNotAdded}
-use Rattle.prevalence_store.specs.steps.Failure.{failure_number, is_device, of_unadded, of_unlogged}
+use Rattle.prevalence_store.specs.steps.Failure.{failure_number, is_device_failure, of_unlogged}
 use Rattle.prevalence_store.specs.steps.Setting.{IsWholeForm}
 use Rattle.messages.proofs.Making.{own_not_refused}
 use Rattle.user_macros.specs.Functions.{Functions}
@@ -104,69 +102,55 @@ own_read functions world own text read start stop text_is whole first last datum
 
 module _ (functions : Functions) where
   -- of a form that was read
-  pub form_taken : (world : WorldState) (own : Own) (result : Result Unit Unadded) → result ≡ Ok tt → IfErr result (λ cause. RefusesForm functions world own (of_unadded cause))
-  form_taken world own result is = subst (λ r. IfErr r (λ cause. RefusesForm functions world own (of_unadded cause))) (sym is) tt
+  pub form_taken : (world : WorldState) (own : Own) (result : Result Unit Unadded) → result ≡ Ok tt → IfErr result (λ cause. IfRefused cause (IsOwnRefused functions world own))
+  form_taken world own result is = subst (λ r. IfErr r (λ cause. IfRefused cause (IsOwnRefused functions world own))) (sym is) tt
 
-  pub form_left : (world : WorldState) (own : Own) (read : ReadForm) (text : List ℕ) (result : Result Unit Unadded) (cause : Unadded) → result ≡ Err cause → IsNeeded own world
-      → IsOwnForm functions own world read text → IsNotAdded (accept functions.names world (object_of read.datum)) cause → IfErr result (λ cause. RefusesForm functions world own (of_unadded cause))
-  form_left world own read text result cause is needed whole given =
-      subst (λ r. IfErr r (λ cause. RefusesForm functions world own (of_unadded cause))) (sym is)
-      (λ number refused. absurd (own_not_refused functions own world read text cause number needed whole given refused))
+  module _ (world : WorldState) (own : Own) (read : ReadForm) (text : List ℕ) (needed : IsNeeded own world) (whole : IsOwnForm functions own world read text) where
+    left_by : (cause : Unadded) → IsNotAdded (accept functions.names world (object_of read.datum)) cause → IfRefused cause (IsOwnRefused functions world own)
+    left_by OutOfMemory given = tt
+    left_by (Refused number) given = absurd (own_not_refused functions own world read text number needed whole given)
 
-  -- of no memory
-  pub memory_refuses_none : (round : Round) → IsNotCleared functions round OutOfMemory
-  memory_refuses_none round = λ number is. absurd (cc)
+    pub form_left : (result : Result Unit Unadded) (cause : Unadded) → result ≡ Err cause → IsNotAdded (accept functions.names world (object_of read.datum)) cause
+        → IfErr result (λ cause. IfRefused cause (IsOwnRefused functions world own))
+    form_left result cause is given = subst (λ r. IfErr r (λ cause. IfRefused cause (IsOwnRefused functions world own))) (sym is) (left_by cause given)
 
-  pub memory_refuses_no_request : (round : Round) (request : Request) → RefusesRequest functions round request OutOfMemory
-  memory_refuses_no_request round request = (λ number is. absurd (cc), memory_refuses_none round)
+  -- what is refused is so for this
+  refused_for : (cause : Unadded) (Before After : ℕ → Type 0) → ((number : ℕ) → Before number → After number) → IfRefused cause Before → IfRefused cause After
+  refused_for (Refused number) Before After so refused = so number refused
+  refused_for OutOfMemory Before After so refused = tt
 
   pub not_cleared : {T : Type 0} (round : Round) (result : Result T Unadded) → IsSome (position_property round.left)
-      → IfErr result (λ cause. RefusesForm functions round.left Clearing (of_unadded cause)) → IfErr result (λ cause. IsNotCleared functions round (of_unadded cause))
+      → IfErr result (λ cause. IfRefused cause (IsOwnRefused functions round.left Clearing)) → IfErr result (λ cause. IfRefused cause (IsNotCleared functions round))
   not_cleared round (Ok value) some refused = tt
-  not_cleared round (Err cause) some refused = λ number is. (some, refused number is)
+  not_cleared round (Err cause) some refused = refused_for cause (IsOwnRefused functions round.left Clearing) (IsNotCleared functions round) (λ number is. (some, is)) refused
 
   pub not_closed : {T : Type 0} (round : Round) (result : Result T Unadded) → round.wrote ≡ true
-      → IfErr result (λ cause. RefusesForm functions round.left (Position round.last) (of_unadded cause)) → IfErr result (λ cause. IsNotClosed functions round (of_unadded cause))
+      → IfErr result (λ cause. IfRefused cause (IsOwnRefused functions round.left (Position round.last))) → IfErr result (λ cause. IfRefused cause (IsNotClosed functions round))
   not_closed round (Ok value) wrote refused = tt
-  not_closed round (Err cause) wrote refused = λ number is. (wrote, refused number is)
+  not_closed round (Err cause) wrote refused = refused_for cause (IsOwnRefused functions round.left (Position round.last)) (IsNotClosed functions round) (λ number is. (wrote, is)) refused
 
   -- before a request: a question, and a message with a new number
   pub refuses_question : {T : Type 0} (round : Round) (request : Request) (result : Result T Unadded) → request.number ≡ None
-      → IfErr result (λ cause. IsNotCleared functions round (of_unadded cause)) → IfErr result (λ cause. RefusesRequest functions round request (of_unadded cause))
+      → IfErr result (λ cause. IfRefused cause (IsNotCleared functions round)) → IfErr result (λ cause. IfRefused cause (RefusesRequest functions round request))
   refuses_question round request (Ok value) none refused = tt
-  refuses_question round request (Err cause) none refused = (λ number is. subst (IsNotOld round) (sym none) tt, refused)
+  refuses_question round request (Err cause) none refused =
+      refused_for cause (IsNotCleared functions round) (RefusesRequest functions round request) (λ number is. (subst (IsNotOld round) (sym none) tt, is)) refused
 
   pub refuses_message : {T : Type 0} (round : Round) (request : Request) (result : Result T Unadded) (number : ℕ) → request.number ≡ Some number → round.last < number
-      → IfErr result (λ cause. IsNotCleared functions round (of_unadded cause)) → IfErr result (λ cause. RefusesRequest functions round request (of_unadded cause))
+      → IfErr result (λ cause. IfRefused cause (IsNotCleared functions round)) → IfErr result (λ cause. IfRefused cause (RefusesRequest functions round request))
   refuses_message round request (Ok value) number some over refused = tt
-  refuses_message round request (Err cause) number some over refused = (λ n is. subst (IsNotOld round) (sym some) over, refused)
+  refuses_message round request (Err cause) number some over refused =
+      refused_for cause (IsNotCleared functions round) (RefusesRequest functions round request) (λ n is. (subst (IsNotOld round) (sym some) over, is)) refused
 
   module _ (first far : Round) (requests : List Request) where
-    pub at_request : (cause : Failure) (count : ℕ) (one : Request) → far ≡ each_request functions first (take count requests) → count < length requests
-        → RefusesRequest functions far (get_or requests count one) cause → RefusesOwn functions first requests cause
-    at_request cause count one is within refused =
-        inl (
-          take count requests,
-          get_or requests count one,
-          drop (count + 1) requests,
-          sym (take-append-drop count requests) ∙ ap (λ rest. take count requests ++ rest) (drop_more requests count one within),
-          subst (λ (r : Round). RefusesRequest functions r (get_or requests count one) cause) is refused,
-        )
-
-    pub at_end : {T : Type 0} (result : Result T Unadded) → far ≡ each_request functions first requests → IfErr result (λ cause. IsNotClosed functions far (of_unadded cause))
-        → IfErr result (λ cause. RefusesOwn functions first requests (of_unadded cause))
+    pub at_end : {T : Type 0} (result : Result T Unadded) → far ≡ each_request functions first requests → IfErr result (λ cause. IfRefused cause (IsNotClosed functions far))
+        → IfErr result (λ cause. IfRefused cause (RefusesOwn functions first requests))
     at_end (Ok value) is refused = tt
-    at_end (Err cause) is refused = inr (subst (λ (r : Round). IsNotClosed functions r (of_unadded cause)) is refused)
-
-  -- of what is logged
-  pub unlogged_refused : (first : Round) (requests : List Request) (cause : Unlogged) → RefusesOwn functions first requests (of_unlogged cause)
-  unlogged_refused first requests unlogged.Full = inr (λ number is. absurd (cc))
-  unlogged_refused first requests unlogged.DeviceFault = inr (λ number is. absurd (cc))
-  unlogged_refused first requests unlogged.OutOfMemory = inr (λ number is. absurd (cc))
+    at_end (Err cause) is refused =
+        refused_for cause (IsNotClosed functions far) (RefusesOwn functions first requests) (λ number closed. inr (subst (λ (r : Round). IsNotClosed functions r number) is closed)) refused
 
 -- what is no device fault has another number
-pub no_device : (cause : Failure) (number : ℕ) → number ≡ failure_number cause → number ≢ DEVICE → is_device cause ≡ false
-no_device (Refused code) number is other = refl
-no_device Full number is other = refl
-no_device DeviceFault number is other = absurd (other is)
-no_device OutOfMemory number is other = refl
+pub no_device : (cause : Unlogged) (number : ℕ) → number ≡ failure_number (of_unlogged cause) → number ≢ DEVICE → is_device_failure cause ≡ false
+no_device unlogged.Full number is other = refl
+no_device unlogged.DeviceFault number is other = absurd (other is)
+no_device unlogged.OutOfMemory number is other = refl

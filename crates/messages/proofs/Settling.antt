@@ -3,30 +3,30 @@
 --     replied_written, replied_silent      what is made of them
 --     replies_logged      they were answered, or a form of the store's own was refused
 --     replies_unlogged      what they needed was not logged
-use Rattle.std.proofs.Common.{◌≡◌, ℕ, ◌+◌, ◌<◌, Bool, true, false, List, [], length, map, Some, Result, Ok, Err, IfErr, refl, sym, ap, subst, ◌∙◌, arith}
+--     unchanged_or_failed      what is left of requests that are not answered
+use Rattle.std.proofs.Common.{◌≡◌, ◌⊎◌, ℕ, ◌+◌, ◌<◌, Bool, true, false, List, [], length, map, Some, Result, Ok, Err, IfErr, refl, sym, ap, subst, ◌∙◌, inl, inr, arith}
 use Rattle.std.specs.Global.{Vec}
 use Rattle.std.specs.List.{AllByRecursion, flat_map}
 use Rattle.disk_trait.specs.Disk.{State}
 use Rattle.gate_log.specs.Layout.{IsLogRecord, LogRecord, open_record}
 use Rattle.plist_state.specs.State.{WorldState}
 use Rattle.prevalence_store.specs.declared.batch.Batch.{Batch}
-use Rattle.prevalence_store.specs.declared.failure.Failure.TheVariants.{Refused}
 use Rattle.prevalence_store.specs.declared.failure.Unlogged.{Unlogged}
 use Rattle.prevalence_store.specs.declared.failure.Unlogged.TheVariants.{DeviceFault, Full, OutOfMemory}
 use Rattle.messages.specs.declared.first_requests.FirstRequests.{FirstRequests}
 use Rattle.messages.specs.declared.request.Answer.{Answer}
 use Rattle.messages.specs.declared.request.Replies.{Replies}
+use Rattle.messages.specs.declared.request.Request.{Request}
 use Rattle.messages.specs.declared.round.Round.{Round as Held}
 use Rattle.prevalence_store.specs.calls.Store.{StoreView}
 use Rattle.prevalence_store.specs.meaning.Acceptance.{after}
-use Rattle.messages.specs.Answers.{Round, begun}
+use Rattle.messages.specs.Answers.{Round, answered, begun}
 use Rattle.messages.specs.Calls.{AnswersRequests, AreLeft, Fail, entries_by, left_after}
 use Rattle.messages.specs.Rounds.{IsMade as IsMadeBy, round_in, told_in}
 use Rattle.messages.specs.Turn.{AreReplied, MakesReplies, front, round_of}
 use Rattle.prevalence_store.specs.steps.Batch.{FailsBatch, IsEmpty, StoresBatch, entries_in, entries_of}
-use Rattle.prevalence_store.specs.steps.Failure.{failure_number, of_unlogged}
+use Rattle.prevalence_store.specs.steps.Failure.{failure_number, is_device_failure, of_unlogged}
 use Rattle.prevalence_store.specs.steps.Together.{IsMade, IsNotMade}
-use Rattle.messages.proofs.Owned.{unlogged_refused}
 use Rattle.user_macros.specs.Functions.{Functions}
 
 module _ (functions : Functions) (turn : FirstRequests) (w : WorldState) where
@@ -89,13 +89,7 @@ module _ (functions : Functions) (turn : FirstRequests) (w : WorldState) where
         subst (λ (v : WorldState). StoresBatch functions state old new w v needed) is.left_is
         (subst (λ (es : List LogRecord). StoresBatch functions state old new w logged.left es) is.records_are logged.stores) in
         record { told = is.told; last = is.last; logs = stores.logs; survives = stores.survives; all_or_none = stores.all_or_none }
-    replies_logged (Err number) logged =
-        let is = logged.makes in (
-          Refused number,
-          refl,
-          record { unchanged = λ _. logged.stores.logs.nothing (ap length is.2); full = λ full. absurd (cc); stopped = λ device. absurd (cc) },
-          is.0,
-        )
+    replies_logged (Err number) logged = inl (logged.makes.0, logged.stores.logs.nothing (ap length logged.makes.2))
 
     pub refused_unchanged : (made : Result Replies ℕ) → IsMade functions state old new w (λ left records. MakesReplies functions turn w left records made) → IfErr made (λ number. new ≡ old)
     refused_unchanged (Ok replies) logged = tt
@@ -124,7 +118,7 @@ module _ (functions : Functions) (turn : FirstRequests) (w : WorldState) where
     failed_in left records (Err number) is fails = absurd (omega (arith, fails.some, ap length is.2))
 
     left_by : (cause : Unlogged) → IsNotMade functions state old new w (λ left records. (made : Result Replies ℕ) × MakesReplies functions turn w left records made) cause
-        → AreLeft functions state old new w round (of_unlogged cause)
+        → AreLeft functions state old new w round cause
     left_by OutOfMemory unmade = record { unchanged = unmade.unchanged; full = λ full. absurd (cc); stopped = λ device. absurd (cc) }
     left_by Full unmade =
         let room = unmade.full refl in
@@ -135,4 +129,16 @@ module _ (functions : Functions) (turn : FirstRequests) (w : WorldState) where
 
     pub replies_unlogged : (cause : Unlogged) → IsNotMade functions state old new w (λ left records. (made : Result Replies ℕ) × MakesReplies functions turn w left records made) cause
         → AnswersRequests functions state old new w turn.last (front functions turn w) (Err (failure_number (of_unlogged cause)))
-    replies_unlogged cause unmade = (of_unlogged cause, refl, left_by cause unmade, unlogged_refused functions (begun turn.last w) (front functions turn w) cause)
+    replies_unlogged cause unmade = inr (cause, refl, left_by cause unmade)
+
+-- requests that are not answered leave the store as it is, or the device failed
+module _ (functions : Functions) {D R : Type 0} (state : D → State) (old new : StoreView D R) (w : WorldState) (last : ℕ) (requests : List Request) where
+  by_device : (cause : Unlogged) (failed : Bool) → is_device_failure cause ≡ failed → AreLeft functions state old new w (answered functions (begun last w) requests) cause
+      → (new ≡ old) ⊎ Fail functions state old new w (answered functions (begun last w) requests)
+  by_device cause false calm left = inl (left.unchanged calm)
+  by_device cause true device left = inr (left.stopped device)
+
+  pub unchanged_or_failed : (number : ℕ) → AnswersRequests functions state old new w last requests (Err number)
+      → (new ≡ old) ⊎ Fail functions state old new w (answered functions (begun last w) requests)
+  unchanged_or_failed number (inl own) = inl own.1
+  unchanged_or_failed number (inr unlogged) = by_device unlogged.0 (is_device_failure unlogged.0) refl unlogged.2

@@ -9,8 +9,8 @@ use Rattle.lisp_reading.specs.Reading.{form}
 use Rattle.lisp_object.specs.declared.refusal.TheConstants.{NO_MEMORY}
 use Rattle.package_table.specs.Symbols.{are_there}
 use Rattle.plist_state.specs.State.{WorldState}
-use Rattle.prevalence_store.specs.declared.failure.Failure.{Failure}
-use Rattle.prevalence_store.specs.declared.failure.Failure.TheVariants as failure
+use Rattle.prevalence_store.specs.declared.failure.Unlogged.{Unlogged}
+use Rattle.prevalence_store.specs.declared.failure.Unlogged.TheVariants.{Full}
 use Rattle.messages.specs.declared.own.Own.{Own}
 use Rattle.messages.specs.declared.own.Own.TheVariants.{Clearing, Position}
 use Rattle.messages.specs.declared.request.Replies.{Replies}
@@ -25,7 +25,7 @@ use Rattle.prevalence_store.specs.meaning.Acceptance.{accepts, after, read_in}
 use Rattle.messages.specs.Answers.{Round, answered, begun, each_request}
 use Rattle.messages.specs.Position.{is_hidden, own_form, own_text, position, position_property}
 use Rattle.messages.specs.Rounds.{told_in}
-use Rattle.prevalence_store.specs.steps.Failure.{failure_number, is_device}
+use Rattle.prevalence_store.specs.steps.Failure.{failure_number, is_device_failure, of_unlogged}
 use Rattle.user_macros.specs.Functions.{Functions}
 
 -- where no message wrote nothing is left of requests
@@ -48,36 +48,29 @@ pub record IsOwnRead (functions : Functions) (world : WorldState) (own : Own) : 
 abbrev pub IsOwnRefused : Functions → WorldState → Own → ℕ → Type 0
 IsOwnRefused functions world own number = (accepts functions world Rescue (own_text own) ≡ Err number) ⊎ ((number ≡ NO_POSITION) × (IsOwnRead functions world own → ⊥))
 
--- it is refused, if this is for a refusal
-abbrev pub RefusesForm : Functions → WorldState → Own → Failure → Type 0
-RefusesForm functions world own cause = (number : ℕ) → cause ≡ failure.Refused number → IsOwnRefused functions world own number
+-- the position, which is there, is not taken out: the form that does so is refused with this number
+abbrev pub IsNotCleared : Functions → Round → ℕ → Type 0
+IsNotCleared functions round number = IsSome (position_property round.left) × IsOwnRefused functions round.left Clearing number
 
--- the position, which is there, is not taken out, if this is for a refusal
-abbrev pub IsNotCleared : Functions → Round → Failure → Type 0
-IsNotCleared functions round cause =
-    (number : ℕ) → cause ≡ failure.Refused number → IsSome (position_property round.left) × IsOwnRefused functions round.left Clearing number
-
--- the last number, after which a message wrote, does not become the position, if this is for a refusal
-abbrev pub IsNotClosed : Functions → Round → Failure → Type 0
-IsNotClosed functions round cause =
-    (number : ℕ) → cause ≡ failure.Refused number → (round.wrote ≡ true) × IsOwnRefused functions round.left (Position round.last) number
+-- the last number, after which a message wrote, does not become the position
+abbrev pub IsNotClosed : Functions → Round → ℕ → Type 0
+IsNotClosed functions round number = (round.wrote ≡ true) × IsOwnRefused functions round.left (Position round.last) number
 
 -- a question, or a message whose number is over the last one
 abbrev pub IsNotOld : Round → Option ℕ → Type 0
 IsNotOld round None = Unit {0}
 IsNotOld round (Some number) = round.last < number
 
--- before this request, which is not old, the position is not taken out, if this is for a refusal
-abbrev pub RefusesRequest : Functions → Round → Request → Failure → Type 0
-RefusesRequest functions round request cause =
-    ((number : ℕ) → cause ≡ failure.Refused number → IsNotOld round request.number) × IsNotCleared functions round cause
+-- before this request, which is not old, the position is not taken out
+abbrev pub RefusesRequest : Functions → Round → Request → ℕ → Type 0
+RefusesRequest functions round request number = IsNotOld round request.number × IsNotCleared functions round number
 
 -- A refusal of requests is one of a form of the store's own: before one of them, or after all.
-abbrev pub RefusesOwn : Functions → Round → List Request → Failure → Type 0
-RefusesOwn functions first requests cause =
+abbrev pub RefusesOwn : Functions → Round → List Request → ℕ → Type 0
+RefusesOwn functions first requests number =
     ((before : List Request) × (request : Request) × (later : List Request) × (requests ≡ before ++ request ∷ later)
-    × RefusesRequest functions (each_request functions first before) request cause)
-    ⊎ IsNotClosed functions (each_request functions first requests) cause
+    × RefusesRequest functions (each_request functions first before) request number)
+    ⊎ IsNotClosed functions (each_request functions first requests) number
 
 module _ (functions : Functions) {D R : Type 0} (state : D → State) (old new : StoreView D R) (world : WorldState) (round : Round) where
   abbrev pub records : List LogRecord
@@ -102,18 +95,18 @@ module _ (functions : Functions) {D R : Type 0} (state : D → State) (old new :
     pub all_or_none : AllOrNone functions state old new world records
 
   -- They were not logged, and this is why. Unless the device failed all is as it was.
-  pub record AreLeft (cause : Failure) : Type 0 where
-    pub unchanged : is_device cause ≡ false → new ≡ old
-    pub full : cause ≡ failure.Full → (0 < length records) × (old.limit < old.size + length (flat_map open_record records))
-    pub stopped : is_device cause ≡ true → Fail
+  pub record AreLeft (cause : Unlogged) : Type 0 where
+    pub unchanged : is_device_failure cause ≡ false → new ≡ old
+    pub full : cause ≡ Full → (0 < length records) × (old.limit < old.size + length (flat_map open_record records))
+    pub stopped : is_device_failure cause ≡ true → Fail
 
 module _ (functions : Functions) {D R : Type 0} (state : D → State) (old new : StoreView D R) (world : WorldState) where
-  -- What `answer_requests` answers, each answer with its cause.
+  -- What `answer_requests` answers, each answer with its cause: a form of the store's own is refused, or what they need is not logged.
   abbrev pub AnswersRequests : ℕ → List Request → Result Replies ℕ → Type 0
   AnswersRequests last requests (Ok replies) = AreAnswered functions state old new world (answered functions (begun last world) requests) replies
   AnswersRequests last requests (Err number) =
-      (cause : Failure) × (number ≡ failure_number cause) × AreLeft functions state old new world (answered functions (begun last world) requests) cause
-      × RefusesOwn functions (begun last world) requests cause
+      (RefusesOwn functions (begun last world) requests number × (new ≡ old))
+      ⊎ ((cause : Unlogged) × (number ≡ failure_number (of_unlogged cause)) × AreLeft functions state old new world (answered functions (begun last world) requests) cause)
 
   -- the form that sets the position to 0 was accepted, and logged if it wrote
   abbrev pub SetsFirst : Type 0

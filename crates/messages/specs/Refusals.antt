@@ -6,7 +6,6 @@ use Rattle.gate_log.specs.Layout.{open_record}
 use Rattle.lisp_object.specs.declared.refusal.TheConstants.{DEVICE, LOG_FULL, NO_MEMORY}
 use Rattle.plist_state.specs.State.{WorldState}
 use Rattle.prevalence_store.specs.calls.Store.{StoreView}
-use Rattle.prevalence_store.specs.declared.failure.Failure.TheVariants.{Refused}
 use Rattle.messages.specs.declared.request.Request.{Request}
 use Rattle.messages.specs.Answers.{answered, begun}
 use Rattle.messages.specs.Calls.{Fail, RefusesOwn, records}
@@ -27,4 +26,4 @@ module _ (functions : Functions) {D R : Type 0} (state : D → State) (old new :
     -- 64: something was written, and has no room in the half
     pub full : number ≡ LOG_FULL → HasNoRoom
     -- None of these, nor 90: a form of the store's own was refused with it, before one of them or after all.
-    pub own : number ≢ DEVICE → number ≢ LOG_FULL → number ≢ NO_MEMORY → (number < DEVICE) × RefusesOwn functions (begun last world) requests (Refused number)
+    pub own : number ≢ DEVICE → number ≢ LOG_FULL → number ≢ NO_MEMORY → (number < DEVICE) × RefusesOwn functions (begun last world) requests number

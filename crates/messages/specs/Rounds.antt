@@ -13,6 +13,8 @@ use Rattle.package_table.specs.Table.{common_lisp, common_lisp_user}
 use Rattle.plist_state.specs.State.{WorldState}
 use Rattle.messages.specs.declared.own.Own.{Own}
 use Rattle.messages.specs.declared.own.Own.TheVariants.{Clearing, Position}
+use Rattle.prevalence_store.specs.declared.failure.Unadded.{Unadded}
+use Rattle.prevalence_store.specs.declared.failure.Unadded.TheVariants.{OutOfMemory, Refused}
 use Rattle.session_words.specs.declared.mode.Mode.TheVariants.{Rescue}
 use Rattle.messages.specs.declared.request.Answer.{Answer}
 use Rattle.messages.specs.declared.round.Round.{Round as Held}
@@ -43,6 +45,11 @@ pub record IsMade (functions : Functions) (first : WorldState) (round : Round) :
 -- so do those of a later round, if these do
 abbrev pub StaysMade : Functions → Round → Round → Type 0
 StaysMade functions before later = (first : WorldState) → IsMade functions first before → IsMade functions first later
+
+-- what holds of the number, if this is a refusal
+abbrev pub IfRefused : Unadded → (ℕ → Type 0) → Type 0
+IfRefused (Refused number) holds = holds number
+IfRefused OutOfMemory holds = Unit {0}
 
 -- ---- a form of the store's own
 

@@ -2,7 +2,6 @@
 use Rattle.std.specs.Prelude.{◌≡◌, ℕ, List, [], map, Result, Ok, Err}
 use Rattle.gate_log.specs.Layout.{LogRecord}
 use Rattle.plist_state.specs.State.{WorldState}
-use Rattle.prevalence_store.specs.declared.failure.Failure.TheVariants.{Refused}
 use Rattle.messages.specs.declared.first_requests.FirstRequests.{FirstRequests}
 use Rattle.messages.specs.declared.request.Replies.{Replies}
 use Rattle.messages.specs.declared.request.Request.{Request}
@@ -31,4 +30,4 @@ module _ (functions : Functions) (turn : FirstRequests) (world : WorldState) whe
   -- what is made of them: replies, or the number with which a form of the store's own is refused
   abbrev pub MakesReplies : (left : WorldState) → List LogRecord → Result Replies ℕ → Type 0
   MakesReplies left records (Ok replies) = AreReplied functions world round_of left records replies
-  MakesReplies left records (Err number) = RefusesOwn functions (begun turn.last world) front (Refused number) × (left ≡ world) × (records ≡ [])
+  MakesReplies left records (Err number) = RefusesOwn functions (begun turn.last world) front number × (left ≡ world) × (records ≡ [])

@@ -4,9 +4,8 @@ ghost use Rattle.plist_state.specs.State.{Worlds};
 ghost use Rattle.messages.specs.Answers.{answered, closed, each_request};
 ghost use Rattle.messages.specs.Calls.{IsNotClosed, RefusesOwn};
 ghost use Rattle.messages.specs.Fronts.{first_of, is_none_left, room_left};
-ghost use Rattle.messages.specs.Rounds.{StaysMade, round_in, told_in};
+ghost use Rattle.messages.specs.Rounds.{IfRefused, StaysMade, round_in, told_in};
 ghost use Rattle.prevalence_store.specs.steps.Batch.{IsMarked};
-ghost use Rattle.prevalence_store.specs.steps.Failure.{of_unadded};
 
 use crate::own::Own;
 use crate::request::Request;
@@ -30,8 +29,8 @@ impl Round {
             ≡ answered R.Meaning.functions (round_in self.old world.old.0)
             (first_of R.Meaning.functions most (round_in self.old world.old.0) requests.now)) }
         ensures made { OnOk result (StaysMade R.Meaning.functions (round_in self.old world.old.0) (round_in self.new world.new.0)) }
-        ensures refused { IfErr result (λ cause.
-            RefusesOwn R.Meaning.functions (round_in self.old world.old.0) (first_of R.Meaning.functions most (round_in self.old world.old.0) requests.now) (of_unadded cause)) }
+        ensures refused { IfErr result (λ cause. IfRefused cause
+            (RefusesOwn R.Meaning.functions (round_in self.old world.old.0) (first_of R.Meaning.functions most (round_in self.old world.old.0) requests.now))) }
         ensures marks { (worlds : Worlds) → IsMarked worlds world.old.1
             → IsMarked worlds world.new.1 }
     {
@@ -54,8 +53,8 @@ impl Round {
             ≡ each_request R.Meaning.functions (round_in self.old world.old.0)
             (first_of R.Meaning.functions most (round_in self.old world.old.0) requests.now)) }
         ensures made { OnOk result (StaysMade R.Meaning.functions (round_in self.old world.old.0) (round_in self.new world.new.0)) }
-        ensures refused { IfErr result (λ cause.
-            RefusesOwn R.Meaning.functions (round_in self.old world.old.0) (first_of R.Meaning.functions most (round_in self.old world.old.0) requests.now) (of_unadded cause)) }
+        ensures refused { IfErr result (λ cause. IfRefused cause
+            (RefusesOwn R.Meaning.functions (round_in self.old world.old.0) (first_of R.Meaning.functions most (round_in self.old world.old.0) requests.now))) }
         ensures marks { (worlds : Worlds) → IsMarked worlds world.old.1
             → IsMarked worlds world.new.1 }
     {
@@ -93,8 +92,8 @@ impl Round {
     ) -> Result<(), Unadded>
         ensures closed { OnOk result (round_in self.new world.new.0 ≡ closed (round_in self.old world.old.0)) }
         ensures made { OnOk result (StaysMade R.Meaning.functions (round_in self.old world.old.0) (round_in self.new world.new.0)) }
-        ensures refused { IfErr result (λ cause.
-            IsNotClosed R.Meaning.functions (round_in self.old world.old.0) (of_unadded cause)) }
+        ensures refused { IfErr result (λ cause. IfRefused cause
+            (IsNotClosed R.Meaning.functions (round_in self.old world.old.0))) }
         ensures marks { (worlds : Worlds) → IsMarked worlds world.old.1
             → IsMarked worlds world.new.1 }
     {

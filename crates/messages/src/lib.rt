@@ -22,6 +22,7 @@
 //! # Laws for the crates above
 //!
 //! - proofs/Positions.antt: the position as a property (`position_put`, `position_out`).
+//! - proofs/Settling.antt: what is left of requests that are not answered (`unchanged_or_failed`).
 #![tactic(auto)]
 
 mod ask;

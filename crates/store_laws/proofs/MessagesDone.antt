@@ -1,5 +1,5 @@
 -- What a crash leaves of a store in which messages were answered.
-use Rattle.std.proofs.Common.{◌≡◌, ℕ, ◌<◌, Bool, true, false, List, length, Some, Result, Ok, Err, pos, refl, sym, ap, subst, ◌∙◌, inl, inr, arith}
+use Rattle.std.proofs.Common.{◌≡◌, ◌⊎◌, ℕ, ◌<◌, Bool, true, false, List, length, Some, Result, Ok, Err, pos, refl, sym, ap, subst, ◌∙◌, inl, inr, arith}
 use Rattle.disk_trait.specs.Disk.{Image, State, IsHonest, IsSound}
 use Rattle.lisp_object.specs.Object.{integer}
 use Rattle.plist_state.specs.State.{WorldState}
@@ -12,9 +12,9 @@ use Rattle.prevalence_store.specs.calls.Store.{StoreView}
 use Rattle.messages.specs.Answers.{Round, answered, begun, closed, each_request}
 use Rattle.messages.specs.Calls.{AnswersRequests, AreAnswered, Fail, entries_by, left_after}
 use Rattle.messages.specs.Position.{position_property}
-use Rattle.prevalence_store.specs.steps.Failure.{is_device}
 use Rattle.prevalence_store.specs.Theorem.{Keeps}
 use Rattle.messages.proofs.Positions.{position_put}
+use Rattle.messages.proofs.Settling.{unchanged_or_failed}
 use Rattle.prevalence_store.proofs.Surviving.{one_world, still}
 use Rattle.store_laws.specs.Messages.{IsBeforeOrAfter}
 use Rattle.user_macros.specs.Functions.{Functions}
@@ -66,15 +66,15 @@ module _ (functions : Functions) {D R : Type 0} (state : D → State) (sound : (
   stopped_at stopped false none image now left means =
       absurd (let some : 0 < length (entries_by false round.entries) = subst (λ b. 0 < length (entries_by b round.entries)) none stopped.some in omega (arith, some))
 
-  left_by : (number : ℕ) (is : AnswersRequests functions state old new world last requests (Err number)) (device : Bool) → is_device is.0 ≡ device → (image : Image) (now : WorldState)
+  left_by : (new ≡ old) ⊎ Fail functions state old new world round → (image : Image) (now : WorldState)
       → (state new.disk).left_since (state old.disk).moment image → MeansWorld functions image now → IsBeforeOrAfter world round now
-  left_by number is false calm image now left means = inl (unchanged (is.2.unchanged calm) image now left means)
-  left_by number is true device image now left means = stopped_at (is.2.stopped device) round.wrote refl image now left means
+  left_by (inl same) image now left means = inl (unchanged same image now left means)
+  left_by (inr failed) image now left means = stopped_at failed round.wrote refl image now left means
 
   pub at_any_moment : (result : Result Replies ℕ) (image : Image) (now : WorldState) → AnswersRequests functions state old new world last requests result
       → (state new.disk).left_since (state old.disk).moment image → MeansWorld functions image now → IsBeforeOrAfter world round now
   at_any_moment (Ok replies) image now is left means = replied replies image now is left means
-  at_any_moment (Err number) image now is left means = left_by number is (is_device is.0) refl image now left means
+  at_any_moment (Err number) image now is left means = left_by (unchanged_or_failed functions state old new world last requests number is) image now left means
 
   pub after_all : (replies : Replies) (image : Image) (now : WorldState) → AnswersRequests functions state old new world last requests (Ok replies)
       → (state new.disk).may_leave image → MeansWorld functions image now → now ≡ left_after round.wrote world round.left

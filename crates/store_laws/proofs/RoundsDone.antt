@@ -13,10 +13,10 @@ use Rattle.messages.specs.declared.request.Replies.{Replies}
 use Rattle.messages.specs.declared.request.Request.{Request}
 use Rattle.prevalence_store.specs.meaning.Acceptance.{after}
 use Rattle.prevalence_store.specs.meaning.Files.{MeansWorld}
-use Rattle.messages.specs.Answers.{Round, answered, each_request}
-use Rattle.messages.specs.Calls.{AnswersRequests, AreAnswered, left_after}
+use Rattle.messages.specs.Answers.{Round, answered, begun, each_request}
+use Rattle.messages.specs.Calls.{AnswersRequests, AreAnswered, Fail, left_after}
 use Rattle.messages.specs.Position.{position_property}
-use Rattle.prevalence_store.specs.steps.Failure.{is_device}
+use Rattle.messages.proofs.Settling.{unchanged_or_failed}
 use Rattle.prevalence_store.proofs.Surviving.{one_world}
 use Rattle.store_laws.specs.Messages.{IsBeforeOrAfter}
 use Rattle.store_laws.specs.Rounds.{AreSteps, HasCome, IsStep, IsThere, Place, Step, requested, quiet, after_rounds, answered_in, begun_from, begun_in, rounds_of, store_after, store_by, with_round}
@@ -83,10 +83,10 @@ module _ (functions : Functions) {D R : Type 0} (state : D → State) where
 
   refuses : (old new : StoreView D R) (place : Place) → HasCome functions state old place → (requests : List Request) (number : ℕ)
       → AnswersRequests functions state old new place.world place.last requests (Err number) → IsSome new.world → HasCome functions state new place
-  refuses old new place come requests number is still_open = by (is_device is.0) refl where
-    by : (device : Bool) → is_device is.0 ≡ device → HasCome functions state new place
-    by false calm = subst (λ (s : StoreView D R). HasCome functions state s place) (sym (is.2.unchanged calm)) come
-    by true device = absurd (false≢true (subst (λ (w : Option WorldState). IsSome w) (is.2.stopped device).failed.unknown still_open))
+  refuses old new place come requests number is still_open = by (unchanged_or_failed functions state old new place.world place.last requests number is) where
+    by : (new ≡ old) ⊎ Fail functions state old new place.world (answered functions (begun place.last place.world) requests) → HasCome functions state new place
+    by (inl same) = subst (λ (s : StoreView D R). HasCome functions state s place) (sym same) come
+    by (inr failed) = absurd (false≢true (subst (λ (w : Option WorldState). IsSome w) failed.failed.unknown still_open))
 
   after_step : (old : StoreView D R) (place : Place) → HasCome functions state old place → (step : Step D R) → IsStep functions state old place step → IsSome (store_by step).world
       → HasCome functions state (store_by step) (after_rounds functions place (answered_in step))

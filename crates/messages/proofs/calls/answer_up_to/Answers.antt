@@ -3,7 +3,6 @@ use Rattle.std.proofs.lemmas.Result.{IfErr-weaker}
 use Rattle.messages.specs.declared.first_requests.FirstRequests.{FirstRequests}
 use Rattle.messages.specs.Calls.{AnswersRequests}
 use Rattle.messages.specs.Turn.{front}
-use Rattle.prevalence_store.specs.steps.Failure.{of_unlogged}
 use Rattle.prevalence_store.proofs.calls.Executing.{known_world}
 use Rattle.messages.proofs.Owned.{no_device}
 use Rattle.messages.proofs.Settling.{refused_unchanged, replies_logged, replies_unlogged}
@@ -33,4 +32,4 @@ pub returns-in-Err-clause-unchanged : goal.returns-in-Err-clause-unchanged
 returns-in-Err-clause-unchanged g c = λ other.
     let is_open : IsSome c.args.store.now.world = search rules in
     let here = known_world c.args.store.now.world is_open in
-    (c.in-Err.ensures.left here.0 here.1).unchanged (no_device (of_unlogged c.in-Err.cause) c.number.result c.number.ensures other)
+    (c.in-Err.ensures.left here.0 here.1).unchanged (no_device c.in-Err.cause c.number.result c.number.ensures other)

@@ -1,4 +1,4 @@
-use Rattle.std.proofs.Common.{◌≡◌, length, sym, subst, ◌∙◌, inr}
+use Rattle.std.proofs.Common.{length, refl, sym, subst, ◌∙◌, inr}
 use Rattle.std.proofs.lemmas.Bool.{eq-eqb, eqb-true, false≢true}
 use Rattle.session_words.specs.declared.mode.Mode.TheVariants as mode
 use Rattle.prevalence_store.specs.steps.Setting.{IsWhole}
@@ -20,10 +20,9 @@ returns-then-are_symbols_there-clause-form g c =
     ]
 
 pub returns-else-is_whole-clause-refused : goal.returns-else-is_whole-clause-refused
-returns-else-is_whole-clause-refused g c = λ number is.
-    let same : 52 ≡ number = cc in
+returns-else-is_whole-clause-refused g c =
     inr (
-      sym same,
+      refl,
       λ own.
           let f = c.in-Ok-Form in
           let text = c.args.text.now in

@@ -1,14 +1,12 @@
 use Rattle.std.proofs.Common.{◌≡◌, [], ◌∷◌, length, length-append, refl, sym, ap, subst, ◌∙◌, arith}
 use Rattle.plist_state.specs.State.{Worlds}
 use Rattle.prevalence_store.specs.declared.failure.Unadded.{Unadded}
-use Rattle.prevalence_store.specs.declared.failure.Unadded.TheVariants as unadded
 use Rattle.messages.specs.Answers.{Round, answered, begun}
 use Rattle.messages.specs.Calls.{RefusesOwn}
 use Rattle.messages.specs.Fronts.{first_of}
-use Rattle.messages.specs.Rounds.{IsMade, round_in}
+use Rattle.messages.specs.Rounds.{IfRefused, IsMade, round_in}
 use Rattle.messages.specs.Turn.{round_of}
 use Rattle.prevalence_store.specs.steps.Batch.{IsMarked, entries_of}
-use Rattle.prevalence_store.specs.steps.Failure.{of_unadded}
 use Rattle.messages.proofs.Settling.{replied_silent, replied_written}
 use Rattle.prevalence_store.proofs.steps.Grouping.{marked_more}
 use Rattle.messages.proofs.first_requests.FirstRequests.answer.Goals as goal
@@ -33,8 +31,8 @@ returns-in-Err-Refused-clause-made g c =
     let back : c.back_to.new.self ≡ w = c.back_to.ensures.whole w marked.0 marked.1 (sym c.mark_count-mark.ensures) in
     let first : round_in c.new-round.result c.begin.new.world.0 ≡ begun turn.last w.0 = c.new-round.ensures ∙ ap (λ (s : Worlds). begun turn.last s.0) c.in_ok-begun.ensures.marked in
     let e = c.in-Err-Refused in (
-      subst (λ (r : Round). RefusesOwn functions r (first_of functions turn.most r turn.requests.now) (of_unadded (unadded.Refused e.number))) first
-          (subst (λ (cause : Unadded). RefusesOwn functions (round_in c.new-round.result c.begin.new.world.0) (first_of functions turn.most (round_in c.new-round.result c.begin.new.world.0) turn.requests.now) (of_unadded cause)) e.field-0-is e.ensures.refused),
+      subst (λ (r : Round). RefusesOwn functions r (first_of functions turn.most r turn.requests.now) e.number) first
+          (subst (λ (cause : Unadded). IfRefused cause (RefusesOwn functions (round_in c.new-round.result c.begin.new.world.0) (first_of functions turn.most (round_in c.new-round.result c.begin.new.world.0) turn.requests.now))) e.field-0-is e.ensures.refused),
       ap (λ (s : Worlds). s.0) back,
       ap entries_of c.requires.none,
     )

@@ -37,5 +37,5 @@ returns-clause-refused g c =
     let w = c.args.world.now.0 in
     elim c.match-add.branch [
       | in-Ok w1 ↦ form_taken functions w c.args.own c.match-add.result w1.result-is
-      | in-Err w1 ↦ form_left functions w c.args.own c.args.form.now c.args.text.now c.match-add.result w1.in-Err.failure w1.result-is c.requires.there c.requires.form w1.in-Err.ensures.cause
+      | in-Err w1 ↦ form_left functions w c.args.own c.args.form.now c.args.text.now c.requires.there c.requires.form c.match-add.result w1.in-Err.failure w1.result-is w1.in-Err.ensures.cause
     ]

@@ -1,6 +1,5 @@
 use Rattle.std.proofs.Common.{arith, rules}
 use Rattle.messages.specs.Rounds.{round_in}
-use Rattle.prevalence_store.specs.steps.Failure.{of_unadded}
 use Rattle.messages.proofs.Fronts.{at_fault, at_first, at_last, at_next, at_none_left}
 use Rattle.messages.proofs.round.Round.answer_each.Goals as goal
 
@@ -24,7 +23,7 @@ loop-request-preserved g c = record {
 pub returns-in-Err-clause-refused : goal.returns-in-Err-clause-refused
 returns-in-Err-clause-refused g c =
     at_fault g.R.Meaning.Meaning.functions c.args.most (round_in c.args.self.now c.args.world.now.0) c.args.requests.now c.loop-request.request-index (round_in c.loop-request.self c.loop-request.world.0) c.loop-request.room
-    c.loop-request.invariant.at _ c.loop-request-test.true (of_unadded c.in-Err.failure) c.in-Err.ensures.refused
+    c.loop-request.invariant.at _ c.loop-request-test.true c.in-Err.failure c.in-Err.ensures.refused
 
 pub returns-then-is_used_up-clause-answered : goal.returns-then-is_used_up-clause-answered
 returns-then-is_used_up-clause-answered g c =
