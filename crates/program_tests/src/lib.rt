@@ -21,6 +21,7 @@
 //! - `exports`: a store that takes the export of a world; `same`: two stores with the same export
 //! - `decided`: a form that is asked of a world, of which the laws on forms that decide and that change places tell
 //! - `reopened`: a store that is opened with macro functions on files of a program without any
+//! - `earlier`: a store that is opened on files of a program that had neither macro functions nor operators of PAZTURROK
 //! - `sums`: the sum of a text, and that of the text once it is damaged
 //! - `keepers`: a session whose recipient keeps account of it, and what follows at each moment
 //! - `again`: the store that a history goes on with after a session
@@ -52,6 +53,8 @@ mod cuts;
 mod decided;
 #[cfg(test)]
 mod disks;
+#[cfg(test)]
+mod earlier;
 #[cfg(test)]
 mod exports;
 #[cfg(test)]

@@ -6,6 +6,7 @@
 --     some_keeps      files that mean the world after some of the forms that were taken
 --     newer      a program with more of both
 --     none_are_among, earlier_among      no functions among any; the rules before operators among those in force
+--     before_deciding, before_places      so are the rules before some of the operators
 use Rattle.std.proofs.Common.{◌≡◌, ℕ, ◌==◌, ◌||◌, Bool, true, false, List, [], ◌∷◌, length, take, Option, None, Some, Result, Ok, Err, refl, ap, subst, ◌∙◌, inl, inr, arith}
 use Rattle.std.specs.Prelude.{if◌then◌else◌}
 use Rattle.std.specs.List.{list_all}
@@ -25,6 +26,7 @@ use Rattle.lisp_operators.specs.Evaluation.{Done, Evaluation}
 use Rattle.lisp_reading.specs.Reading.{Outcome as Reading, form, empty, refused}
 use Rattle.lisp_reading.proofs.Widening.{form_widens}
 use Rattle.evaluator.proofs.Widening.{standard_among}
+use Rattle.evaluator.proofs.EarlierOperators.{before_deciding_among, before_places_among}
 use Rattle.form_eval.specs.Acceptance.{accept_over}
 use Rattle.form_eval.proofs.Accepted.{accepted_with_more}
 use Rattle.world_text.specs.Snapshot.{table_named}
@@ -36,6 +38,7 @@ use Rattle.prevalence_store.specs.meaning.Files.{IsWorldBy, MeansWorldBy}
 use Rattle.prevalence_store.specs.Theorem.{MeansSome}
 use Rattle.prevalence_store.proofs.meaning.Replaying.{stepped_by}
 use Rattle.wider_functions.specs.Among.{AreAmong, AreRulesAmong}
+use Rattle.wider_functions.specs.EarlierRules.{rules_before_deciding, rules_before_places}
 use Rattle.wider_functions.proofs.Reading.{reading_widens}
 use Rattle.wider_functions.proofs.Values.{accepting_widens}
 
@@ -169,6 +172,13 @@ more_rules fewer more among functions = record {
 -- the operators before PAZTURROK had any are among those of today
 pub earlier_among : AreRulesAmong rules_before_operators rules_in_force
 earlier_among = record { text_limit = omega arith; based = refl; operators = standard_among }
+
+-- those before PAZTURROK had operators that decide, and before it had those that look up and change a place
+pub before_deciding : AreRulesAmong rules_before_deciding rules_in_force
+before_deciding = record { text_limit = omega arith; based = refl; operators = before_deciding_among }
+
+pub before_places : AreRulesAmong rules_before_places rules_in_force
+before_places = record { text_limit = omega arith; based = refl; operators = before_places_among }
 
 -- both: a program that has more operators, and more functions
 module _ (by : Rules) (fewer more : Functions) (rules : AreRulesAmong by rules_in_force) (among : AreAmong fewer more) where

@@ -9,7 +9,8 @@
 //! - `files`: what files mean with fewer functions they mean with more, also what a crash leaves of them (`files_keep_their_world`). A
 //!   store that is opened with more on files that meant a world with fewer has this world (`more_functions_open`)
 //! - `operators`: the same of forms, records and files by rules with fewer operators and with more. So files mean what they meant
-//!   before the package PAZTURROK had operators (`more_operators_change_nothing`)
+//!   before the package PAZTURROK had operators, and before it had those that decide, look up and change places
+//!   (`more_operators_change_nothing`)
 //! - `programs`: both together, for a program of today that has more operators and more functions than an earlier one; also of files of
 //!   version 1 (`newer_programs_keep_files`). A store that such a program opens has the world that its files meant to the earlier one
 //!   (`newer_programs_open`)

@@ -9,6 +9,7 @@ ghost use Rattle.prevalence_store.specs.meaning.BeforeOperators.{rules_before_op
 ghost use Rattle.prevalence_store.specs.meaning.Files.{MeansWorld, MeansWorldBy};
 ghost use Rattle.user_macros.specs.Functions.{Functions};
 ghost use Rattle.wider_functions.specs.Among.{AreRulesAmong};
+ghost use Rattle.wider_functions.specs.EarlierRules.{rules_before_deciding, rules_before_places};
 
 /// By rules with more operators forms and files stay what they were, in any world and mode and with any macro functions. The second
 /// rules may let forms be longer, too.
@@ -17,6 +18,8 @@ ghost use Rattle.wider_functions.specs.Among.{AreRulesAmong};
 /// - `replayed`: records that leave a world leave this world.
 /// - `files`: what files mean by the first rules they mean by the second.
 /// - `before`: so what files meant before the package PAZTURROK had operators they mean now.
+/// - `before_deciding`, `before_places`: the same of the programs before AND and its like, and before FIND-SYMBOL, DECF and their
+///   like.
 pub fn more_operators_change_nothing()
     ensures accepted { (fewer more : Rules) (functions : Functions) (world : WorldState) (mode : Mode)
         → (text : List ℕ) (given : Acceptance) → AreRulesAmong fewer more
@@ -31,5 +34,11 @@ pub fn more_operators_change_nothing()
         → MeansWorldBy fewer functions image world → MeansWorldBy more functions image world }
     ensures before { (functions : Functions) (image : Image) (world : WorldState)
         → MeansWorldBy rules_before_operators functions image world
+        → MeansWorld functions image world }
+    ensures before_deciding { (functions : Functions) (image : Image) (world : WorldState)
+        → MeansWorldBy rules_before_deciding functions image world
+        → MeansWorld functions image world }
+    ensures before_places { (functions : Functions) (image : Image) (world : WorldState)
+        → MeansWorldBy rules_before_places functions image world
         → MeansWorld functions image world }
 {}

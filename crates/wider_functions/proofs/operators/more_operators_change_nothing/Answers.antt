@@ -1,6 +1,7 @@
 use Rattle.prevalence_store.specs.meaning.Acceptance.{rules_in_force}
 use Rattle.prevalence_store.specs.meaning.BeforeOperators.{rules_before_operators}
-use Rattle.wider_functions.proofs.Keeping.{earlier_among, files_keep, form_keeps, more_rules, records_keep}
+use Rattle.wider_functions.specs.EarlierRules.{rules_before_deciding, rules_before_places}
+use Rattle.wider_functions.proofs.Keeping.{before_deciding, before_places, earlier_among, files_keep, form_keeps, more_rules, records_keep}
 use Rattle.wider_functions.proofs.operators.more_operators_change_nothing.Goals as goal
 
 pub returns-clause-accepted : goal.returns-clause-accepted
@@ -18,3 +19,11 @@ returns-clause-files c = λ fewer more functions image world among means.
 pub returns-clause-before : goal.returns-clause-before
 returns-clause-before c = λ functions image world means.
     files_keep rules_before_operators rules_in_force functions functions (more_rules rules_before_operators rules_in_force earlier_among functions) image world means
+
+pub returns-clause-before_deciding : goal.returns-clause-before_deciding
+returns-clause-before_deciding c = λ functions image world means.
+    files_keep rules_before_deciding rules_in_force functions functions (more_rules rules_before_deciding rules_in_force before_deciding functions) image world means
+
+pub returns-clause-before_places : goal.returns-clause-before_places
+returns-clause-before_places c = λ functions image world means.
+    files_keep rules_before_places rules_in_force functions functions (more_rules rules_before_places rules_in_force before_places functions) image world means
