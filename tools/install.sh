@@ -95,7 +95,9 @@ origin() {
     else
         echo "commit: $(commit_of_sources), if the program was built from it; its build kept no word"
     fi
-    [ -z "$is_older" ] || echo "the pages and the script are of: $(commit_of_sources)"
+    if [ "$(sed -n 's/^commit: //p' "$made_from" 2>/dev/null)" != "$(commit_of_sources)" ]; then
+        echo "the pages and the script are of: $(commit_of_sources)"
+    fi
     if [ -n "$is_proved" ]; then
         echo "proved with: $(rt version 2>/dev/null || echo unknown)"
     else
