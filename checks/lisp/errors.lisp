@@ -61,7 +61,7 @@
 
 (define-check what-the-program-tells-of-a-refusal ()
   (with-answers (store (list (lines "! 31 UNKNOWN-OPERATOR") (lines "7") (lines "! 31 UNKNOWN-OPERATOR") (lines "! 7 FLOAT-TOKEN"))
-                       :told (list (lines "line 2, column 1: 31: no operator FOO") ""
+                       :told (list (lines "line 2, column 1: 31: no operator FOO (help 31)") ""
                                    (lines "pazturrok: compiled, not proved" "pazturrok: line 4, column 1: 31: no operator BAR")
                                    (lines "line 5, column 5: refused with 7 FLOAT-TOKEN in form 4, which began at line 5, column 1")))
     (let ((outcomes (send-all store '((foo) 7 (bar)) :on-refusal :return)))

@@ -77,7 +77,7 @@ class WhichForm(StoreTest):
         self.assertEqual(("(LIST 1)", None), which(raised.exception))
 
     def test_what_the_program_tells_of_a_refusal(self) -> None:
-        told = {1: "line 2, column 1: 31: no operator FOO\n", 3: "pazturrok: line 5, column 1: 12: no package \"NO\"\n"}
+        told = {1: "line 2, column 1: 31: no operator FOO (help 31)\n", 3: "pazturrok: line 5, column 1: 12: no package \"NO\"\n"}
         with self.answering("! 31 UNKNOWN-OPERATOR\n", "7\n", "! 12 NO\n", told=told) as store:
             # the question of the opening is the first line
             outcomes = store.execute_all(["(FOO)", "7"], raise_on_refusal=False)

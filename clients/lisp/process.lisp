@@ -89,8 +89,9 @@
                (unless number (return-from line-of-reason nil))
                (setf line (or line number)
                      place end)))
-    (and (eql (mismatch ": " text :start2 place) 2)
-         (values line (subseq text (+ 2 place))))))
+    (when (eql (mismatch ": " text :start2 place) 2)
+      (let ((help (search " (help " text :from-end t :start2 place)))
+        (values line (subseq text (+ 2 place) (and help (char= (char text (1- (length text))) #\)) help)))))))
 
 (defun heard-reasons (program)
   "What standard error has gained since it was heard last of forms that were refused: lines, each with what stands behind the number."

@@ -21,7 +21,7 @@ END_LIMIT = 10.0
 
 PIECE = 65536
 
-REFUSED = re.compile(r"(?:pazturrok: )?line ([0-9]+), column [0-9]+: [0-9]+: (.*)")
+REFUSED = re.compile(r"(?:pazturrok: )?line ([0-9]+), column [0-9]+: [0-9]+: (.*?)(?: \(help [0-9]+\))?")
 """A line of standard error on a form that was refused: where the form begins, and what stands behind the number."""
 
 
