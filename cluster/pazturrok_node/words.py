@@ -7,6 +7,7 @@ import ipaddress
 import os
 import re
 import socket
+import sys
 
 from . import VERSION
 from .clients import MOST_CLIENTS
@@ -31,6 +32,15 @@ ABOUT = """Many clients of one store: of a store on this machine alone, or of a 
   pazturrok-node skip NUMBER     has all nodes skip the entry before which their stores end again and again"""
 
 
+def program_beside(node: str) -> str:
+    """Returns the program that stands beside this node, or in the folder above it, as in a clone; or else its name, for PATH."""
+    for place in (os.path.dirname(os.path.abspath(node)), os.path.dirname(os.path.dirname(os.path.realpath(node)))):
+        program = os.path.join(place, "pazturrok")
+        if os.path.isfile(program) and os.access(program, os.X_OK):
+            return program
+    return "pazturrok"
+
+
 def parser_of_words() -> argparse.ArgumentParser:
     parser = argparse.ArgumentParser(prog="pazturrok-node", description=ABOUT, formatter_class=argparse.RawDescriptionHelpFormatter)
     parser.add_argument("order", nargs="*", metavar="FOLDER")
@@ -50,7 +60,7 @@ def parser_of_words() -> argparse.ArgumentParser:
     parser.add_argument("--store-silence", type=float, default=SILENCE, metavar="SECONDS", help=f"a store that says nothing so long is ended, {SILENCE:.0f}")
     parser.add_argument("--log", help="which log in etcd, letters and digits: store")
     parser.add_argument("--name", default=socket.gethostname(), help="the name of this node, which no other of the log may have")
-    parser.add_argument("--program", default="pazturrok", help="the program of the store")
+    parser.add_argument("--program", default=program_beside(sys.argv[0]), help="the program of the store; the one beside this, or else in PATH")
     parser.add_argument("--existing", action="store_true", help="a folder that holds no store is refused")
     parser.add_argument("--snapshot-every", metavar="N", help="as the program has it")
     parser.add_argument("--keep", type=float, default=600, metavar="SECONDS", help="a name stays so long at least, 600")
