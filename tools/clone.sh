@@ -205,6 +205,7 @@ help_of_command() {
     case $1 in
         run) printf '\n%s\n' "$OWN_HELP" ;;
         check) printf '\n%s\n' "$OWN_HELP_OF_CHECK" ;;
+        show) printf '\n%s\n' "$OWN_HELP_OF_SHOW" ;;
     esac
 }
 
