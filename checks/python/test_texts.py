@@ -2,6 +2,7 @@
 
 from __future__ import annotations
 
+import enum
 import random
 import unittest
 from fractions import Fraction
@@ -22,6 +23,12 @@ from pazturrok import (
 from pazturrok.answers import AnswerSplitter, parse_answer, refusal_of
 from pazturrok.references import with_references, without_references
 from pazturrok.texts import is_one_form
+
+
+class Grade(int, enum.Enum):
+    """Numbers whose str() is a name."""
+
+    GOOD = 2
 
 
 def symbol_of(prefix: str | None, name: str) -> Any:
@@ -204,6 +211,7 @@ class Printing(unittest.TestCase):
         rows: list[tuple[Any, str]] = [
             (0, "0"),
             (Fraction(-1, 2), "-1/2"),
+            (Grade.GOOD, "2"),
             ([], "NIL"),
             (False, "NIL"),
             (None, "NIL"),

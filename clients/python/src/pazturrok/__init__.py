@@ -5,7 +5,7 @@
 
 A Store starts the program over a folder; a MessageStore sends it messages that are carried out once, whatever
 becomes of the program; an EmbeddedStore and an EmbeddedMessageStore have the store in this process, by the library;
-a NodeStore speaks to the nodes of a store on several machines.
+a NodeStore speaks to a node, of one machine or of several.
 README.md beside pyproject.toml says how they are used, docs/run/protocol.md what goes to and fro.
 """
 

@@ -69,7 +69,9 @@ def symbol_text(symbol: Symbol) -> str:
 def rational_text(number: int | Fraction) -> str:
     if not (-(1 << 127) <= number.numerator < 1 << 127 and number.denominator < 1 << 128):
         raise UnsendableError(number, "it has more than 128 bits")
-    return str(number)
+    # str() of a member of an Enum is its name
+    numerator, denominator = int(number.numerator), int(number.denominator)
+    return str(numerator) if denominator == 1 else f"{numerator}/{denominator}"
 
 
 def character_text(character: Character) -> str:
