@@ -1,7 +1,7 @@
-"""The rates that pages and pictures give are those of docs/run/figures.tsv."""
+"""The rates that pages and pictures give are those of docs/run/figures.tsv, and the sizes of the project are as counted."""
 import re
 
-from pages import read
+from pages import names_of, read
 
 FIGURES = "docs/run/figures.tsv"
 PICTURE = "docs/pictures/rates.svg"
@@ -47,3 +47,32 @@ def figures():
     for what, who, count, seconds in rows():
         if what != "open" and f"{count / seconds:.0f}" not in drawn:
             yield f"{PICTURE}: {what}, {who} is {count / seconds:.0f}: checks/speed/plot draws it"
+
+
+STATUS = "docs/trust/status.md"
+
+# A size that a page gives may be off by so much: it is round, and each change moves it.
+OFF = 0.03
+
+
+def lines_of(*patterns):
+    """How many lines these files have."""
+    return sum(read(name).count("\n") for name in names_of(*patterns))
+
+
+def sizes():
+    """The sizes that the page of what there is gives. How many wrong bodies the gate tries is exact."""
+    tried = len(names_of("crates/*/must-fail/*.edit"))
+    counted = {
+        r"([\d,]+) lines of code": lines_of("crates/*/src/**/*.rt"),
+        r"([\d,]+) lines of definitions": lines_of("crates/*/specs/**/*.antt"),
+        r"([\d,]+) lines of proofs": lines_of("crates/*/proofs/**/*.antt"),
+        r"([\d,]+) wrong bodies": tried + len(names_of("crates/*/wrong-bodies/*.edit")),
+        r"of which the gate tries ([\d,]+)": tried,
+    }
+    text = read(STATUS)
+    for pattern, size in counted.items():
+        found = re.search(pattern, text)
+        said = int(found.group(1).replace(",", "")) if found else 0
+        if abs(said - size) > (0 if size == tried else OFF * size):
+            yield f"{STATUS}: {said:,} for {pattern}, and there are {size:,}"
