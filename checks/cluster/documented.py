@@ -124,7 +124,7 @@ def documented(folder, program):
 def commands_of_replacing():
     """Those by which the page on several machines replaces the machine b."""
     with open(PAGE_OF_REPLACING, encoding="utf-8") as page:
-        told = page.read().partition("### Replacing a machine\n")[2]
+        told = page.read().partition("## Replacing a machine\n")[2]
     return [line.strip() for line in re.findall(r"(?m)(?:^    .*\n)+", told)[0].splitlines()]
 
 
