@@ -51,6 +51,8 @@ OF_TEXTS: list[tuple[str, Holds]] = [
 # The same of a call.
 OF_CALLS: list[tuple[str, Callable[[str, str, str], object]]] = [
     ("an integer past 128 bits on the way", lambda form, mine, theirs: mine.startswith("! 44 ")),
+    # as the first of a clause of COND
+    ("a variable of SBCL's prompt", lambda form, mine, theirs: mine.startswith("! 30 ") and re.search(r"[( ][-+*][ )]", form)),
     ("arithmetic of a ratio",
      lambda form, mine, theirs: mine.startswith("! 33 ") and re.search("[0-9]/[0-9]", form)
      and re.search(r"\(([-+*]|FLOOR|MOD|DECF|PAZTURROK::INCF) ", form)),
