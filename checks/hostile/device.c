@@ -2,8 +2,8 @@
    number) and nothing done, `E5` so from then on for all calls of this kind, `i4` so at every second write, read and sync of a file from
    it on, `s` half of the bytes, `t` half of the bytes and then the error 5, `p5` the error at the Nth read of standard input, which comes
    in pieces then, `x` the process ends before it, `y` after it, `h` after half of it. How many calls there were and which one failed is
-   written to the file DEVICE_LOG at the end. DEVICE_TRACE is a file that gets what was opened, locked, written, cut and synced, and the
-   answers. Built without headers. */
+   written to the file DEVICE_LOG at the end. DEVICE_TRACE is a file that gets which folders were made, what was opened, locked, written, cut
+   and synced, and the answers. Built without headers. */
 typedef unsigned long size_t;
 typedef long off_t;
 extern long syscall(long, ...);
@@ -135,6 +135,7 @@ int flock(int file, int operation) {
 int mkdir(const char *name, unsigned rights) {
     BEGIN('m')
     int result = (int)syscall(MKDIR, name, rights);
+    if (!result) traced('d', -1, 0, name, strlen(name));
     END
     return result;
 }

@@ -1,8 +1,11 @@
 """Loss of power: at each call of a session, what the disk model allows to be left of both files."""
 import os
 import random
+import shutil
+import subprocess
 
 from hostile.store import answers, check_world, courses, library
+from lib.places import PATIENCE
 from lib.wanted import want
 
 NAMES = ("property", "brackets", "snapshots", "together", "more snapshots", "a closed half", "operators", "messages",
@@ -66,25 +69,51 @@ class File:
 
 
 def traced(room, one, loaded):
-    """The calls of a session: what was opened, locked, written, cut, synced and answered."""
+    """The calls of a session."""
     trace = room.path("trace")
     room.put(one.before)
     got = room.run(one.session.words, one.session.text, {"LD_PRELOAD": loaded, "DEVICE_TRACE": trace})
     want(got == one.ample, one.session.name, "traced:", got)
+    yield from calls_in(trace)
+
+
+def calls_in(trace):
+    """The calls of which a file tells: what was made, opened, locked, written, cut, synced and answered."""
     with open(trace, "rb") as file:
         text = file.read()
     while text:
         head, text = text.split(b"\n", 1)
         call, number, place, length = head.split()
         held = b""
-        if call in b"woa":
+        if call in b"woad":
             held, text = text[: int(length)], text[int(length):]
         yield call.decode(), int(number), int(place), held
+
+
+def made_folders_last(room, loaded):
+    """Wants a store in a folder of which three are made to sync the folder above each of them before the first answer."""
+    trace, top = room.path("trace"), room.path("above")
+    words = [room.program, "run", os.path.join(top, "between", "store")]
+    subprocess.run(words, input=b"(INTERN 'A)\n", env={"LD_PRELOAD": loaded, "DEVICE_TRACE": trace}, check=True,
+                   capture_output=True, timeout=PATIENCE)
+    above, opened, synced = set(), {}, set()
+    for call, file, _, held in calls_in(trace):
+        if call == "d":
+            above.add(os.path.dirname(held))
+        elif call == "o":
+            opened[file] = os.path.realpath(held)
+        elif call == "s":
+            synced.add(opened.get(file))
+        elif call == "a" and file == 1:
+            break
+    shutil.rmtree(top)
+    want(len(above) == 3 and above <= synced, "made in", *sorted(above), "and synced", *sorted(synced))
 
 
 def run(room, times, names=()):
     """So many random images of both kinds at each call. Gives how many images there were, and of what sessions."""
     loaded = library("device", room)
+    made_folders_last(room, loaded)
     dice = random.Random(5)
     images, told = 0, {}
     for one in courses(room, names or NAMES):

@@ -64,34 +64,6 @@ static bool join(path *joined, const char *folder, const char *name, pazturrok_f
     return failed(fault);
 }
 
-/* Makes one folder, if it is not there. */
-static bool make_one_folder(const char *folder) {
-    struct stat found;
-    if (mkdir(folder, 0777) == 0) return true;
-    int error = errno;
-    if (stat(folder, &found) == 0 && S_ISDIR(found.st_mode)) return true;
-    errno = error;
-    return false;
-}
-
-/* Makes a folder and the ones above it. */
-static bool make_folders(const char *folder) {
-    path above;
-    size_t length = strlen(folder);
-    if (length >= sizeof above.text) {
-        errno = ENAMETOOLONG;
-        return false;
-    }
-    memcpy(above.text, folder, length + 1);
-    for (size_t end = 1; end < length; end++) {
-        if (folder[end] != '/' || folder[end - 1] == '/') continue;
-        above.text[end] = 0;
-        if (!make_one_folder(above.text)) return false;
-        above.text[end] = '/';
-    }
-    return make_one_folder(folder);
-}
-
 /* fsync, again where a signal came between. */
 static bool sync_file(int file) {
     int done;
@@ -108,6 +80,36 @@ bool device_sync_folder(const char *folder, pazturrok_fault *fault) {
     return done;
 }
 
+/* Makes one folder, if it is not there. That it is there then lasts: the folder above it is synced. */
+static bool make_one_folder(const char *folder, pazturrok_fault *fault) {
+    struct stat found;
+    path above = {""};
+    if (mkdir(folder, 0777) == 0)
+        return join(&above, folder, "..", fault) && device_sync_folder(above.text, fault);
+    int error = errno;
+    if (stat(folder, &found) == 0 && S_ISDIR(found.st_mode)) return true;
+    errno = error;
+    return failed(fault);
+}
+
+/* Makes a folder and the ones above it. */
+static bool make_folders(const char *folder, pazturrok_fault *fault) {
+    path above;
+    size_t length = strlen(folder);
+    if (length >= sizeof above.text) {
+        errno = ENAMETOOLONG;
+        return failed(fault);
+    }
+    memcpy(above.text, folder, length + 1);
+    for (size_t end = 1; end < length; end++) {
+        if (folder[end] != '/' || folder[end - 1] == '/') continue;
+        above.text[end] = 0;
+        if (!make_one_folder(above.text, fault)) return false;
+        above.text[end] = '/';
+    }
+    return make_one_folder(folder, fault);
+}
+
 static bool make_folder(const char *folder, pazturrok_fault *fault) {
     struct stat found;
     path inside = {""};
@@ -115,8 +117,7 @@ static bool make_folder(const char *folder, pazturrok_fault *fault) {
     /* a name under which no half can stand is refused before anything is made */
     if (!join(&inside, folder, HALVES[0], fault)) return false;
     if (lstat(inside.text, &found) < 0 && errno != ENOENT) return failed(fault);
-    if (!make_folders(folder)) return failed(fault);
-    return join(&inside, folder, "..", fault) && device_sync_folder(inside.text, fault);
+    return make_folders(folder, fault);
 }
 
 /* A half */
