@@ -52,7 +52,7 @@
 //! - `session`: `serve`, and its parts: `input` and `output`, the streams; `answer`, what becomes of a form that was read;
 //!   `gather`, forms that stand whole after one another, with their lines, and `together`, the answers to them; `schedule`,
 //!   when it takes snapshots; `course`, how far it has come. A line is made before its record is logged, and written after.
-//! - `recipient`: who gets the lines of a session.
+//! - `recipient`: who gets the lines of a session, and hears of refusals if it listens.
 //! - `turn`: what is done between a mark of the world and the log, which is one call, `together` of `store`; `one_text`,
 //!   `all_texts` and `session::one_form` are three of them.
 //! - `whole_macros`: the macro functions of a store, of which none is missing.
@@ -97,7 +97,7 @@ pub use laws::{
 pub use lisp_object::refusal::name_of as refusal_name;
 pub use open_fault::OpenFault;
 pub use outcome::{Ended, Ending, Outcome, Place};
-pub use recipient::{OutputFault, Recipient};
+pub use recipient::{OutputFault, Recipient, SessionForm};
 pub use session_words::{Mode, Wanted};
 pub use setting::{WholeText, read_whole};
 pub use step::Step;

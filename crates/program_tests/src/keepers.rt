@@ -11,7 +11,10 @@ ghost use Rattle.store_laws.specs.Sessions.{AreCalls};
 
 use crate::again::{AMPLE, reopen_failed};
 use disk_trait::{Disk, MemoryDisk, OnceDisk};
-use prevalence_store::{Ended, Mode, OutputFault, Recipient, Store, Wanted};
+use plist_state::World;
+use prevalence_store::{
+    Ended, Mode, OutputFault, Recipient, SessionForm, Store, Wanted, WholeMacros,
+};
 use std::alloc::Global;
 use std::io::Read;
 use std::marker::Model;
@@ -135,6 +138,18 @@ impl<D: Disk, M: MacroFunctions, I: Read> Recipient<D, M> for Keeper<D, M, I> {
         self.keep(store, lines, forms);
         self.bytes.write_lines(store, lines, forms)
     }
+
+    fn is_listening(&self) -> bool {
+        false
+    }
+
+    fn hear_refusal(
+        &mut self,
+        _world: &mut World,
+        _macros: &WholeMacros<M>,
+        _number: u16,
+        _form: SessionForm<'_>,
+    ) {}
 }
 
 /// A session with groups over an input, to a recipient that keeps account of it: how it ended, and what it wrote. `None` after more forms

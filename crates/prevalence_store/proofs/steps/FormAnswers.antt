@@ -6,6 +6,8 @@ use Rattle.lisp_object.specs.Object.{Object}
 use Rattle.lisp_object.specs.Datum.{object_of}
 use Rattle.lisp_object.specs.declared.refusal.TheConstants.{INPUT, LOG_FULL, OUTPUT, NO_MEMORY}
 use Rattle.form_eval.specs.Acceptance.{accept}
+use Rattle.form_eval.specs.Laws.{MayEvaluate}
+use Rattle.form_eval.specs.declared.read_form.ReadForm.{ReadForm}
 use Rattle.lisp_operators.specs.Evaluation.{Done, Evaluation}
 use Rattle.lisp_operators.specs.Evaluated.{done as done_of}
 use Rattle.lisp_operators.specs.declared.evaluated.Evaluated.{Evaluated}
@@ -32,7 +34,7 @@ use Rattle.prevalence_store.proofs.calls.Executing.{own_whole}
 use Rattle.prevalence_store.proofs.calls.Running.{stores_left}
 use Rattle.prevalence_store.proofs.meaning.Replaying.{stepped}
 use Rattle.prevalence_store.specs.calls.Streams.{Writes, WritesPart}
-use Rattle.prevalence_store.specs.steps.Answer.{EndsTry, IsLeft, LeavesRecord, LogsAtOnce, StopsInForm, TriesForm, answered_of}
+use Rattle.prevalence_store.specs.steps.Answer.{EndsTry, IsLeft, LeavesRecord, LogsAtOnce, MayBeHeard, StopsInForm, TriesForm, answered_of}
 use Rattle.prevalence_store.specs.steps.Output.{IsLine}
 use Rattle.prevalence_store.proofs.Surviving.{all_or_none_of_one, fewer_survive, unchanged_survives}
 use Rattle.user_macros.specs.Functions.{Functions}
@@ -308,3 +310,15 @@ module _ (functions : Functions) where
   line_known state old new w mode own x (Err Full) line of is_line known = absurd is_line.line_of
   line_known state old new w mode own x (Err DeviceFault) line of is_line known = absurd is_line.line_of
   line_known state old new w mode own x (Err OutOfMemory) line of is_line known = absurd is_line.line_of
+
+  -- of a form that was refused its recipient may hear, in the store as it is then
+  pub form_heard : {D R : Type 0} (state : D → State) (old new : StoreView D R) (w : WorldState) (mode : Mode) (own : List ℕ) (read : ReadForm) (answer : Result Evaluated Failure)
+      → TakesForm functions state old new mode own (object_of read.datum) answer → old.world ≡ Some w → MayEvaluate w.packages read → MayBeHeard functions new.world (answered_of answer) read
+  form_heard {D} {R} state old new w mode own read (Err (Refused number)) of known may = λ v left.
+      let there : Some w ≡ Some v = sym known ∙ sym (ap (λ (s : StoreView D R). s.world) (of.unchanged refl)) ∙ left in
+      let one : w ≡ v = cc in
+      subst (λ (u : WorldState). MayEvaluate u.packages read × (accept functions.names u (object_of read.datum) ≡ Err number)) one (may, of.cause w known)
+  form_heard state old new w mode own read (Ok e) of known may = tt
+  form_heard state old new w mode own read (Err Full) of known may = tt
+  form_heard state old new w mode own read (Err DeviceFault) of known may = tt
+  form_heard state old new w mode own read (Err OutOfMemory) of known may = tt

@@ -265,6 +265,41 @@ module _ (functions : Functions) (turn : WholeForms) (w : WorldState) where
     forms_taken (Ok made) logged unmade = forms_logged made logged
     forms_taken (Err cause) logged unmade = forms_unlogged cause unmade
 
+-- ---- forms that were gathered as in a strict session
+
+module _ (functions : Functions) (wanted : Wanted) (strict : Bool) (stricter : wanted.strict ≡ true → strict ≡ true) where
+  lax_gathered : (first : WorldState) (text : List ℕ) (now : WorldState) (records : List LogRecord) (gathered : Gathered)
+      → IsGathered functions (record wanted { strict = strict }) first text now records gathered → IsGathered functions wanted first text now records gathered
+  lax_gathered first text now records gathered is = record {
+    far = is.far;
+    stays = is.stays;
+    rest = is.rest;
+    within = is.within;
+    left = is.left;
+    lines = is.lines;
+    taken = is.taken;
+    counted = is.counted;
+    accepted = λ asked. is.accepted (stricter asked);
+    record_bytes = is.record_bytes;
+    again = is.again;
+    fit = is.fit;
+  }
+
+  -- they are forms of the session too
+  pub lax_taken : {D R : Type 0} (state : D → State) (old new : StoreView D R) (w : WorldState) (text : List ℕ) (result : Result (Option Gathered) Unlogged)
+      → TakesGroup functions (record wanted { strict = strict }) state old new w text result → TakesGroup functions wanted state old new w text result
+  lax_taken state old new w text (Ok (Some gathered)) took =
+      record { left = took.left; records = took.records; makes = lax_gathered w text took.left took.records gathered took.makes; stores = took.stores }
+  lax_taken state old new w text (Ok None) took = took
+  lax_taken state old new w text (Err Full) took = took
+  lax_taken state old new w text (Err DeviceFault) took = record {
+    left = took.left;
+    records = took.records;
+    makes = (took.makes.0, took.makes.1, lax_gathered w text took.left took.records took.makes.0 took.makes.2);
+    fails = took.fails;
+  }
+  lax_taken state old new w text (Err OutOfMemory) took = took
+
 -- ---- what was logged of a group, or met the fault
 
 module _ (functions : Functions) (wanted : Wanted) {D R : Type 0} (state : D → State) (old new : StoreView D R) (w : WorldState) (text : List ℕ) where

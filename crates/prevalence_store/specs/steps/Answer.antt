@@ -9,6 +9,7 @@ use Rattle.package_table.specs.Symbols.{are_there}
 use Rattle.lisp_operators.specs.Evaluated.{IsArgument, done}
 use Rattle.lisp_operators.specs.declared.evaluated.Evaluated.{Evaluated}
 use Rattle.form_eval.specs.Acceptance.{accept}
+use Rattle.form_eval.specs.Laws.{MayEvaluate}
 use Rattle.lisp_object.specs.declared.refusal.TheConstants.{DEVICE, LOG_FULL, INPUT, OUTPUT, NO_MEMORY}
 use Rattle.lisp_reading.specs.Reading.{form}
 use Rattle.prevalence_store.specs.declared.batch.Batch.{Batch}
@@ -69,6 +70,12 @@ answered_of (Err (failure.Refused number)) = Refused number
 answered_of (Err failure.Full) = Accepted false
 answered_of (Err failure.DeviceFault) = Accepted false
 answered_of (Err failure.OutOfMemory) = Accepted false
+
+-- what its recipient hears of a form in this world of a store: if it was refused, that it is so there, and may be evaluated again
+abbrev pub MayBeHeard : Functions → Option WorldState → Answered → ReadForm → Type 0
+MayBeHeard functions left (Accepted logged) read = Unit {0}
+MayBeHeard functions left (Refused number) read =
+    (world : WorldState) → left ≡ Some world → MayEvaluate world.packages read × (accept functions.names world (object_of read.datum) ≡ Err number)
 
 abbrev pub was_logged : Answered → Bool
 was_logged (Accepted logged) = logged

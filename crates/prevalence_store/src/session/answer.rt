@@ -1,12 +1,15 @@
 // The answer to a form, and to a refusal of the reader.
+ghost use Rattle.std.specs.Option.{option_map};
 ghost use Rattle.std.specs.Prelude.{◌≡◌, Result, ◌≤◌, ◌<◌, ◌+◌, ◌^◌, ℕ, List, Some, IsSome, IfOk, IfErr, OnOk, OnErr};
 ghost use Rattle.form_eval.specs.Laws.{MayEvaluate};
 ghost use Rattle.lisp_object.specs.Datum.{object_of};
 ghost use Rattle.lisp_object.specs.declared.refusal.TheConstants.{LOG_FULL};
 ghost use Rattle.lisp_operators.specs.declared.evaluated.Evaluated.{Evaluated};
 ghost use Rattle.plist_state.specs.State.{WorldState, Worlds};
+ghost use Rattle.prevalence_store.specs.calls.Account.{Account, AreStored, with_forms};
+ghost use Rattle.prevalence_store.specs.calls.Streams.{Writes, WritesPart};
 ghost use Rattle.prevalence_store.specs.declared.failure.Failure.{Failure};
-ghost use Rattle.prevalence_store.specs.steps.Answer.{AnswersFault, AnswersForm, AnswersRead, BeginsWith, FitsForm, IsFormOf, IsReplyTo, TriesForm, refusal_that_ends, was_logged};
+ghost use Rattle.prevalence_store.specs.steps.Answer.{AnswersFault, AnswersForm, AnswersRead, BeginsWith, FitsForm, IsFormOf, IsReplyTo, MayBeHeard, TriesForm, refusal_that_ends, was_logged};
 ghost use Rattle.prevalence_store.specs.steps.Batch.{IsMarked};
 ghost use Rattle.prevalence_store.specs.steps.Course.{course_of};
 ghost use Rattle.prevalence_store.specs.steps.Schedule.{pace_of};
@@ -15,7 +18,7 @@ ghost use Rattle.prevalence_store.specs.steps.Standing.{AcknowledgesNone, HandsO
 use crate::batch::Batch;
 use crate::failure::Unadded;
 use crate::outcome::{Ended, Ending};
-use crate::recipient::Recipient;
+use crate::recipient::{OutputFault, Recipient, SessionForm};
 use crate::session::course::Course;
 use crate::session::input::PlacedForm;
 use crate::session::output::{line_of_refusal, line_of_value};
@@ -121,12 +124,14 @@ impl<D: Disk, R: MacroFunctions> Store<D, R> {
         ensures first { W.first writer.new ≡ W.first writer.old }
         ensures honest { (D.state self.new.disk).honest ≡ (D.state self.old.disk).honest }
     {
+        let place = course.place(form.start, form.start);
         let own = form.own.as_slice();
+        let read = &form.read;
+        let placed = SessionForm { read, own, place };
         let schedule = &mut course.schedule;
-        match self.answer_form(writer, wanted.mode, schedule, &form.read, own) {
+        match self.answer_form(writer, wanted.mode, schedule, &placed) {
             Err(number) => Err(Ended::Store(number)),
             Ok(answered) => {
-                let place = course.place(form.start, form.start);
                 course.pass(form.next);
                 if wanted.strict {
                     if let Answered::Refused(number) = answered {
@@ -145,14 +150,13 @@ impl<D: Disk, R: MacroFunctions> Store<D, R> {
         writer: &mut W,
         mode: Mode,
         schedule: &mut Schedule,
-        form: &ReadForm,
-        own: &[u8],
+        form: &SessionForm<'_>,
     ) -> Result<Answered, u16>
-        requires form { IsFormOf R.Meaning.functions self.old.world mode form.now own.now }
+        requires form { IsFormOf R.Meaning.functions self.old.world mode form.now.read.now form.now.own.now }
         requires stands { StandsAtForm R.Meaning.functions D.state (W.account writer.old) self.old
-            mode (object_of form.now.datum) own.now }
+            mode (object_of form.now.read.now.datum) form.now.own.now }
         ensures answers { (w : WorldState) → self.old.world ≡ Some w → (text : List ℕ) (next : ℕ)
-            → BeginsWith R.Meaning.functions w mode text (object_of form.now.datum) own.now next
+            → BeginsWith R.Meaning.functions w mode text (object_of form.now.read.now.datum) form.now.own.now next
             → AnswersForm R.Meaning.functions D.state self.old self.new w mode (pace_of schedule.old) (pace_of schedule.new)
             text (W.contents writer.old) (W.contents writer.new) result }
         ensures hands { OnOk result (HandsOn R.Meaning.functions D.state 0 1 (W.account writer.old) (W.account writer.new) self.new) }
@@ -160,7 +164,7 @@ impl<D: Disk, R: MacroFunctions> Store<D, R> {
         ensures first { W.first writer.new ≡ W.first writer.old }
         ensures honest { (D.state self.new.disk).honest ≡ (D.state self.old.disk).honest }
     {
-        match self.fit_form(writer, mode, form, own) {
+        match self.fit_form(writer, mode, form) {
             Ok(answered) => match self.renew_after_form(schedule, answered.is_logged()) {
                 None => Ok(answered),
                 Some(number) => Err(number),
@@ -175,14 +179,13 @@ impl<D: Disk, R: MacroFunctions> Store<D, R> {
         &mut self,
         writer: &mut W,
         mode: Mode,
-        form: &ReadForm,
-        own: &[u8],
+        form: &SessionForm<'_>,
     ) -> Result<Answered, u16>
-        requires form { IsFormOf R.Meaning.functions self.old.world mode form.now own.now }
+        requires form { IsFormOf R.Meaning.functions self.old.world mode form.now.read.now form.now.own.now }
         requires stands { StandsAtForm R.Meaning.functions D.state (W.account writer.old) self.old
-            mode (object_of form.now.datum) own.now }
+            mode (object_of form.now.read.now.datum) form.now.own.now }
         ensures fits { (w : WorldState) → self.old.world ≡ Some w → (text : List ℕ) (next : ℕ)
-            → BeginsWith R.Meaning.functions w mode text (object_of form.now.datum) own.now next
+            → BeginsWith R.Meaning.functions w mode text (object_of form.now.read.now.datum) form.now.own.now next
             → FitsForm R.Meaning.functions D.state self.old self.new w mode
             text (W.contents writer.old) (W.contents writer.new) result }
         ensures is_open { OnOk result (IsSome self.new.world) }
@@ -191,7 +194,7 @@ impl<D: Disk, R: MacroFunctions> Store<D, R> {
         ensures first { W.first writer.new ≡ W.first writer.old }
         ensures honest { (D.state self.new.disk).honest ≡ (D.state self.old.disk).honest }
     {
-        match self.try_form(writer, mode, form, own) {
+        match self.try_form(writer, mode, form) {
             Ok(answered) => Ok(answered),
             Err(number) => {
                 if number != LOG_FULL {
@@ -201,7 +204,7 @@ impl<D: Disk, R: MacroFunctions> Store<D, R> {
                 if let Err(number) = self.renew() {
                     return Err(number);
                 }
-                self.try_form(writer, mode, form, own)
+                self.try_form(writer, mode, form)
             }
         }
     }
@@ -212,14 +215,13 @@ impl<D: Disk, R: MacroFunctions> Store<D, R> {
         &mut self,
         writer: &mut W,
         mode: Mode,
-        form: &ReadForm,
-        own: &[u8],
+        form: &SessionForm<'_>,
     ) -> Result<Answered, u16>
-        requires form { IsFormOf R.Meaning.functions self.old.world mode form.now own.now }
+        requires form { IsFormOf R.Meaning.functions self.old.world mode form.now.read.now form.now.own.now }
         requires stands { StandsAtForm R.Meaning.functions D.state (W.account writer.old) self.old
-            mode (object_of form.now.datum) own.now }
+            mode (object_of form.now.read.now.datum) form.now.own.now }
         ensures tries { (w : WorldState) → self.old.world ≡ Some w → (text : List ℕ) (next : ℕ)
-            → BeginsWith R.Meaning.functions w mode text (object_of form.now.datum) own.now next
+            → BeginsWith R.Meaning.functions w mode text (object_of form.now.read.now.datum) form.now.own.now next
             → TriesForm R.Meaning.functions D.state self.old self.new w mode
             text (W.contents writer.old) (W.contents writer.new) result }
         ensures unchanged { IfErr result (λ number. number ≡ LOG_FULL → self.new ≡ self.old) }
@@ -231,15 +233,58 @@ impl<D: Disk, R: MacroFunctions> Store<D, R> {
         ensures honest { (D.state self.new.disk).honest ≡ (D.state self.old.disk).honest }
     {
         self.world.soundness();
-        let reply = match self.take_reply(mode, form, own) {
+        let reply = match self.take_reply(mode, form.read, form.own) {
             Ok(reply) => reply,
             Err(failure) => return Err(failure.number()),
         };
         self.keeps_its_world();
         // what is answered is stored: a line comes after its record
-        match writer.write_lines(self, reply.line.as_slice(), 1) {
+        match self.hand_on(writer, &reply, form) {
             Ok(()) => Ok(reply.answered),
             Err(_) => Err(OUTPUT),
+        }
+    }
+
+    // Hands the line of a form on. Of one that was refused the recipient hears first.
+    fn hand_on<W: Recipient<D, R>>(
+        &mut self,
+        writer: &mut W,
+        reply: &Reply,
+        form: &SessionForm<'_>,
+    ) -> Result<(), OutputFault>
+        requires is_open { IsSome self.old.world }
+        requires heard { MayBeHeard R.Meaning.functions self.old.world reply.now.answered form.now.read.now }
+        requires stored { (kept : Account D) → W.account writer.old ≡ Some kept
+            → AreStored R.Meaning.functions D.state kept self.old reply.now.line.items 1 }
+        ensures whole { OnOk result
+            (Writes (W.contents writer.old) (W.contents writer.new) reply.now.line.items) }
+        ensures part { OnErr result
+            (WritesPart (W.contents writer.old) (W.contents writer.new) reply.now.line.items) }
+        ensures kept { (later : Account D) → W.account writer.new ≡ Some later
+            → option_map (with_forms 1 self.old) (W.account writer.old) ≡ Some later }
+        ensures first { W.first writer.new ≡ W.first writer.old }
+        ensures same { self.new ≡ self.old }
+    {
+        self.tell_refusal(writer, reply.answered, form);
+        writer.write_lines(self, reply.line.as_slice(), 1)
+    }
+
+    // Tells the recipient of a form, if it was refused.
+    fn tell_refusal<W: Recipient<D, R>>(
+        &mut self,
+        writer: &mut W,
+        answered: Answered,
+        form: &SessionForm<'_>,
+    )
+        requires is_open { IsSome self.old.world }
+        requires heard { MayBeHeard R.Meaning.functions self.old.world answered form.now.read.now }
+        ensures unwritten { W.contents writer.new ≡ W.contents writer.old }
+        ensures kept { W.account writer.new ≡ W.account writer.old }
+        ensures first { W.first writer.new ≡ W.first writer.old }
+        ensures same { self.new ≡ self.old }
+    {
+        if let Answered::Refused(number) = answered {
+            writer.hear_refusal(&mut self.world, &self.macros, number, *form);
         }
     }
 }

@@ -96,8 +96,8 @@ impl<D: Disk, R: MacroFunctions> Store<D, R> {
     /// If it has groups, it is read in pieces of at most 65,536 bytes, and the forms that are whole in one of them are evaluated one after the other, and those that
     /// write are appended to the log together, for the device calls of one; their lines are written then, before the next
     /// read. What is written and what the files hold at the end is what a session without groups gives. A group ends before a
-    /// form that is not whole or is refused by the reader, before one that is refused if the session is strict, before one for whose
-    /// record the half has no room, before the form after which a snapshot may be due, and once 65,536 bytes of lines are held back. Where
+    /// form that is not whole or is refused by the reader, before one that is refused if the session is strict or its recipient listens
+    /// (`Recipient::is_listening`), before one for whose record the half has no room, before the form after which a snapshot may be due, and once 65,536 bytes of lines are held back. Where
     /// its first form cannot be in it, or memory runs out in it, that form is answered by itself.
     pub fn serve_wanted<I: Read, W: Recipient<D, R>>(
         &mut self,

@@ -36,7 +36,7 @@ pub(crate) enum Grouped {
 impl<D: Disk, R: MacroFunctions> Store<D, R> {
     // Answers a form that was read, and those that stand whole after it in a piece, once they are logged together. They are left if
     // the session has no groups, if a snapshot is due after the first if it writes, if the half has no room for them, if memory
-    // runs out, or if the first is refused and the session is strict.
+    // runs out, or if the first is refused and the session is strict or its recipient listens.
     pub(crate) fn answer_group<W: Recipient<D, R>>(
         &mut self,
         writer: &mut W,
@@ -78,13 +78,14 @@ impl<D: Disk, R: MacroFunctions> Store<D, R> {
         }
         let bytes = self.room_before_grown(course.schedule.ratio);
         let limit = GroupLimit { forms, bytes };
+        let listening = writer.is_listening();
         let turn = WholeForms {
             wanted,
             limit,
             first,
             rest,
         };
-        let made = match self.take_group(&turn) {
+        let made = match self.take_group(&turn, listening) {
             Ok(made) => made,
             Err(cause) => {
                 if matches!(cause, Unlogged::DeviceFault) {

@@ -73,8 +73,8 @@ try_form-requires-in-Err-clause-stands g c = λ v left.
     let before = stands_further functions g.D.Disk.state g.met.D.Disk.sound told c.try_form.new.self c.renew.new.self w c.args.mode s.0
     (subst (λ (store : StoreView g.row.D.Denot g.row.R.Denot). StandsBeforeAll functions g.D.Disk.state told store w c.args.mode s.0) (sym same) s.3)
     c.renew.ensures.honest here is.renews.left is.survives in
-    let form = object_of c.args.form.now.datum in
-    subst (λ u. (text : List ℕ) × (next : ℕ) × BeginsWith functions u c.args.mode text form c.args.own.now next × StandsBeforeAll functions g.D.Disk.state (g.W.Recipient.account c.try_form.new.writer) c.renew.new.self u c.args.mode text) one
+    let form = object_of c.args.form.now.read.now.datum in
+    subst (λ u. (text : List ℕ) × (next : ℕ) × BeginsWith functions u c.args.mode text form c.args.form.now.own.now next × StandsBeforeAll functions g.D.Disk.state (g.W.Recipient.account c.try_form.new.writer) c.renew.new.self u c.args.mode text) one
     (s.0, s.1, s.2, subst (λ (o : Option (Account g.row.D.Denot)). StandsBeforeAll functions g.D.Disk.state o c.renew.new.self w c.args.mode s.0) (sym (ap (λ v. g.W.Recipient.account v) (c.in-Err.ensures.quiet full))) before)
 
 pub returns-in_default-clause-hands : goal.returns-in_default-clause-hands

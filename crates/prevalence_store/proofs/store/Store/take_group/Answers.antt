@@ -1,10 +1,10 @@
-use Rattle.std.proofs.Common.{subst}
+use Rattle.std.proofs.Common.{◌||◌, ap, subst, ◌∙◌}
 use Rattle.std.proofs.lemmas.Result.{IfOk-weaker}
 use Rattle.plist_state.specs.Sound.{IsSound}
 use Rattle.plist_state.specs.State.{WorldState}
 use Rattle.prevalence_store.proofs.calls.Executing.{known_world, world_inside}
 use Rattle.prevalence_store.proofs.steps.Pendings.{may_evaluate}
-use Rattle.prevalence_store.proofs.steps.Turning.{forms_taken}
+use Rattle.prevalence_store.proofs.steps.Turning.{forms_taken, lax_taken}
 use Rattle.prevalence_store.proofs.store.Store.take_group.Goals as goal
 
 pub together-requires-clause-is_open : goal.together-requires-clause-is_open
@@ -30,7 +30,11 @@ together-requires-clause-needs g c = λ w known.
 
 pub returns-clause-takes : goal.returns-clause-takes
 returns-clause-takes g c = λ w known text begins goes_on.
-    forms_taken g.R.Meaning.Meaning.functions c.args.turn.now w g.D.Disk.state c.args.self.now c.together.new.self text begins goes_on c.together.result (c.together.ensures.made w known) (c.together.ensures.left w known)
+    let wanted = c.args.turn.now.wanted in
+    let strict = c.either-strict.result in
+    lax_taken g.R.Meaning.Meaning.functions wanted strict (λ asked. c.either-strict.ensures ∙ ap (λ b. b || c.args.listening) asked) g.D.Disk.state c.args.self.now c.together.new.self w text c.together.result
+    (forms_taken g.R.Meaning.Meaning.functions (record c.args.turn.now { wanted = record wanted { strict = strict } }) w g.D.Disk.state c.args.self.now c.together.new.self text begins goes_on c.together.result
+    (c.together.ensures.made w known) (c.together.ensures.left w known))
 
 pub returns-clause-counts : goal.returns-clause-counts
 returns-clause-counts g c =
