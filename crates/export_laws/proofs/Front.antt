@@ -7,7 +7,6 @@ use Rattle.readtable_core.specs.Tables.{standard}
 use Rattle.package_table.specs.Table.{common_lisp_user}
 use Rattle.plist_state.specs.State.{WorldState}
 use Rattle.user_macros.specs.Functions.{Functions}
-use Rattle.form_eval.specs.Acceptance.{accept}
 use Rattle.lisp_reading.specs.declared.found.Found.{Found}
 use Rattle.lisp_reading.specs.declared.found.Found.TheVariants.{Nothing as nothing, One as one, LoneDot as lone_dot, TheEnd as the_end}
 use Rattle.lisp_reading.specs.Plans.{Read, run}
@@ -15,7 +14,7 @@ use Rattle.lisp_reading.specs.Setting.{Setting, setting_of}
 use Rattle.lisp_reading.specs.Reading.{Outcome, attempt, empty, form, outcome, reads, reads_at, reads_in, refused, space_at}
 use Rattle.lisp_reading.proofs.Forms.{reads_is}
 use Rattle.session_words.specs.declared.mode.Mode.TheVariants.{Current}
-use Rattle.prevalence_store.specs.meaning.Acceptance.{form_limits, read_in}
+use Rattle.prevalence_store.specs.meaning.Acceptance.{form_limits, read_in, transacted}
 use Rattle.prevalence_store.specs.meaning.Answers.{Progress, after_forms, begun as before_forms, evaluated, one_form, one_form_more, onward}
 use Rattle.world_text.proofs.Begun.{newline_begun}
 use Rattle.export_laws.specs.Texts.{Makes, ReadsAsExported}
@@ -69,7 +68,7 @@ module _ (functions : Functions) (s : WorldState) (as_exported : ReadsAsExported
       let a : 1 + start ≡ suc start = omega arith in
       let n : 1 + next ≡ suc next = omega arith in
       let size : 1 + «end» - (1 + start) ≡ «end» - start = omega arith in
-      λ i. Some (evaluated s Current (take (size i) (drop (a i) (10 ∷ text))) (drop (n i) (10 ∷ text)) (accept functions.names s x))
+      λ i. Some (evaluated s Current (take (size i) (drop (a i) (10 ∷ text))) (drop (n i) (10 ∷ text)) (transacted functions.names s x))
   form_later empty = refl
   form_later (refused number at) = refl
 

@@ -10,13 +10,12 @@ use Rattle.package_table.specs.Table.{Table as Packages, common_lisp_user}
 use Rattle.plist_state.specs.State.{WorldState}
 use Rattle.user_macros.specs.Functions.{Functions, no_functions}
 use Rattle.lisp_operators.specs.Evaluation.{Done}
-use Rattle.form_eval.specs.Acceptance.{accept}
 use Rattle.lisp_reading.specs.declared.found.Found.TheVariants.{One as one}
 use Rattle.lisp_reading.specs.Setting.{setting_of}
 use Rattle.lisp_reading.specs.Reading.{form, outcome, reads, reads_at}
 use Rattle.lisp_reading.proofs.Forms.{drop_front, reads_is}
 use Rattle.session_words.specs.declared.mode.Mode.TheVariants.{Current}
-use Rattle.prevalence_store.specs.meaning.Acceptance.{between, form_limits, read_in}
+use Rattle.prevalence_store.specs.meaning.Acceptance.{between, form_limits, read_in, transacted}
 use Rattle.prevalence_store.specs.meaning.Answers.{begun as before_forms, evaluated, one_form, one_form_more, onward}
 use Rattle.world_text.proofs.Begun.{begun, newline_begun}
 use Rattle.world_forms.specs.Properties.{form_setting}
@@ -67,7 +66,7 @@ module _ (functions : Functions) where
   -- a form that is read so before what follows it
   pub next_made : (first now : WorldState) (whole text rest : List ℕ) (x : Object) (done : Done Object)
       → Makes functions first whole now (10 ∷ text ++ rest) → ReadsAsExported now
-      → begun form_limits now.packages common_lisp_user no_functions 100 0 (text ++ rest) ≡ Ok (one false x, length text, rest) → accept functions.names now x ≡ Ok done
+      → begun form_limits now.packages common_lisp_user no_functions 100 0 (text ++ rest) ≡ Ok (one false x, length text, rest) → transacted functions.names now x ≡ Ok done
       → Makes functions first whole done.state rest
   next_made first now whole text rest x done made as_exported is accepted =
       let p = made.progress in
@@ -88,6 +87,6 @@ module _ (functions : Functions) where
       }
 
   pub one_more_made : (first now : WorldState) (whole text rest : List ℕ) (x : Object) (done : Done Object)
-      → Makes functions first whole now (10 ∷ text ++ 10 ∷ rest) → ReadsAsExported now → IsForm now.packages text x → accept functions.names now x ≡ Ok done
+      → Makes functions first whole now (10 ∷ text ++ 10 ∷ rest) → ReadsAsExported now → IsForm now.packages text x → transacted functions.names now x ≡ Ok done
       → Makes functions first whole done.state (10 ∷ rest)
   one_more_made first now whole text rest x done made as_exported is accepted = next_made first now whole text (10 ∷ rest) x done made as_exported (is rest) accepted

@@ -24,13 +24,16 @@ use Rattle.lisp_operators.specs.Kinds.{a_symbol, one_or_each}
 use Rattle.lisp_operators.specs.Packages.{after_exports, after_imports, changed, export, finds_symbol, import, interned, made, packages_named, then_others, use_all}
 use Rattle.lisp_operators.specs.Properties.{t as t_object}
 use Rattle.evaluator.specs.Value.{value_by, values_by, value_over}
-use Rattle.form_eval.specs.Acceptance.{accept, accepted_by}
+use Rattle.form_eval.specs.Acceptance.{accepted_by}
 use Rattle.form_eval.proofs.KnownSymbols.{known_symbols}
 use Rattle.world_forms.specs.Tokens.{is_too_long, prefix_length}
 use Rattle.export_laws.specs.Objects.{call}
 use Rattle.export_laws.proofs.One.{two_values}
 use Rattle.export_laws.proofs.PackageText.{change_argument}
 use Rattle.export_laws.proofs.There.{lisp_there, nil_there, pair_there, there_alone}
+use Rattle.prevalence_store.specs.meaning.Acceptance.{transacted}
+use Rattle.prevalence_store.specs.meaning.Forgetting.{is_forgetting}
+use Rattle.prevalence_store.proofs.meaning.Transactions.{not_forgetting}
 
 prefix_short : (prefix : Name) → prefix_length prefix ≤ length prefix + 2
 prefix_short prefix = by_package (bytes_eq prefix keyword) (bytes_eq prefix common_lisp_user)
@@ -46,12 +49,12 @@ module _ (names : List Name) (s : WorldState) (sound : packages.IsSound s.packag
 
   -- the form is accepted, and leaves these packages
   abbrev pub Leaves : Object → Table → Type 0
-  Leaves x u = (done : Done Object) × (accept names s x ≡ Ok done) × (done.state ≡ with_packages s u)
+  Leaves x u = (done : Done Object) × (transacted names s x ≡ Ok done) × (done.state ≡ with_packages s u)
 
-  leaves : (x : Object) (done : Done Object) (u : Table) → are_there t x ≡ true → value_by true names s x ≡ Ok done → done.state ≡ with_packages s u → Leaves x u
-  leaves x done u there value is = (
+  leaves : (x : Object) (done : Done Object) (u : Table) → is_forgetting x ≡ false → are_there t x ≡ true → value_by true names s x ≡ Ok done → done.state ≡ with_packages s u → Leaves x u
+  leaves x done u other there value is = (
     record done { wrote = false || done.wrote },
-    ap (λ r. accepted_by true names s r x) (known_symbols t (symbols x) there) ∙ ap (also false) value,
+    not_forgetting names s x other ∙ ap (λ r. accepted_by true names s r x) (known_symbols t (symbols x) there) ∙ ap (also false) value,
     is,
   )
 
@@ -83,7 +86,7 @@ module _ (names : List Name) (s : WorldState) (sound : packages.IsSound s.packag
   unfolding common_lisp_names
   make_leaves p u goes =
       let x = call (codes "MAKE-PACKAGE") (text p ∷ []) in
-      leaves x (record { value = text p; state = with_packages s u; wrote = true }) u
+      leaves x (record { value = text p; state = with_packages s u; wrote = true }) u refl
       (pair_there t (symbol common_lisp (codes "MAKE-PACKAGE")) (pair (text p) nil) (lisp_there t sound (codes "MAKE-PACKAGE") refl)
       (pair_there t (text p) nil refl (nil_there t sound)))
       (make_value p u goes) refl
@@ -100,7 +103,7 @@ module _ (names : List Name) (s : WorldState) (sound : packages.IsSound s.packag
   pub intern_leaves : (p n h : Name) (u : Table) → IsPackage t p → after_intern t p n ≡ Ok (h, u) → Leaves (call (codes "INTERN") (text n ∷ text p ∷ [])) u
   unfolding common_lisp_names
   intern_leaves p n h u there goes =
-      leaves (call (codes "INTERN") (text n ∷ text p ∷ [])) (record { value = symbol h n; state = with_packages s u; wrote = intern_changes t p n }) u
+      leaves (call (codes "INTERN") (text n ∷ text p ∷ [])) (record { value = symbol h n; state = with_packages s u; wrote = intern_changes t p n }) u refl
       (call_there (codes "INTERN") refl (text n) (text p) refl refl) (intern_value p n h u there goes) refl
 
   -- ---- a symbol as an argument
@@ -190,7 +193,7 @@ module _ (names : List Name) (s : WorldState) (sound : packages.IsSound s.packag
     pub import_leaves : after_import t p h n ≡ Ok u → Leaves (call (codes "IMPORT") (x ∷ text p ∷ [])) u
     unfolding common_lisp_names
     import_leaves goes =
-        leaves (call (codes "IMPORT") (x ∷ text p ∷ [])) (record { value = t_object; state = with_packages s u; wrote = import_changes t p n }) u
+        leaves (call (codes "IMPORT") (x ∷ text p ∷ [])) (record { value = t_object; state = with_packages s u; wrote = import_changes t p n }) u refl
         (call_there (codes "IMPORT") refl x (text p) a.there refl) (import_value goes) refl
 
     export_value : finds_this t p h n ≡ true → after_export t p h n ≡ Ok u
@@ -206,7 +209,7 @@ module _ (names : List Name) (s : WorldState) (sound : packages.IsSound s.packag
     pub export_leaves : finds_this t p h n ≡ true → after_export t p h n ≡ Ok u → Leaves (call (codes "EXPORT") (x ∷ text p ∷ [])) u
     unfolding common_lisp_names
     export_leaves finds goes =
-        leaves (call (codes "EXPORT") (x ∷ text p ∷ [])) (record { value = t_object; state = with_packages s u; wrote = export_changes t p n }) u
+        leaves (call (codes "EXPORT") (x ∷ text p ∷ [])) (record { value = t_object; state = with_packages s u; wrote = export_changes t p n }) u refl
         (call_there (codes "EXPORT") refl x (text p) a.there refl) (export_value finds goes) refl
 
   -- ---- USE-PACKAGE
@@ -224,5 +227,5 @@ module _ (names : List Name) (s : WorldState) (sound : packages.IsSound s.packag
     pub use_leaves : after_use t p q ≡ Ok u → Leaves (call (codes "USE-PACKAGE") (text q ∷ text p ∷ [])) u
     unfolding common_lisp_names
     use_leaves goes =
-        leaves (call (codes "USE-PACKAGE") (text q ∷ text p ∷ [])) (record { value = t_object; state = with_packages s u; wrote = use_changes t p q }) u
+        leaves (call (codes "USE-PACKAGE") (text q ∷ text p ∷ [])) (record { value = t_object; state = with_packages s u; wrote = use_changes t p q }) u refl
         (call_there (codes "USE-PACKAGE") refl (text q) (text p) refl refl) (use_value goes) refl

@@ -18,7 +18,8 @@ use Rattle.evaluator.proofs.Induction.{Operators, Steps, every_value}
 use Rattle.form_eval.specs.Acceptance.{accept, accepted_by as accepted_with, with_symbols}
 use Rattle.session_words.specs.declared.mode.Mode.{Mode}
 use Rattle.prevalence_store.specs.calls.ExecuteAll.{left_by}
-use Rattle.prevalence_store.specs.meaning.Acceptance.{Acceptance, acceptance_of, accepted_of, accepts, between, read_in}
+use Rattle.prevalence_store.specs.meaning.Acceptance.{Acceptance, acceptance_of, accepted_of, accepts, between, read_in, transacted}
+use Rattle.prevalence_store.specs.meaning.Forgetting.{forgetting, is_forgetting}
 use Rattle.user_macros.specs.Functions.{Functions}
 use Rattle.message_laws.specs.Near.{IsTidy}
 use Rattle.message_laws.proofs.Tidy.{tidy_put}
@@ -93,6 +94,14 @@ module _ (names : List Name) where
   accepted_tidy : (s : WorldState) (x : Object) → Keeps s (accept names s x)
   accepted_tidy s x = after_symbols s (with_symbols s.packages (symbols x)) x
 
+  -- FORGET-NAMES leaves the property lists as they are
+  transacted_tidy : (s : WorldState) (x : Object) → Keeps s (transacted names s x)
+  transacted_tidy s x = by_test (is_forgetting x)
+    where
+      by_test : (forgets : Bool) → Keeps s (if forgets then forgetting s else accept names s x)
+      by_test true = record { kept = λ tidy. tidy }
+      by_test false = accepted_tidy s x
+
 module _ (functions : Functions) (s : WorldState) (tidy : IsTidy s.properties) where
   abbrev IsTidyAfter : Result Acceptance ℕ → Type 0
   IsTidyAfter given = IsTidy (left_by s given).properties
@@ -101,8 +110,8 @@ module _ (functions : Functions) (s : WorldState) (tidy : IsTidy s.properties) w
   of_evaluation text (Ok d) keeps = keeps.kept tidy
   of_evaluation text (Err number) keeps = tidy
 
-  of_form : (own : List ℕ) (x : Object) (whole : Bool) → IsTidyAfter (if whole then acceptance_of own (accept functions.names s x) else Err 26)
-  of_form own x true = of_evaluation own (accept functions.names s x) (accepted_tidy functions.names s x)
+  of_form : (own : List ℕ) (x : Object) (whole : Bool) → IsTidyAfter (if whole then acceptance_of own (transacted functions.names s x) else Err 26)
+  of_form own x true = of_evaluation own (transacted functions.names s x) (transacted_tidy functions.names s x)
   of_form own x false = tidy
 
   of_reading : (text : List ℕ) (read : Reading) → IsTidyAfter (accepted_of functions s text read)

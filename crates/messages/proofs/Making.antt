@@ -6,7 +6,7 @@ use Rattle.std.proofs.Common.{◌≡◌, ℕ, ◌+◌, ◌≤◌, nat_lt, Bool, 
 use Rattle.std.proofs.lemmas.Bool.{le-leb, lt-ltb, le-ltb}
 use Rattle.std.proofs.lemmas.List.{length-append}
 use Rattle.std.specs.List.{AllByRecursion}
-use Rattle.form_eval.specs.Acceptance.{accept, accepted_by}
+use Rattle.form_eval.specs.Acceptance.{accepted_by}
 use Rattle.form_eval.specs.declared.read_form.ReadForm.{ReadForm}
 use Rattle.form_eval.proofs.KnownSymbols.{known_symbols}
 use Rattle.gate_log.specs.Layout.{IsLogRecord, LogRecord}
@@ -29,7 +29,7 @@ use Rattle.messages.specs.declared.request.Request.{Request}
 use Rattle.messages.specs.declared.round.Round.{Round as Held}
 use Rattle.prevalence_store.specs.declared.outcome.Outcome.{Outcome}
 use Rattle.session_words.specs.declared.mode.Mode.TheVariants.{Current, Rescue}
-use Rattle.prevalence_store.specs.meaning.Acceptance.{Acceptance, accepts, after, logged, records_of}
+use Rattle.prevalence_store.specs.meaning.Acceptance.{Acceptance, accepts, after, logged, records_of, transacted}
 use Rattle.prevalence_store.specs.calls.ExecuteAll.{entries_of, left_by, told_by, told_of}
 use Rattle.messages.specs.Answers.{Round, answer_in, answer_to_question, asked_in, by_number, cleared, given_in, one_request, with_answer, with_asked, with_given, with_message, with_old, with_own, wrote_by}
 use Rattle.messages.specs.Position.{own_form, own_left, own_text, position_property, with_position, without_position}
@@ -40,6 +40,8 @@ use Rattle.prevalence_store.proofs.steps.Grouping.{fit_both, one_replayed}
 use Rattle.prevalence_store.proofs.steps.Taking.{one_record}
 use Rattle.prevalence_store.proofs.Surviving.{after-append}
 use Rattle.user_macros.specs.Functions.{Functions}
+use Rattle.prevalence_store.specs.meaning.Forgetting.{is_forgetting}
+use Rattle.prevalence_store.proofs.meaning.Transactions.{not_forgetting}
 
 -- ---- by a result
 
@@ -83,17 +85,22 @@ wrote_of (Err code) = false
 shown : (x : Object) (s : WorldState) (d : Done Object) → writes x s ≡ Ok d → (d.state ≡ s) × (d.wrote ≡ true)
 shown x s d same = (ap (state_of s) (sym same), ap wrote_of (sym same))
 
-own_accepted : (names : List Name) (s : WorldState) (own : Own) → are_there s.packages (own_form own) ≡ true → IsNeeded own s → (x : Object) × (accept names s (own_form own) ≡ writes x (own_left own s))
+-- it is not FORGET-NAMES
+another_form : (own : Own) → is_forgetting (own_form own) ≡ false
+another_form Clearing = refl
+another_form (Position n) = refl
+
+own_accepted : (names : List Name) (s : WorldState) (own : Own) → are_there s.packages (own_form own) ≡ true → IsNeeded own s → (x : Object) × (transacted names s (own_form own) ≡ writes x (own_left own s))
 own_accepted names s own there needed =
     let valued = own_value names s own needed in
     let known = known_symbols s.packages (symbols (own_form own)) there in
-    (valued.0, ap (λ r. accepted_by true names s r (own_form own)) known ∙ ap (also false) valued.1)
+    (valued.0, not_forgetting names s (own_form own) (another_form own) ∙ ap (λ r. accepted_by true names s r (own_form own)) known ∙ ap (also false) valued.1)
 
 no_error : (x : Object) (s : WorldState) (number : ℕ) → writes x s ≡ Err number → ⊥
 no_error x s number is = absurd (cc)
 
 -- a form of the store's own whose symbols are there does what it is for
-pub own_effect : (names : List Name) (s : WorldState) (own : Own) (d : Done Object) → are_there s.packages (own_form own) ≡ true → IsNeeded own s → accept names s (own_form own) ≡ Ok d
+pub own_effect : (names : List Name) (s : WorldState) (own : Own) (d : Done Object) → are_there s.packages (own_form own) ≡ true → IsNeeded own s → transacted names s (own_form own) ≡ Ok d
     → (d.state ≡ own_left own s) × (d.wrote ≡ true)
 own_effect names s own d there needed is =
     let here = own_accepted names s own there needed in
@@ -125,11 +132,11 @@ module _ (functions : Functions) where
   -- ---- a form of the store's own that was added
 
   pub own_added : (own : Own) (world new : WorldState) (read : ReadForm) (text : List ℕ) (e : Evaluated) → IsNeeded own world → IsOwnForm functions own world read text
-      → accept functions.names world (object_of read.datum) ≡ Ok (done e new)
+      → transacted functions.names world (object_of read.datum) ≡ Ok (done e new)
       → (new ≡ own_left own world) × (e.wrote ≡ true)
       × (after functions world (logged Rescue (own_text own) ∷ []) ≡ Some (own_left own world)) × AllByRecursion IsLogRecord (logged Rescue (own_text own) ∷ [])
   own_added own world new read text e needed is given =
-      let accepted : accept functions.names world (own_form own) ≡ Ok (done e new) = ap (accept functions.names world) (sym is.object) ∙ given in
+      let accepted : transacted functions.names world (own_form own) ≡ Ok (done e new) = ap (transacted functions.names world) (sym is.object) ∙ given in
       let effect = own_effect functions.names world own (done e new) is.all_there needed accepted in
       let recorded = one_record functions Rescue world new text (own_form own) e is.reads accepted in
       let records : records_of e.wrote Rescue text ≡ logged Rescue (own_text own) ∷ [] =
@@ -142,13 +149,13 @@ module _ (functions : Functions) where
 
   -- it is not refused
   pub own_not_refused : (own : Own) (world : WorldState) (read : ReadForm) (text : List ℕ) (number : ℕ) → IsNeeded own world → IsOwnForm functions own world read text
-      → IsNotAdded (accept functions.names world (object_of read.datum)) (unadded.Refused number) → ⊥
+      → IsNotAdded (transacted functions.names world (object_of read.datum)) (unadded.Refused number) → ⊥
   own_not_refused own world read text number needed is given =
       let here = own_accepted functions.names world own is.all_there needed in
-      no_error here.0 (own_left own world) number (sym here.1 ∙ ap (accept functions.names world) (sym is.object) ∙ given)
+      no_error here.0 (own_left own world) number (sym here.1 ∙ ap (transacted functions.names world) (sym is.object) ∙ given)
 
   pub own_round : (own : Own) (held : Held) (batch : Batch) (world new : WorldState) (read : ReadForm) (text : List ℕ) (e : Evaluated) → IsNeeded own world → IsOwnForm functions own world read text
-      → accept functions.names world (object_of read.datum) ≡ Ok (done e new) → entries_in batch ≡ entries_in held.batch ++ records_of e.wrote Rescue text
+      → transacted functions.names world (object_of read.datum) ≡ Ok (done e new) → entries_in batch ≡ entries_in held.batch ++ records_of e.wrote Rescue text
       → round_in (record held { batch = batch }) new ≡ with_own own (round_in held world)
   own_round own held batch world new read text e needed is accepted taken =
       let added = own_added own world new read text e needed is accepted in

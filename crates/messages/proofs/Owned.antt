@@ -11,7 +11,6 @@ use Rattle.lisp_object.specs.declared.refusal.TheConstants.{DEVICE}
 use Rattle.lisp_object.proofs.Objects.{object_laws}
 use Rattle.lisp_object.proofs.Restored.{datum_of, from_object}
 use Rattle.lisp_reading.specs.Reading.{form}
-use Rattle.form_eval.specs.Acceptance.{accept}
 use Rattle.form_eval.specs.declared.read_form.ReadForm.{ReadForm}
 use Rattle.package_table.specs.Lookup.{is_symbol}
 use Rattle.package_table.specs.Symbols.{are_there}
@@ -25,7 +24,7 @@ use Rattle.prevalence_store.specs.declared.failure.Unlogged.TheVariants as unlog
 use Rattle.messages.specs.declared.own.Own.{Own}
 use Rattle.messages.specs.declared.own.Own.TheVariants.{Clearing, Position}
 use Rattle.messages.specs.declared.request.Request.{Request}
-use Rattle.prevalence_store.specs.meaning.Acceptance.{read_in}
+use Rattle.prevalence_store.specs.meaning.Acceptance.{read_in, transacted}
 use Rattle.messages.specs.Answers.{Round, each_request}
 use Rattle.messages.specs.Calls.{IsNotCleared, IsNotClosed, IsNotOld, IsOwnRead, IsOwnRefused, RefusesOwn, RefusesRequest}
 use Rattle.messages.specs.Position.{own_form, own_text, position_property}
@@ -106,11 +105,11 @@ module _ (functions : Functions) where
   form_taken world own result is = subst (λ r. IfErr r (λ cause. IfRefused cause (IsOwnRefused functions world own))) (sym is) tt
 
   module _ (world : WorldState) (own : Own) (read : ReadForm) (text : List ℕ) (needed : IsNeeded own world) (whole : IsOwnForm functions own world read text) where
-    left_by : (cause : Unadded) → IsNotAdded (accept functions.names world (object_of read.datum)) cause → IfRefused cause (IsOwnRefused functions world own)
+    left_by : (cause : Unadded) → IsNotAdded (transacted functions.names world (object_of read.datum)) cause → IfRefused cause (IsOwnRefused functions world own)
     left_by OutOfMemory given = tt
     left_by (Refused number) given = absurd (own_not_refused functions own world read text number needed whole given)
 
-    pub form_left : (result : Result Unit Unadded) (cause : Unadded) → result ≡ Err cause → IsNotAdded (accept functions.names world (object_of read.datum)) cause
+    pub form_left : (result : Result Unit Unadded) (cause : Unadded) → result ≡ Err cause → IsNotAdded (transacted functions.names world (object_of read.datum)) cause
         → IfErr result (λ cause. IfRefused cause (IsOwnRefused functions world own))
     form_left result cause is given = subst (λ r. IfErr r (λ cause. IfRefused cause (IsOwnRefused functions world own))) (sym is) (left_by cause given)
 

@@ -3,7 +3,6 @@ use Rattle.std.specs.Prelude.{ℕ, ◌==◌, nat_le, max, Bool, false, ◌||◌,
 use Rattle.std.specs.Prelude.{decimal}
 use Rattle.std.specs.Prelude.{length}
 use Rattle.canon_printer.specs.Printed.{printed}
-use Rattle.form_eval.specs.Acceptance.{asked}
 use Rattle.gate_log.specs.Layout.{LogRecord}
 use Rattle.lisp_object.specs.Object.{Object}
 use Rattle.lisp_object.specs.Refusal.{name_of}
@@ -17,6 +16,7 @@ use Rattle.messages.specs.declared.own.Own.{Own}
 use Rattle.messages.specs.declared.own.Own.TheVariants.{Clearing, Position}
 use Rattle.session_words.specs.declared.mode.Mode.TheVariants.{Current, Rescue}
 use Rattle.prevalence_store.specs.meaning.Acceptance.{Acceptance, accepts, logged, read_in}
+use Rattle.prevalence_store.specs.meaning.Forgetting.{questioned}
 use Rattle.prevalence_store.specs.calls.ExecuteAll.{entries_of, left_by, told_of}
 use Rattle.messages.specs.Position.{own_left, own_text, position, position_property}
 use Rattle.user_macros.specs.Functions.{Functions}
@@ -46,7 +46,7 @@ answer_to_asked (Err number) = refusal_answer number
 
 abbrev pub answer_by_reading : Functions → WorldState → List ℕ → Reading → List ℕ
 answer_by_reading functions world text (form object start end next) =
-    if next == length text then answer_to_asked (asked functions.names world object) else refusal_answer TEXT_LEFT_OVER
+    if next == length text then answer_to_asked (questioned functions.names world object) else refusal_answer TEXT_LEFT_OVER
 answer_by_reading functions world text empty = refusal_answer END_OF_FILE
 answer_by_reading functions world text (refused number at) = refusal_answer number
 

@@ -1,16 +1,16 @@
 // A question: a form that is evaluated, and of which nothing is left.
 ghost use Rattle.std.specs.Prelude.{◌≡◌, Ok, IfOk};
-ghost use Rattle.form_eval.specs.Acceptance.{asked};
 ghost use Rattle.form_eval.specs.Laws.{MayEvaluate};
 ghost use Rattle.lisp_object.specs.Datum.{object_of};
 ghost use Rattle.lisp_operators.specs.Evaluated.{IsArgument, done};
 ghost use Rattle.messages.specs.Answers.{answer_to_asked, answer_to_question};
+ghost use Rattle.prevalence_store.specs.meaning.Forgetting.{questioned};
 
 use crate::request::QUESTION_WRITES;
 use crate::texts::{text_of_number, text_of_refusal, text_of_value};
-use form_eval::{Evaluated, EvaluationError, ReadForm, question};
+use form_eval::{Evaluated, EvaluationError, ReadForm};
 use plist_state::World;
-use prevalence_store::{WholeMacros, WholeText, read_whole};
+use prevalence_store::{WholeMacros, WholeText, ask, read_whole};
 use session_words::Mode;
 use std::alloc::{AllocError, Global};
 use user_macros::MacroFunctions;
@@ -42,11 +42,11 @@ fn answer_form<R: MacroFunctions>(
 ) -> Result<Vec<u8>, AllocError>
     requires form { MayEvaluate world.old.0.packages form.now }
     ensures answer { IfOk result (λ answer. answer.items
-        ≡ answer_to_asked (asked R.Meaning.functions.names world.old.0 (object_of form.now.datum))) }
+        ≡ answer_to_asked (questioned R.Meaning.functions.names world.old.0 (object_of form.now.datum))) }
     ensures same { world.new ≡ world.old }
 {
     let mark = world.mark_count();
-    match question(alloc, world, macros.meaning(), form) {
+    match ask(alloc, world, macros, form) {
         Ok(evaluated) => {
             // a new symbol is printed while it is there
             let answer = text_of_evaluated(alloc, world, &evaluated);

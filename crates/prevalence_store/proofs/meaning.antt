@@ -1,4 +1,5 @@
 -- On forms and worlds.
+pub mod Transactions
 pub mod Numbered
 pub mod Replaying
 pub mod Covering

@@ -1,6 +1,7 @@
 -- From what the functions below the calls do to what the calls answer.
 pub mod Fitting
 pub mod Committing
+pub mod ForgettingForms
 pub mod Grouping
 pub mod Together
 pub mod Taking

@@ -1,4 +1,5 @@
 -- What forms and files mean, in the order in which it builds up.
+pub mod Forgetting
 pub mod Acceptance
 pub mod Files
 pub mod Answers

@@ -52,6 +52,7 @@
 //! - `session`: `serve`, and its parts: `input` and `output`, the streams; `answer`, what becomes of a form that was read;
 //!   `gather`, forms that stand whole after one another, with their lines, and `together`, the answers to them; `schedule`,
 //!   when it takes snapshots; `course`, how far it has come. A line is made before its record is logged, and written after.
+//! - `transaction`: a form as it is carried out, and as a question: what `form_eval` says, and FORGET-NAMES (`forgetting`), which no crate below knows.
 //! - `recipient`: who gets the lines of a session, and hears of refusals if it listens.
 //! - `turn`: what is done between a mark of the world and the log, which is one call, `together` of `store`; `one_text`,
 //!   `all_texts` and `session::one_form` are three of them.
@@ -65,7 +66,8 @@
 //! - proofs/Surviving.antt: what calls survive, and how that joins (`one_world`, `still`).
 //! - proofs/calls/StreamLemmas.antt: known bytes of readers and writers; proofs/calls/Executing.antt: what is known of a store that is open
 //!   (`known_world`). proofs/meaning/Replaying.antt: the replay of records; proofs/meaning/Covering.antt: the world that files mean names known
-//!   macro functions alone; proofs/meaning/Numbered.antt: the numbers with which a text is refused.
+//!   macro functions alone; proofs/meaning/Numbered.antt: the numbers with which a text is refused;
+//!   proofs/meaning/Transactions.antt: a form that is not FORGET-NAMES is what form_eval says (`not_forgetting`, `no_operator`).
 //! - For turns: proofs/steps/Grouping.antt: forms that are taken together (`one_replayed`, `fit_both`, `marked_more`);
 //!   proofs/steps/Taking.antt: one of them (`one_record`).
 #![tactic(auto)]
@@ -73,6 +75,7 @@
 mod all_texts;
 mod batch;
 mod failure;
+mod forgetting;
 mod group;
 mod laws;
 mod log;
@@ -85,6 +88,7 @@ mod session;
 mod setting;
 mod step;
 mod store;
+mod transaction;
 mod turn;
 mod whole_macros;
 
@@ -102,5 +106,6 @@ pub use session_words::{Mode, Wanted};
 pub use setting::{WholeText, read_whole};
 pub use step::Step;
 pub use store::{Store, Unopened};
+pub use transaction::ask;
 pub use turn::Turn;
 pub use whole_macros::WholeMacros;

@@ -1,12 +1,15 @@
 // The macro functions of a store.
 ghost use Rattle.std.specs.Prelude.{◌≡◌};
 
+use plist_state::Seed;
 use std::marker::Model;
 use user_macros::MacroFunctions;
 
 /// Macro functions of which each one that the meaning names is registered, and answers what it means.
 pub struct WholeMacros<R: MacroFunctions> {
     pub(crate) functions: R,
+    /// By which the names of a world are hashed that is made anew.
+    pub(crate) seed: Seed,
 }
 
 impl<R: MacroFunctions> Model for WholeMacros<R> {

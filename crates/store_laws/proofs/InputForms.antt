@@ -6,10 +6,9 @@ use Rattle.gate_log.specs.Layout.{LogRecord}
 use Rattle.lisp_reading.specs.Reading.{Outcome as Reading, form, empty, refused}
 use Rattle.lisp_object.specs.Object.{Object}
 use Rattle.lisp_operators.specs.Evaluation.{Evaluation}
-use Rattle.form_eval.specs.Acceptance.{accept}
 use Rattle.plist_state.specs.State.{WorldState}
 use Rattle.session_words.specs.declared.mode.Mode.{Mode}
-use Rattle.prevalence_store.specs.meaning.Acceptance.{between, read_in}
+use Rattle.prevalence_store.specs.meaning.Acceptance.{between, read_in, transacted}
 use Rattle.prevalence_store.specs.meaning.Answers.{Progress, after_forms, begun, evaluated, last_line, one_form, one_form_more, onward}
 use Rattle.prevalence_store.specs.calls.Serve.{IsUnaccepted}
 use Rattle.store_laws.specs.Outcomes.{EndsAtRefusal, HasForms, answers}
@@ -67,7 +66,7 @@ module _ (functions : Functions) (world : WorldState) (mode : Mode) where
       → ((next : Progress) → after (suc n) text ≡ Some next → length next.rest < length far.rest → Counted text) → Counted text
   one_more takes text n far far_is (form object start stop next) read goes_on =
       let some = takes far.world far.rest object start stop next read in
-      let given : Evaluation Object = accept functions.names far.world object in
+      let given : Evaluation Object = transacted functions.names far.world object in
       let left = drop next far.rest in
       let one : Progress = evaluated far.world mode (between start stop far.rest) left given in
       let there : after (suc n) text ≡ Some (onward far one) =

@@ -12,15 +12,17 @@ use Rattle.plist_state.specs.State.{WorldState}
 use Rattle.user_macros.specs.Functions.{no_functions}
 use Rattle.lisp_operators.specs.Evaluation.{also, and_then, gives, writes}
 use Rattle.evaluator.specs.Value.{value_by, values_by, value_over}
-use Rattle.form_eval.specs.Acceptance.{accept, accepted_by}
+use Rattle.form_eval.specs.Acceptance.{accepted_by}
 use Rattle.form_eval.proofs.KnownSymbols.{known_symbols}
 use Rattle.lisp_reading.specs.declared.found.Found.TheVariants.{One as one}
-use Rattle.prevalence_store.specs.meaning.Acceptance.{form_limits}
+use Rattle.prevalence_store.specs.meaning.Acceptance.{form_limits, transacted}
 use Rattle.world_text.proofs.Begun.{begun}
 use Rattle.export_laws.specs.Objects.{call}
 use Rattle.export_laws.proofs.PackageText.{IsOperator, operator_read, room}
 use Rattle.export_laws.proofs.PartsRead.{AreRead, IsRead, deeper, list_read, listed_is_read, no_more, one_more}
 use Rattle.export_laws.proofs.There.{lisp_there, nil_there, pair_there}
+use Rattle.prevalence_store.specs.meaning.Forgetting.{is_forgetting}
+use Rattle.prevalence_store.proofs.meaning.Transactions.{not_forgetting}
 
 -- The text is read as this list, whatever follows.
 abbrev pub IsList : packages.Table → List ℕ → Object → Type 0
@@ -114,6 +116,6 @@ module _ (names : List Name) (s : WorldState) (sound : packages.IsSound s.packag
         (pair_there s.packages (call accessor ys) (list_of xs) (call_there accessor reaches inner ys us subforms) (all_there more xs vs arguments))
 
   -- a form whose symbols are there, by its value
-  pub accepted_so : (x v : Object) (later : WorldState) → are_there s.packages x ≡ true → value_by true names s x ≡ writes v later → accept names s x ≡ writes v later
-  accepted_so x v later there value =
-      ap (λ r. accepted_by true names s r x) (known_symbols s.packages (symbols x) there) ∙ ap (also false) value
+  pub accepted_so : (x v : Object) (later : WorldState) → is_forgetting x ≡ false → are_there s.packages x ≡ true → value_by true names s x ≡ writes v later → transacted names s x ≡ writes v later
+  accepted_so x v later other there value =
+      not_forgetting names s x other ∙ ap (λ r. accepted_by true names s r x) (known_symbols s.packages (symbols x) there) ∙ ap (also false) value

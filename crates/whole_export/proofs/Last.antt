@@ -22,9 +22,8 @@ use Rattle.lisp_operators.specs.Evaluation.{also, and_then, gives, writes}
 use Rattle.lisp_operators.specs.ReadBase.{is_base}
 use Rattle.lisp_operators.specs.Readtables.{after, enter_readtable}
 use Rattle.evaluator.specs.Value.{last, value_by, values_by, value_over}
-use Rattle.form_eval.specs.Acceptance.{accept}
 use Rattle.lisp_reading.specs.declared.found.Found.TheVariants.{One as one}
-use Rattle.prevalence_store.specs.meaning.Acceptance.{form_limits}
+use Rattle.prevalence_store.specs.meaning.Acceptance.{form_limits, transacted}
 use Rattle.session_words.specs.declared.content.Content.TheVariants.{World}
 use Rattle.world_forms.specs.Forms.{current_form}
 use Rattle.world_forms.specs.Tokens.{value_text}
@@ -174,8 +173,8 @@ module _ (names : List Name) (s : WorldState) (sound : packages.IsSound s.packag
       ∙ (λ i. also true (and_then (also true (and_then (and_then (table_value i) (λ y later. and_then (values_by true names later nil) (λ ys end'. gives (y ∷ ys) end'))) (λ ys end'. gives (v ∷ ys) end'))) (λ ys end'. gives (u ∷ ys) end'))) in
       ap (λ e. and_then e (λ xs later. gives (last xs) later)) whole
 
-  last_accepted : accept names s (last_object p n r) ≡ writes (symbol keyword r) (with_current s p n r)
-  last_accepted = accepted_so names s sound (last_object p n r) (symbol keyword r) (with_current s p n r) last_there last_value
+  last_accepted : transacted names s (last_object p n r) ≡ writes (symbol keyword r) (with_current s p n r)
+  last_accepted = accepted_so names s sound (last_object p n r) (symbol keyword r) (with_current s p n r) refl last_there last_value
 
 -- ---- both, of the state that is exported
 

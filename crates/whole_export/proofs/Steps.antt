@@ -40,6 +40,7 @@ use Rattle.whole_export.proofs.Arguments.{AreArguments, IsArgument, IsList, acce
 use Rattle.whole_export.proofs.ArgumentKinds.{character_is, flag, flag_is, flag_text, keyword_first, keyword_is, table_form, table_is}
 use Rattle.whole_export.proofs.Joined.{after_1, after_3, after_4, case_same, left_5, name_last, right_5}
 use Rattle.whole_export.proofs.Operators.{case_set, copy_made, dispatching_set, like_set, macro_set, sub_set}
+use Rattle.prevalence_store.specs.meaning.Forgetting.{is_forgetting}
 
 pub standard_reads : (s : WorldState) → ReadsStandard s → finite.get s.readtables standard_name ≡ Some standard → ReadsAsExported s
 standard_reads s reads first = record {
@@ -129,7 +130,7 @@ module _ (functions : Functions) (first : WorldState) (whole : List ℕ) (base :
       one_more_made functions first base whole text rest x (record { value = symbol keyword n; state = now standard; wrote = true })
       (subst (λ cs. Makes functions first whole base (10 ∷ cs)) same made) (standard_reads base reads can.standard)
       (λ later. call_is_list functions.names base sound (codes "COPY-READTABLE") is_copy more xs vs arguments (omega arith) (10 ∷ later))
-      (accepted_so functions.names base sound x (symbol keyword n) (now standard) (call_there functions.names base sound (codes "COPY-READTABLE") is_copy more xs vs arguments)
+      (accepted_so functions.names base sound x (symbol keyword n) (now standard) refl (call_there functions.names base sound (codes "COPY-READTABLE") is_copy more xs vs arguments)
       (copy_made functions.names base n can (symbol keyword standard_name) (table_form n) (call_values functions.names base sound more xs vs arguments)))
 
   -- ---- from a state that has it
@@ -141,18 +142,18 @@ module _ (functions : Functions) (first : WorldState) (whole : List ℕ) (base :
     writable : IsWritable s.readtables n t
     writable = made_writable base n t can.other can.standard many
 
-    step : (u : Table) (text rest : List ℕ) (x v : Object) → IsList base.packages text x → are_there base.packages x ≡ true
+    step : (u : Table) (text rest : List ℕ) (x v : Object) → IsList base.packages text x → is_forgetting x ≡ false → are_there base.packages x ≡ true
         → value_by true functions.names s x ≡ writes v (with_table s n u) → MadeTable t (text ++ 10 ∷ rest) → MadeTable u rest
-    step u text rest x v is known value made =
+    step u text rest x v is other known value made =
         subst (λ w. Makes functions first whole w (10 ∷ rest)) (table_twice base n t u)
         (one_more_made functions first s whole text rest x (record { value = v; state = with_table s n u; wrote = true }) made
         (standard_reads s (record { current = reads.current; base = reads.base; user = reads.user }) writable.standard)
-        (λ later. is (10 ∷ later)) (accepted_so functions.names s sound x v (with_table s n u) known value))
+        (λ later. is (10 ∷ later)) (accepted_so functions.names s sound x v (with_table s n u) other known value))
 
     called : (operator : Name) → IsOperator operator → (more : List ℕ) (xs vs : List Object) → Arguments t more xs vs → length xs ≤ 4 → (u : Table) (rest : List ℕ)
         → value_by true functions.names s (call operator xs) ≡ writes t_object (with_table s n u) → MadeTable t ((40 ∷ operator ++ more) ++ 10 ∷ rest) → MadeTable u rest
     called operator is more xs vs arguments few u rest value made =
-        step u (40 ∷ operator ++ more) rest (call operator xs) t_object (call_is_list functions.names s sound operator is more xs vs arguments few)
+        step u (40 ∷ operator ++ more) rest (call operator xs) t_object (call_is_list functions.names s sound operator is more xs vs arguments few) refl
         (call_there functions.names s sound operator is more xs vs arguments) value made
 
     table_last : Arguments t named (table_form n ∷ []) (symbol keyword n ∷ [])
@@ -172,7 +173,7 @@ module _ (functions : Functions) (first : WorldState) (whole : List ℕ) (base :
         let place = call (codes "READTABLE-CASE") (table_form n ∷ []) in
         let same : set_case_line n (case_name k) ++ rest ≡ text ++ 10 ∷ rest = case_same n rest (case_name k) in
         step (record t { letters = k }) text rest (call (codes "SETF") (place ∷ v ∷ [])) v
-        (place_is_list functions.names s sound (codes "READTABLE-CASE") is_case named (table_form n ∷ []) (symbol keyword n ∷ []) table_last (codes "SETF") is_setf last (v ∷ []) (v ∷ []) named_case (omega arith) (omega arith))
+        (place_is_list functions.names s sound (codes "READTABLE-CASE") is_case named (table_form n ∷ []) (symbol keyword n ∷ []) table_last (codes "SETF") is_setf last (v ∷ []) (v ∷ []) named_case (omega arith) (omega arith)) refl
         (place_there functions.names s sound (codes "READTABLE-CASE") is_case named (table_form n ∷ []) (symbol keyword n ∷ []) table_last (codes "SETF") is_setf last (v ∷ []) (v ∷ []) named_case)
         (case_set functions.names s n t writable k (table_form n) v (call_values functions.names s sound named (table_form n ∷ []) (symbol keyword n ∷ []) table_last)
         (call_values functions.names s sound last (v ∷ []) (v ∷ []) named_case))

@@ -76,7 +76,7 @@ module _ (functions : Functions) (whole : List ℕ) where
   first_made rest made =
       one_more_made functions initial initial whole (codes "(IN-READTABLE :STANDARD)") rest first_object (record { value = symbol keyword standard_name; state = begun; wrote = true }) made new_reads
       (λ later. call_is_list functions.names initial first_sound (codes "IN-READTABLE") is_enter_table more (symbol keyword standard_name ∷ []) (symbol keyword standard_name ∷ []) its_arguments (omega arith) (10 ∷ later))
-      (accepted_so functions.names initial first_sound first_object (symbol keyword standard_name) begun
+      (accepted_so functions.names initial first_sound first_object (symbol keyword standard_name) begun refl
       (call_there functions.names initial first_sound (codes "IN-READTABLE") is_enter_table more (symbol keyword standard_name ∷ []) (symbol keyword standard_name ∷ []) its_arguments) first_value)
 
 -- ---- the whole

@@ -7,7 +7,8 @@
 --     newer      a program with more of both
 --     none_are_among, earlier_among      no functions among any; the rules before operators among those in force
 --     before_deciding, before_places      so are the rules before some of the operators
-use Rattle.std.proofs.Common.{◌≡◌, ℕ, ◌==◌, ◌||◌, Bool, true, false, List, [], ◌∷◌, length, take, Option, None, Some, Result, Ok, Err, refl, ap, subst, ◌∙◌, inl, inr, arith}
+--     before_forgetting_among      the rules before FORGET-NAMES among those in force
+use Rattle.std.proofs.Common.{◌≡◌, ◌⊎◌, ℕ, ◌==◌, ◌&&◌, ◌||◌, Bool, true, false, List, [], ◌∷◌, length, take, Option, None, Some, Result, Ok, Err, refl, sym, ap, subst, ◌∙◌, inl, inr, arith}
 use Rattle.std.specs.Prelude.{if◌then◌else◌}
 use Rattle.std.specs.List.{list_all}
 use Rattle.std.proofs.lemmas.Bool.{or_cases, or_left, or_right}
@@ -17,6 +18,7 @@ use Rattle.lisp_object.specs.Object.{Object}
 use Rattle.lisp_object.specs.declared.refusal.TheConstants.{TEXT_LEFT_OVER}
 use Rattle.readtable_core.specs.Names.{is_among, is_dispatch_name, is_standard}
 use Rattle.readtable_core.specs.Named.{functions_of}
+use Rattle.package_table.specs.Table.{Name}
 use Rattle.user_macros.specs.Functions.{Functions, no_functions}
 use Rattle.user_macros.specs.Registry.{is_covered}
 use Rattle.user_macros.proofs.Covered.{weaker}
@@ -32,19 +34,22 @@ use Rattle.form_eval.proofs.Accepted.{accepted_with_more}
 use Rattle.world_text.specs.Snapshot.{table_named}
 use Rattle.snapshot_text.specs.Covered.{are_covered}
 use Rattle.session_words.specs.declared.mode.Mode.{Mode}
-use Rattle.prevalence_store.specs.meaning.Acceptance.{Acceptance, Rules, acceptance_of, accepted_by, accepts_by, after_by, base_in, between, form_limits, mode_of, package_in, read_by, rules_in_force, setting_by, table_in}
-use Rattle.prevalence_store.specs.meaning.BeforeOperators.{rules_before_operators}
+use Rattle.prevalence_store.specs.meaning.Acceptance.{Acceptance, Rules, acceptance_of, accepted_by, accepts_by, after_by, base_in, between, form_limits, mode_of, package_in, read_by, rules_in_force, setting_by, table_in, transacted_by}
+use Rattle.prevalence_store.specs.meaning.Forgetting.{forget_names, forgetting, is_forgetting}
+use Rattle.prevalence_store.specs.meaning.BeforeOperators.{rules_before_forgetting, rules_before_operators}
 use Rattle.prevalence_store.specs.meaning.Files.{IsWorldBy, MeansWorldBy}
 use Rattle.prevalence_store.specs.Theorem.{MeansSome}
 use Rattle.prevalence_store.proofs.meaning.Replaying.{stepped_by}
+use Rattle.prevalence_store.proofs.meaning.Transactions.{no_operator}
 use Rattle.wider_functions.specs.Among.{AreAmong, AreRulesAmong}
 use Rattle.wider_functions.specs.EarlierRules.{rules_before_deciding, rules_before_places}
 use Rattle.wider_functions.proofs.Reading.{reading_widens}
-use Rattle.wider_functions.proofs.Values.{accepting_widens}
+use Rattle.wider_functions.proofs.Values.{transacting_widens}
+use Rattle.value_functions.specs.Functions.{function_named}
 
 -- what an object that was read gives as a transaction, by these rules and with these functions
 abbrev pub accepted_object : Rules → Functions → WorldState → Object → Evaluation Object
-accepted_object by functions w x = accept_over by.based (by.operators functions.names) w x
+accepted_object by functions w x = transacted_by by functions.names w x
 
 -- What the first program reads, accepts and takes for known the second does too.
 pub record KnowsMore (was now : Rules) (fewer more : Functions) : Type 0 where
@@ -136,7 +141,7 @@ module _ (fewer more : Functions) (among : AreAmong fewer more) where
   pub more_functions : KnowsMore rules_in_force rules_in_force fewer more
   more_functions = record {
     reads = λ w mode. reading_widens form_limits (table_in w mode) (base_in w mode) w.packages (package_in w mode) fewer more among;
-    accepts = accepting_widens fewer.names more.names among.names;
+    accepts = transacting_widens fewer.names more.names among.names;
     covers = world_covered;
   }
 
@@ -160,25 +165,61 @@ none_are_among more = record {
 
 -- ---- more operators, and longer forms
 
+-- a form as evaluation has it
+more_evaluated : (fewer more : Rules) → AreRulesAmong fewer more → (names : List Name) (w : WorldState) (x : Object) (d : Done Object)
+    → accept_over fewer.based (fewer.operators names) w x ≡ Ok d → accept_over more.based (more.operators names) w x ≡ Ok d
+more_evaluated fewer more among names w x d is =
+    subst (λ based. accept_over based (more.operators names) w x ≡ Ok d) among.based
+    (accepted_with_more fewer.based (fewer.operators names) (more.operators names) (among.operators names) w x d is)
+
+-- and as a transaction: FORGET-NAMES is the same by both, or was not accepted
+more_accepted : (fewer more : Rules) → AreRulesAmong fewer more → (names : List Name) (w : WorldState) (x : Object) (d : Done Object)
+    → transacted_by fewer names w x ≡ Ok d → transacted_by more names w x ≡ Ok d
+more_accepted fewer more among names w x d = by_forgets fewer.forgets more.forgets among.forgets
+  where
+    by_test : (b : Bool) → (if b then forgetting w else accept_over fewer.based (fewer.operators names) w x) ≡ Ok d
+        → (if b then forgetting w else accept_over more.based (more.operators names) w x) ≡ Ok d
+    by_test true is = is
+    by_test false is = more_evaluated fewer more among names w x d is
+
+    by_forgets : (was now : Bool) → (was ≡ now) ⊎ ((was ≡ false) × ((names : List Name) → fewer.operators names forget_names ≡ None))
+        → (if was && is_forgetting x then forgetting w else accept_over fewer.based (fewer.operators names) w x) ≡ Ok d
+        → (if now && is_forgetting x then forgetting w else accept_over more.based (more.operators names) w x) ≡ Ok d
+    by_forgets was now (inl same) is = subst (λ b. (if b && is_forgetting x then forgetting w else accept_over more.based (more.operators names) w x) ≡ Ok d) same (by_test (was && is_forgetting x) is)
+    by_forgets true now (inr none) is = let no : true ≡ false = none.0 in absurd (cc)
+    by_forgets false now (inr none) is =
+        let other = no_operator fewer.based (fewer.operators names) (none.1 names) w x d is in
+        subst (λ b. (if b then forgetting w else accept_over more.based (more.operators names) w x) ≡ Ok d) (sym (no_test now (is_forgetting x) other))
+        (more_evaluated fewer more among names w x d is)
+
+    no_test : (now b : Bool) → b ≡ false → (now && b) ≡ false
+    no_test true b is = is
+    no_test false b is = refl
+
 pub more_rules : (fewer more : Rules) → AreRulesAmong fewer more → (functions : Functions) → KnowsMore fewer more functions functions
 more_rules fewer more among functions = record {
   reads = λ w mode text x start «end» next is. form_widens (setting_by fewer functions w mode) text more.text_limit x start «end» next among.text_limit is;
-  accepts = λ w x d is.
-      subst (λ based. accept_over based (more.operators functions.names) w x ≡ Ok d) among.based
-      (accepted_with_more fewer.based (fewer.operators functions.names) (more.operators functions.names) (among.operators functions.names) w x d is);
+  accepts = more_accepted fewer more among functions.names;
   covers = λ w is. is;
 }
 
 -- the operators before PAZTURROK had any are among those of today
 pub earlier_among : AreRulesAmong rules_before_operators rules_in_force
-earlier_among = record { text_limit = omega arith; based = refl; operators = standard_among }
+earlier_among = record { text_limit = omega arith; based = refl; operators = standard_among; forgets = inr (refl, λ names. refl) }
+
+-- and those before FORGET-NAMES, of which none has this name
+pub before_forgetting_among : AreRulesAmong rules_before_forgetting rules_in_force
+unfolding function_named
+before_forgetting_among = record { text_limit = omega arith; based = refl; operators = λ names head operator is. is; forgets = inr (refl, λ names. refl) }
 
 -- those before PAZTURROK had operators that decide, and before it had those that look up and change a place
 pub before_deciding : AreRulesAmong rules_before_deciding rules_in_force
-before_deciding = record { text_limit = omega arith; based = refl; operators = before_deciding_among }
+unfolding function_named
+before_deciding = record { text_limit = omega arith; based = refl; operators = before_deciding_among; forgets = inr (refl, λ names. refl) }
 
 pub before_places : AreRulesAmong rules_before_places rules_in_force
-before_places = record { text_limit = omega arith; based = refl; operators = before_places_among }
+unfolding function_named
+before_places = record { text_limit = omega arith; based = refl; operators = before_places_among; forgets = inr (refl, λ names. refl) }
 
 -- both: a program that has more operators, and more functions
 module _ (by : Rules) (fewer more : Functions) (rules : AreRulesAmong by rules_in_force) (among : AreAmong fewer more) where

@@ -1,8 +1,8 @@
 -- What a form gives where these are the names of macro functions, it gives where there are more. The names alone decide which function a
 -- readtable may be given; another one is refused.
---     accepting_widens      a form as a transaction
+--     transacting_widens      a form as a transaction
 use Rattle.std.proofs.Common.{◌≡◌, ℕ, Bool, true, false, not, ◌&&◌, ◌||◌, cond, List, [], ◌∷◌, ◌++◌, Option, Some, None, Result, Ok, Err, codes, bytes_eq, refl, sym, ap, subst, inl, inr}
-use Rattle.std.specs.Prelude.{IsTrue}
+use Rattle.std.specs.Prelude.{IsTrue, if◌then◌else◌}
 use Rattle.std.specs.Option.{option_map_or}
 use Rattle.std.specs.FinMap as finite
 use Rattle.std.proofs.lemmas.Bool.{and_parts, and_from, or_cases, or_left, or_right}
@@ -22,6 +22,8 @@ use Rattle.evaluator.specs.Operators.{Operator, operator_named, operator_of, paz
 use Rattle.evaluator.specs.Value.{value_by, symbol_value_by}
 use Rattle.evaluator.proofs.Widening.{Widens, OperatorWidens, widens_same, widens_also, widens_if, widens_value, widens_same_operator, called_widens}
 use Rattle.form_eval.specs.Acceptance.{accept_by, accepted_by, with_symbols}
+use Rattle.prevalence_store.specs.meaning.Acceptance.{transacted}
+use Rattle.prevalence_store.specs.meaning.Forgetting.{forgetting, is_forgetting}
 
 -- ---- outcomes
 
@@ -128,6 +130,13 @@ module _ (fewer more : List Name) (among : (name : Name) → IsTrue (is_among fe
   widens_accepted s (Ok p) x = widens_also p.1 _ _ (value_too (with_packages s p.0) x)
   widens_accepted s (Err e) x = record { same = tt }
 
-  pub accepting_widens : (s : WorldState) (x : Object) (d : Done Object) → accept_by true fewer s x ≡ Ok d → accept_by true more s x ≡ Ok d
+  accepting_widens : (s : WorldState) (x : Object) (d : Done Object) → accept_by true fewer s x ≡ Ok d → accept_by true more s x ≡ Ok d
   accepting_widens s x d is =
       (subst (λ o. Widens o (accept_by true more s x)) is (widens_accepted s (with_symbols s.packages (symbols x)) x)).same
+
+  pub transacting_widens : (s : WorldState) (x : Object) (d : Done Object) → transacted fewer s x ≡ Ok d → transacted more s x ≡ Ok d
+  transacting_widens s x d = by_test (is_forgetting x)
+    where
+      by_test : (forgets : Bool) → (if forgets then forgetting s else accept_by true fewer s x) ≡ Ok d → (if forgets then forgetting s else accept_by true more s x) ≡ Ok d
+      by_test true is = is
+      by_test false is = accepting_widens s x d is

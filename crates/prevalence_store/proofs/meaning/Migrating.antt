@@ -11,16 +11,17 @@ use Rattle.lisp_operators.specs.Evaluation.{Evaluation}
 use Rattle.lisp_reading.specs.Reading.{Outcome as Reading, form, empty, refused}
 use Rattle.lisp_reading.proofs.Widening.{form_widens}
 use Rattle.evaluator.specs.Operators.{standard_operator_of}
-use Rattle.form_eval.specs.Acceptance.{accept, accept_over}
+use Rattle.form_eval.specs.Acceptance.{accept_over}
 use Rattle.form_eval.proofs.Accepted.{accepted_as_before, accepted_without_base}
 use Rattle.plist_state.specs.State.{WorldState}
 use Rattle.world_text.specs.Snapshot.{snapshot_in}
 use Rattle.world_text.proofs.Versions.{text_with, third_by}
 use Rattle.session_words.specs.declared.mode.Mode.{Mode}
-use Rattle.prevalence_store.specs.meaning.Acceptance.{Acceptance, accepted_by, acceptance_of, accepts, after, between, mode_of, read_by, read_in, rules_in_force, setting_by}
+use Rattle.prevalence_store.specs.meaning.Acceptance.{Acceptance, accepted_by, acceptance_of, accepts, after, between, mode_of, read_by, read_in, rules_in_force, setting_by, transacted}
 use Rattle.prevalence_store.specs.meaning.Files.{ContentsMean, IsWorldOf, MeansWorld}
 use Rattle.prevalence_store.specs.meaning.Version1.{ContentsMean1, IsWorldOf1, MeansWorld1, accepts1, after1, rules1}
 use Rattle.prevalence_store.proofs.meaning.Replaying.{stepped}
+use Rattle.prevalence_store.proofs.meaning.Transactions.{no_operator, not_forgetting}
 use Rattle.user_macros.specs.Functions.{Functions}
 
 module _ (functions : Functions) where
@@ -31,16 +32,17 @@ module _ (functions : Functions) where
     Stays now given = (now ≡ Ok given) × (given.world.read_base ≡ 10)
 
     evaluated_stays : (own : List ℕ) (x : Object) (given : Acceptance) (was : Evaluation Object) → accept_over false (standard_operator_of functions.names) w x ≡ was
-        → acceptance_of own was ≡ Ok given → Stays (acceptance_of own (accept functions.names w x)) given
+        → acceptance_of own was ≡ Ok given → Stays (acceptance_of own (transacted functions.names w x)) given
     evaluated_stays own x given (Ok d) is gives =
         let same = accepted_without_base functions.names w x d (accepted_as_before false functions.names w x d is) in
         let world : d.state ≡ given.world = cc in
-        (ap (acceptance_of own) same.0 ∙ gives, ap (λ (v : WorldState). v.read_base) (sym world) ∙ same.1 ∙ base)
+        let other = no_operator false (standard_operator_of functions.names) refl w x d is in
+        (ap (acceptance_of own) (not_forgetting functions.names w x other ∙ same.0) ∙ gives, ap (λ (v : WorldState). v.read_base) (sym world) ∙ same.1 ∙ base)
     evaluated_stays own x given (Err number) is gives = absurd (cc)
 
     whole_stays : (text own : List ℕ) (x : Object) (given : Acceptance) (whole : Bool)
         → ◌≡◌ {A = Result Acceptance ℕ} (if whole then acceptance_of own (accept_over false (standard_operator_of functions.names) w x) else Err TEXT_LEFT_OVER) (Ok given)
-        → Stays (if whole then acceptance_of own (accept functions.names w x) else Err TEXT_LEFT_OVER) given
+        → Stays (if whole then acceptance_of own (transacted functions.names w x) else Err TEXT_LEFT_OVER) given
     whole_stays text own x given true gives = evaluated_stays own x given (accept_over false (standard_operator_of functions.names) w x) refl gives
     whole_stays text own x given false gives = absurd (cc)
 

@@ -21,7 +21,7 @@ use Rattle.prevalence_store.specs.declared.failure.Unlogged.TheVariants as unlog
 use Rattle.prevalence_store.specs.declared.session.answer.Answered.{Answered}
 use Rattle.session_words.specs.declared.mode.Mode.{Mode}
 use Rattle.prevalence_store.specs.declared.outcome.Ending.TheVariants.{Store}
-use Rattle.prevalence_store.specs.meaning.Acceptance.{after, between, logged, read_in, records_of}
+use Rattle.prevalence_store.specs.meaning.Acceptance.{after, between, logged, read_in, records_of, transacted}
 use Rattle.prevalence_store.specs.steps.Failure.{failure_number, is_device, of_unlogged}
 use Rattle.prevalence_store.specs.steps.Batch.{TakesForm}
 use Rattle.prevalence_store.specs.calls.Execute.{Stores, SurvivesAs}
@@ -33,6 +33,7 @@ use Rattle.prevalence_store.proofs.steps.Committing.{accepts-logged}
 use Rattle.prevalence_store.proofs.calls.Executing.{own_whole}
 use Rattle.prevalence_store.proofs.calls.Running.{stores_left}
 use Rattle.prevalence_store.proofs.meaning.Replaying.{stepped}
+use Rattle.prevalence_store.proofs.meaning.Transactions.{refused_alike}
 use Rattle.prevalence_store.specs.calls.Streams.{Writes, WritesPart}
 use Rattle.prevalence_store.specs.steps.Answer.{EndsTry, IsLeft, LeavesRecord, LogsAtOnce, MayBeHeard, StopsInForm, TriesForm, answered_of}
 use Rattle.prevalence_store.specs.steps.Output.{IsLine}
@@ -58,22 +59,22 @@ module _ (functions : Functions) where
 
   module _ {D R : Type 0} (state : D → State) (sound : (d : D) → IsHonest (state d) → IsSound (state d)) (old new : StoreView D R) (w : WorldState) (mode : Mode) (text : List ℕ) (held written : Option (List ℕ))
       (known : old.world ≡ Some w) (start stop next : ℕ) (x : Object) (is : read_in functions w mode text ≡ form x start stop next) (own : List ℕ) (own_is : own ≡ between start stop text) where
-    one_read : (given : Evaluation Object) → accept functions.names w x ≡ given
+    one_read : (given : Evaluation Object) → transacted functions.names w x ≡ given
         → one_form functions w mode text (read_in functions w mode text) ≡ Some (evaluated w mode own (drop next text) given)
     one_read given valued = ap (one_form functions w mode text) is
         ∙ (λ i. Some (evaluated w mode (sym own_is i) (drop next text) (valued i)))
 
-    one_is : (given : Evaluation Object) → accept functions.names w x ≡ given → after_forms functions 1 w mode text ≡ Some (evaluated w mode own (drop next text) given)
+    one_is : (given : Evaluation Object) → transacted functions.names w x ≡ given → after_forms functions 1 w mode text ≡ Some (evaluated w mode own (drop next text) given)
     one_is given valued = after_one_form functions w mode text _ (one_read given valued)
 
     -- its record makes the world that it left
-    record_makes : (d : Done Object) → accept functions.names w x ≡ Ok d → after functions w (logged mode own ∷ []) ≡ Some d.state
+    record_makes : (d : Done Object) → transacted functions.names w x ≡ Ok d → after functions w (logged mode own ∷ []) ≡ Some d.state
     record_makes d valued =
         let whole : read_in functions w mode own ≡ form x 0 (length own) (length own) =
         subst (λ t. read_in functions w mode t ≡ form x 0 (length t) (length t)) (sym own_is) (own_whole functions w mode text x start stop next is) in
         ap (stepped functions []) (accepts-logged functions w mode own x d whole valued)
 
-    after_stores : (e : Evaluated) (given : WorldState) → accept functions.names w x ≡ Ok (done_of e given) → Stores state old new e.wrote mode own given
+    after_stores : (e : Evaluated) (given : WorldState) → transacted functions.names w x ≡ Ok (done_of e given) → Stores state old new e.wrote mode own given
         → IsAfter functions state old new w (evaluated w mode own (drop next text) (Ok (done_of e given)))
     after_stores e given valued stores = by_wrote e.wrote stores where
       by_wrote : (wrote : Bool) → Stores state old new wrote mode own given
@@ -317,7 +318,8 @@ module _ (functions : Functions) where
   form_heard {D} {R} state old new w mode own read (Err (Refused number)) of known may = λ v left.
       let there : Some w ≡ Some v = sym known ∙ sym (ap (λ (s : StoreView D R). s.world) (of.unchanged refl)) ∙ left in
       let one : w ≡ v = cc in
-      subst (λ (u : WorldState). MayEvaluate u.packages read × (accept functions.names u (object_of read.datum) ≡ Err number)) one (may, of.cause w known)
+      subst (λ (u : WorldState). MayEvaluate u.packages read × (accept functions.names u (object_of read.datum) ≡ Err number)) one
+      (may, refused_alike functions.names w (object_of read.datum) number (of.cause w known))
   form_heard state old new w mode own read (Ok e) of known may = tt
   form_heard state old new w mode own read (Err Full) of known may = tt
   form_heard state old new w mode own read (Err DeviceFault) of known may = tt

@@ -10,14 +10,13 @@ use Rattle.lisp_object.specs.declared.refusal.TheConstants.{DEVICE, OUTPUT}
 use Rattle.lisp_operators.specs.Evaluation.{Evaluation}
 use Rattle.lisp_reading.specs.Reading.{Outcome as Reading, form, empty, refused}
 use Rattle.canon_printer.specs.Printed.{printed}
-use Rattle.form_eval.specs.Acceptance.{accept}
 use Rattle.plist_state.specs.State.{WorldState}
 use Rattle.session_words.specs.declared.mode.Mode.{Mode}
 use Rattle.prevalence_store.specs.declared.outcome.Ended.TheVariants as ways
 use Rattle.session_words.specs.declared.wanted.Wanted.{Wanted}
 use Rattle.prevalence_store.specs.declared.session.gather.Gathered.{Gathered}
 use Rattle.prevalence_store.specs.declared.session.together.Grouped.TheVariants as grouped
-use Rattle.prevalence_store.specs.meaning.Acceptance.{after, between, read_in}
+use Rattle.prevalence_store.specs.meaning.Acceptance.{after, between, read_in, transacted}
 use Rattle.prevalence_store.specs.meaning.Answers.{Progress, after_forms, begun, evaluated, last_line, one_form, onward}
 use Rattle.prevalence_store.specs.calls.ExecuteAll.{LogsAll}
 use Rattle.prevalence_store.specs.calls.Pace.{Paces, fill_of}
@@ -68,8 +67,8 @@ module _ (functions : Functions) where
 
   some_of_one : (w : WorldState) (mode : Mode) (text : List ℕ) (r : Reading) (s : Progress) → one_form functions w mode text r ≡ Some s → s.lines ≢ []
   some_of_one w mode text (form x start stop next) s is =
-      let same : evaluated w mode (between start stop text) (drop next text) (accept functions.names w x) ≡ s = cc in
-      subst (λ (p : Progress). p.lines ≢ []) same (some_line w mode (between start stop text) (drop next text) (accept functions.names w x))
+      let same : evaluated w mode (between start stop text) (drop next text) (transacted functions.names w x) ≡ s = cc in
+      subst (λ (p : Progress). p.lines ≢ []) same (some_line w mode (between start stop text) (drop next text) (transacted functions.names w x))
   some_of_one w mode text empty s is = absurd (cc)
   some_of_one w mode text (refused number at) s is = absurd (cc)
 

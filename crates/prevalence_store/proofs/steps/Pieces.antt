@@ -3,7 +3,6 @@ use Rattle.std.proofs.Common.{◌≡◌, ◌⊎◌, ℕ, zero, suc, ◌+◌, ◌
 use Rattle.std.proofs.lemmas.List.{take-append-drop, take-append-le, drop-append-le, drop_all, length-take-le}
 use Rattle.std.proofs.Math.Seq.{drop-append-add}
 use Rattle.disk_trait.specs.Disk.{State}
-use Rattle.form_eval.specs.Acceptance.{accept}
 use Rattle.lisp_operators.specs.Evaluation.{Evaluation}
 use Rattle.lisp_object.specs.Object.{Object}
 use Rattle.plist_state.specs.State.{WorldState}
@@ -12,7 +11,7 @@ use Rattle.lisp_reading.specs.Reading.{form}
 use Rattle.prevalence_store.specs.declared.session.input.Pending.{Pending}
 use Rattle.session_words.specs.declared.mode.Mode.{Mode}
 use Rattle.prevalence_store.specs.declared.outcome.Ending.TheVariants.{End}
-use Rattle.prevalence_store.specs.meaning.Acceptance.{between, read_in, setting_in}
+use Rattle.prevalence_store.specs.meaning.Acceptance.{between, read_in, setting_in, transacted}
 use Rattle.user_macros.specs.Functions.{Functions}
 use Rattle.prevalence_store.specs.meaning.Answers.{Progress, after_forms, evaluated, one_form}
 use Rattle.prevalence_store.specs.steps.Gather.{BeginsWhole}
@@ -101,7 +100,7 @@ module _ (functions : Functions) (w : WorldState) (mode : Mode) (pending : Pendi
   stop_within = let places = form_places functions w mode text x has.start has.stop has.next reads_here in (places.0, places.1)
 
   abbrev given : Evaluation Object
-  given = accept functions.names w x
+  given = transacted functions.names w x
 
   own_again : (more : List ℕ) → between has.start has.stop (text ++ more) ≡ between has.start has.stop text
   own_again more = between_more has.start has.stop text more (let a = stop_within.0 in omega arith) (let a = stop_within.1 in let b = next_within in omega arith)
@@ -221,7 +220,7 @@ module _ (functions : Functions) (w : WorldState) (mode : Mode) (text : List ℕ
 
   last_rest : (far : Progress) → after_forms functions 1 w mode text ≡ Some far → far.rest ≡ []
   last_rest far is =
-      let given = accept functions.names w x in
+      let given = transacted functions.names w x in
       let one = after_one_form functions w mode text _ (ap (one_form functions w mode text) last.reads) in
       let same : far ≡ evaluated w mode (between last.start last.stop text) (drop (length text) text) given = let both = sym is ∙ one in cc in
       ap (λ (p : Progress). p.rest) same ∙ rest_evaluated w mode (between last.start last.stop text) (drop (length text) text) given ∙ drop_all (length text) text (omega arith)

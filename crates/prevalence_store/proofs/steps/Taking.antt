@@ -4,7 +4,6 @@ use Rattle.std.specs.List.{AllByRecursion, flat_map}
 use Rattle.disk_trait.specs.Disk.{State, IsHonest, IsSound}
 use Rattle.gate_log.specs.Layout.{IsLogRecord, LogRecord, open_record}
 use Rattle.lisp_object.specs.Object.{Object}
-use Rattle.form_eval.specs.Acceptance.{accept}
 use Rattle.lisp_operators.specs.Evaluated.{done}
 use Rattle.lisp_operators.specs.declared.evaluated.Evaluated.{Evaluated}
 use Rattle.lisp_reading.specs.Reading.{form}
@@ -17,7 +16,7 @@ use Rattle.prevalence_store.specs.declared.failure.Unlogged.{Unlogged}
 use Rattle.prevalence_store.specs.declared.failure.Unlogged.TheVariants as unlogged
 use Rattle.session_words.specs.declared.mode.Mode.{Mode}
 use Rattle.prevalence_store.specs.declared.session.answer.Reply.{Reply}
-use Rattle.prevalence_store.specs.meaning.Acceptance.{after, logged, read_in, records_of}
+use Rattle.prevalence_store.specs.meaning.Acceptance.{after, logged, read_in, records_of, transacted}
 use Rattle.prevalence_store.specs.calls.Execute.{Stores, SurvivesAs, taken_in}
 use Rattle.prevalence_store.specs.calls.ExecuteAll.{LogsAll}
 use Rattle.prevalence_store.specs.calls.Store.{StoreView}
@@ -49,7 +48,7 @@ err_on (Err error) f is = f is
 module _ (functions : Functions) where
   -- the record of a form makes the world that the form left, and fits the log
   pub one_record : (mode : Mode) (w v : WorldState) (text : List ℕ) (x : Object) (e : Evaluated) → read_in functions w mode text ≡ form x 0 (length text) (length text)
-      → accept functions.names w x ≡ Ok (done e v) → (after functions w (records_of e.wrote mode text) ≡ Some v) × AllByRecursion IsLogRecord (records_of e.wrote mode text)
+      → transacted functions.names w x ≡ Ok (done e v) → (after functions w (records_of e.wrote mode text) ≡ Some v) × AllByRecursion IsLogRecord (records_of e.wrote mode text)
   one_record mode w v text x e whole valued = let is = of_value functions mode w text x (Ok (done e v)) valued whole in (is.again, is.fit)
 
   -- what the log gets of a form, by what became of it
@@ -101,7 +100,7 @@ module _ (functions : Functions) where
         nothing_survives DeviceFault is same u = absurd (cc)
 
         pub takes_nothing : (failure : Failure) → is_device failure ≡ false → new ≡ old
-            → ((u : WorldState) → old.world ≡ Some u → IsCause (accept functions.names u x) old.size old.limit (length text) failure) → TakesForm functions state old new mode text x (Err failure)
+            → ((u : WorldState) → old.world ≡ Some u → IsCause (transacted functions.names u x) old.size old.limit (length text) failure) → TakesForm functions state old new mode text x (Err failure)
         takes_nothing failure calm same cause = record {
           accepted = λ u known. tt;
           cause = cause;
@@ -111,13 +110,13 @@ module _ (functions : Functions) where
         }
 
         -- which was evaluated in the world of the store
-        module _ (w v : WorldState) (known : old.world ≡ Some w) (e : Evaluated) (valued : accept functions.names w x ≡ Ok (done e v)) where
+        module _ (w v : WorldState) (known : old.world ≡ Some w) (e : Evaluated) (valued : transacted functions.names w x ≡ Ok (done e v)) where
           here : (u : WorldState) → old.world ≡ Some u → w ≡ u
           here u is = cc
 
           takes_value : StoresBatch functions state old new w v (records_of e.wrote mode text) → TakesForm functions state old new mode text x (Ok e)
           takes_value stores = record {
-            accepted = λ u is. (v, ap (λ a. accept functions.names a x) (sym (here u is)) ∙ valued, stored_one e.wrote v stores.logs);
+            accepted = λ u is. (v, ap (λ a. transacted functions.names a x) (sym (here u is)) ∙ valued, stored_one e.wrote v stores.logs);
             cause = λ u is. tt;
             unchanged = tt;
             fault = tt;
@@ -126,7 +125,7 @@ module _ (functions : Functions) where
 
           -- and whose record was not logged
           by_wrote : (wrote : Bool) → e.wrote ≡ wrote → (cause : Unlogged) {T : Type 0} → TakesBatch functions state old new w v (records_of wrote mode text) {T = T} (Err cause)
-              → IsCause (accept functions.names w x) old.size old.limit (length text) (of_unlogged cause) × SurvivesAs functions state old new w (taken_in mode text (Err (of_unlogged cause))) 0
+              → IsCause (transacted functions.names w x) old.size old.limit (length text) (of_unlogged cause) × SurvivesAs functions state old new w (taken_in mode text (Err (of_unlogged cause))) 0
           by_wrote wrote is unlogged.OutOfMemory took = (tt, nothing_survives OutOfMemory refl (took.unchanged refl) w)
           by_wrote true is unlogged.Full took =
               let over = took.full refl in
@@ -141,7 +140,7 @@ module _ (functions : Functions) where
           takes_failure cause took =
               let told = by_wrote e.wrote refl cause took in record {
                 accepted = λ u is. tt;
-                cause = λ u is. subst (λ a. IsCause (accept functions.names a x) old.size old.limit (length text) (of_unlogged cause)) (here u is) told.0;
+                cause = λ u is. subst (λ a. IsCause (transacted functions.names a x) old.size old.limit (length text) (of_unlogged cause)) (here u is) told.0;
                 unchanged = took.unchanged;
                 fault = λ device. (took.stopped device).failed;
                 survives = λ u is. subst (λ a. SurvivesAs functions state old new a (taken_in mode text (Err (of_unlogged cause))) 0) (here u is) told.1 is;
@@ -161,7 +160,7 @@ module _ (functions : Functions) where
               let same = stores.logs.nothing refl in
               record {
                 answer = Err (Refused number);
-                takes = takes_nothing (Refused number) refl same (λ u left. let both : Some w ≡ Some u = sym known ∙ left in let one : w ≡ u = cc in subst (λ a. accept functions.names a x ≡ Err number) one is.0);
+                takes = takes_nothing (Refused number) refl same (λ u left. let both : Some w ≡ Some u = sym known ∙ left in let one : w ≡ u = cc in subst (λ a. transacted functions.names a x ≡ Err number) one is.0);
                 line = record { world = w; one = λ u left. let both : Some w ≡ Some u = sym known ∙ sym (ap (λ (s : StoreView D R). s.world) same) ∙ left in cc; line_of = is.3 };
                 told = is.4;
               }

@@ -13,14 +13,13 @@ use Rattle.prevalence_store.specs.declared.outcome.Place.{Place}
 use Rattle.session_words.specs.declared.wanted.Wanted.{Wanted}
 use Rattle.prevalence_store.specs.declared.outcome.Ending.{Ending}
 use Rattle.prevalence_store.specs.declared.outcome.Ending.TheVariants.{End, Reader, Store}
-use Rattle.prevalence_store.specs.meaning.Acceptance.{after, read_in, setting_in, table_in}
+use Rattle.prevalence_store.specs.meaning.Acceptance.{after, read_in, setting_in, table_in, transacted}
 use Rattle.lisp_reading.specs.Deciding.{decided_from}
 use Rattle.prevalence_store.specs.calls.Execute.{DeviceFails, SurvivesAs}
 use Rattle.prevalence_store.specs.calls.ExecuteAll.{AllOrNone}
 use Rattle.prevalence_store.specs.calls.Store.{LeavesAlone, StoreView, Describes}
 use Rattle.prevalence_store.specs.meaning.Answers.{Progress, after_forms, last_line, refusal_line}
 use Rattle.prevalence_store.specs.calls.Pace.{EndsInPace, IsOverIn, Pace, Paces, fill_of, first_pace}
-use Rattle.form_eval.specs.Acceptance.{accept}
 use Rattle.lisp_object.specs.Object.{Object}
 use Rattle.form_reader.specs.Reader.{MayGoOn}
 use Rattle.lisp_reading.specs.Reading.{form, empty, is_whitespace, refused}
@@ -280,7 +279,7 @@ pub record IsUnaccepted (functions : Functions) (world : WorldState) (mode : Mod
   pub stop : ℕ
   pub next : ℕ
   pub reads : read_in functions world mode text ≡ form object start stop next
-  pub refused : accept functions.names world object ≡ Err number
+  pub refused : transacted functions.names world object ≡ Err number
 
 -- In a text of which so many forms were answered and this is left, before which came so many other forms and bytes: the place
 -- that is at these offsets in what is left.

@@ -1,5 +1,5 @@
 -- Which texts a world accepts as forms, and the world after a list of forms.
-use Rattle.std.specs.Prelude.{ℕ, ◌==◌, ◌-◌, Bool, true, if◌then◌else◌, List, [], ◌∷◌, length, take, drop, Option, None, Some, Result, Ok, Err, unwrap_or}
+use Rattle.std.specs.Prelude.{ℕ, ◌==◌, ◌-◌, Bool, true, ◌&&◌, if◌then◌else◌, List, [], ◌∷◌, length, take, drop, Option, None, Some, Result, Ok, Err, unwrap_or}
 use Rattle.std.specs.FinMap as finite
 use Rattle.gate_log.specs.Layout.{LogRecord, form_limit}
 use Rattle.lisp_object.specs.Object.{Object}
@@ -16,6 +16,7 @@ use Rattle.form_eval.specs.Acceptance.{accept_over}
 use Rattle.session_words.specs.declared.mode.Mode.{Mode}
 use Rattle.session_words.specs.declared.mode.Mode.TheVariants.{Current, Rescue}
 use Rattle.user_macros.specs.Functions.{Functions}
+use Rattle.prevalence_store.specs.meaning.Forgetting.{forgetting, is_forgetting}
 use Rattle.lisp_object.specs.declared.refusal.TheConstants.{ASSERTION_FAILED}
 use Rattle.std.specs.Prelude.{◌≤◌}
 pub use Rattle.session_words.specs.Kinds.{kind_of, mode_of}
@@ -35,10 +36,12 @@ pub record Rules : Type 0 where
   pub based : Bool
   -- which objects are operators, where these are the names of macro functions
   pub operators : List Name → OperatorTable
+  -- FORGET-NAMES, as a whole form, takes names away
+  pub forgets : Bool
 
 -- the rules in force; `specs/meaning/BeforeOperators.antt` and `specs/meaning/Version1.antt` have earlier ones
 abbrev pub rules_in_force : Rules
-rules_in_force = record { text_limit = form_limit; based = true; operators = operator_of }
+rules_in_force = record { text_limit = form_limit; based = true; operators = operator_of; forgets = true }
 
 -- the limits of a form, in bytes, characters and open calls
 abbrev pub limits_by : Rules → Limits
@@ -82,6 +85,15 @@ read_in functions world mode text = read_by rules_in_force functions world mode 
 abbrev pub between : ℕ → ℕ → List ℕ → List ℕ
 between start end text = take (end - start) (drop start text)
 
+-- The value of a form, the world after it and whether it wrote, or the number of the refusal: of FORGET-NAMES what it gives, where the rules have
+-- it, and before its symbols are interned; of any other its symbols are interned, and then it is evaluated.
+abbrev pub transacted_by : Rules → List Name → WorldState → Object → Evaluation Object
+transacted_by by names world x =
+    if by.forgets && is_forgetting x then forgetting world else accept_over by.based (by.operators names) world x
+
+abbrev pub transacted : List Name → WorldState → Object → Evaluation Object
+transacted = transacted_by rules_in_force
+
 -- what evaluation gave for the object of this text, or the number of a refusal
 abbrev pub acceptance_of : List ℕ → Evaluation Object → Result Acceptance ℕ
 acceptance_of text (Ok done) = Ok (record { value = done.value; world = done.state; wrote = done.wrote; text = text })
@@ -90,7 +102,7 @@ acceptance_of text (Err number) = Err number
 -- by what was read: a text without an object is refused, and one with more after it
 abbrev pub accepted_by : Rules → Functions → WorldState → List ℕ → Reading → Result Acceptance ℕ
 accepted_by by functions world text (form object start end next) =
-    if next == length text then acceptance_of (between start end text) (accept_over by.based (by.operators functions.names) world object)
+    if next == length text then acceptance_of (between start end text) (transacted_by by functions.names world object)
     else Err TEXT_LEFT_OVER
 accepted_by by functions world text empty = Err END_OF_FILE
 accepted_by by functions world text (refused number at) = Err number
@@ -98,7 +110,7 @@ accepted_by by functions world text (refused number at) = Err number
 abbrev pub accepted_of : Functions → WorldState → List ℕ → Reading → Result Acceptance ℕ
 accepted_of functions world text read = accepted_by rules_in_force functions world text read
 
--- What a text gives in a world: the form is read whole, its symbols are interned, and then it is evaluated.
+-- What a text gives in a world: it is read whole, and its form is carried out as one transaction.
 abbrev pub accepts_by : Rules → Functions → WorldState → Mode → List ℕ → Result Acceptance ℕ
 accepts_by by functions world mode text = accepted_by by functions world text (read_by by functions world mode text)
 

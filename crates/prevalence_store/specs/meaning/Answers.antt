@@ -7,10 +7,9 @@ use Rattle.lisp_object.specs.Object.{Object}
 use Rattle.lisp_object.specs.Refusal.{name_of}
 use Rattle.session_words.specs.declared.mode.Mode.{Mode}
 use Rattle.plist_state.specs.State.{WorldState}
-use Rattle.prevalence_store.specs.meaning.Acceptance.{between, read_in, records_of}
+use Rattle.prevalence_store.specs.meaning.Acceptance.{between, read_in, records_of, transacted}
 use Rattle.lisp_reading.specs.Reading.{Outcome as Reading, form, empty, refused}
 use Rattle.lisp_operators.specs.Evaluation.{Evaluation}
-use Rattle.form_eval.specs.Acceptance.{accept}
 use Rattle.canon_printer.specs.Printed.{printed}
 use Rattle.user_macros.specs.Functions.{Functions}
 
@@ -54,7 +53,7 @@ evaluated world mode own rest (Err number) = record { world = world; rest = rest
 -- of what the text begins with, if that is a form
 abbrev pub one_form : Functions → WorldState → Mode → List ℕ → Reading → Option Progress
 one_form functions world mode text (form object start end next) =
-    Some (evaluated world mode (between start end text) (drop next text) (accept functions.names world object))
+    Some (evaluated world mode (between start end text) (drop next text) (transacted functions.names world object))
 one_form functions world mode text empty = None
 one_form functions world mode text (refused number at) = None
 

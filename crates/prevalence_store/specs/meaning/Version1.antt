@@ -1,5 +1,6 @@
 -- What version 1 made of forms and files. This is the only place that has rules of version 1: forms had at most 65,536 bytes,
--- *READ-BASE* was no value and no place, so that every world read in base 10, and only symbols of COMMON-LISP were operators.
+-- *READ-BASE* was no value and no place, so that every world read in base 10, only symbols of COMMON-LISP were operators, and no form
+-- took names away.
 use Rattle.std.specs.Prelude.{◌≡◌, ℕ, ◌≤◌, true, false, List, length, Option, None, Some, Result}
 use Rattle.std.specs.List.{AllByRecursion}
 use Rattle.disk_trait.specs.Disk.{Image}
@@ -15,7 +16,7 @@ use Rattle.session_words.specs.declared.mode.Mode.{Mode}
 use Rattle.prevalence_store.specs.meaning.Acceptance.{Acceptance, Rules, accepts_by, after_by}
 
 abbrev pub rules1 : Rules
-rules1 = record { text_limit = 65536; based = false; operators = standard_operator_of }
+rules1 = record { text_limit = 65536; based = false; operators = standard_operator_of; forgets = false }
 
 -- what a text gave in a world
 abbrev pub accepts1 : Functions → WorldState → Mode → List ℕ → Result Acceptance ℕ

@@ -25,7 +25,7 @@ use Rattle.prevalence_store.specs.declared.outcome.Ended.TheVariants as ways
 use Rattle.session_words.specs.declared.wanted.Wanted.{Wanted}
 use Rattle.prevalence_store.specs.declared.outcome.Ending.{Ending}
 use Rattle.prevalence_store.specs.declared.outcome.Ending.TheVariants.{End, Reader, Store}
-use Rattle.prevalence_store.specs.meaning.Acceptance.{between, read_in, records_of}
+use Rattle.prevalence_store.specs.meaning.Acceptance.{between, read_in, records_of, transacted}
 use Rattle.prevalence_store.specs.meaning.Answers.{Progress, begun, refusal_line, value_line}
 use Rattle.prevalence_store.specs.calls.Pace.{Fill, LogsWithRoom, Pace, Paces, fill_of, longer_by}
 use Rattle.prevalence_store.specs.calls.Serve.{Advances, IsOver, IsUnaccepted, Serves, ServesInPace}
@@ -90,11 +90,11 @@ refusal_that_ends false (Refused number) = None
 -- what a reply is to a form that was added to a batch in one world, and left the other, by what became of it
 abbrev pub IsReplyTo : (names : List (List ℕ)) → Mode → Object → List ℕ → (before after : WorldState) → (old new : Batch) → Reply → Result Evaluated Failure → Type 0
 IsReplyTo names mode object own before after old new reply (Ok e) =
-    (accept names before object ≡ Ok (done e after)) × IsArgument after.packages e.value
+    (transacted names before object ≡ Ok (done e after)) × IsArgument after.packages e.value
     × (entries_in new ≡ entries_in old ++ records_of e.wrote mode own)
     × (reply.line.items ≡ value_line after (object_of e.value)) × (reply.answered ≡ Accepted e.wrote)
 IsReplyTo names mode object own before after old new reply (Err (failure.Refused number)) =
-    (accept names before object ≡ Err number) × (after ≡ before) × (new ≡ old)
+    (transacted names before object ≡ Err number) × (after ≡ before) × (new ≡ old)
     × (reply.line.items ≡ refusal_line number) × (reply.answered ≡ Refused number)
 IsReplyTo names mode object own before after old new reply (Err failure.Full) = ⊥
 IsReplyTo names mode object own before after old new reply (Err failure.DeviceFault) = ⊥

@@ -1,7 +1,7 @@
 use Rattle.prevalence_store.specs.meaning.Acceptance.{rules_in_force}
-use Rattle.prevalence_store.specs.meaning.BeforeOperators.{rules_before_operators}
+use Rattle.prevalence_store.specs.meaning.BeforeOperators.{rules_before_forgetting, rules_before_operators}
 use Rattle.wider_functions.specs.EarlierRules.{rules_before_deciding, rules_before_places}
-use Rattle.wider_functions.proofs.Keeping.{before_deciding, before_places, earlier_among, files_keep, form_keeps, more_rules, records_keep}
+use Rattle.wider_functions.proofs.Keeping.{before_deciding, before_forgetting_among, before_places, earlier_among, files_keep, form_keeps, more_rules, records_keep}
 use Rattle.wider_functions.proofs.operators.more_operators_change_nothing.Goals as goal
 
 pub returns-clause-accepted : goal.returns-clause-accepted
@@ -27,3 +27,7 @@ returns-clause-before_deciding c = λ functions image world means.
 pub returns-clause-before_places : goal.returns-clause-before_places
 returns-clause-before_places c = λ functions image world means.
     files_keep rules_before_places rules_in_force functions functions (more_rules rules_before_places rules_in_force before_places functions) image world means
+
+pub returns-clause-before_forgetting : goal.returns-clause-before_forgetting
+returns-clause-before_forgetting c = λ functions image world means.
+    files_keep rules_before_forgetting rules_in_force functions functions (more_rules rules_before_forgetting rules_in_force before_forgetting_among functions) image world means
