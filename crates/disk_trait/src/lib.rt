@@ -12,7 +12,7 @@
 //! - `FuseDisk` and `OnceDisk` (module `faulty`) let calls of another disk fail, for tests: those that a `Faults` (module
 //!   `faults`) names.
 //! - `HostDisk` (module `host`) is two files of the operating system. It claims no honesty, and keeps the system's error of the
-//!   last call that failed; `HostError` says why they are not opened.
+//!   last call that failed; `HostError` says why they are not opened. A missing folder is made in `host/folder.rt`.
 //! - `torn_images` (module `laws`): a write or a cut that a crash cuts short may leave each mix of bytes.
 #![tactic(auto)]
 
