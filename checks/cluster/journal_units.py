@@ -15,6 +15,7 @@ sys.path.insert(0, os.path.join(os.path.dirname(os.path.abspath(__file__)), ".."
 
 from pazturrok_node import journal as journals  # noqa: E402
 from pazturrok_node.alone import AloneKeeper  # noqa: E402
+from pazturrok_node.faults import DeviceError  # noqa: E402
 from pazturrok_node.frames import OTHER_TEXT  # noqa: E402
 from pazturrok_node.journal import Journal  # noqa: E402
 from pazturrok_node.log import BehindError, FullError, Reached, Refused, RefusedStoreError  # noqa: E402
@@ -284,6 +285,31 @@ class JournalTest(unittest.IsolatedAsyncioTestCase):
         self.assertEqual(len(self.segments()), 2)
         one.close()
         self.assertEqual(await self.given(self.begun(), 0), [(1, b"a", b"1"), (2, b"b", b"2")])
+
+    async def test_trouble_until_there_is_room(self):
+        """Why nothing is taken is told until there is room, also where nobody sends anything more."""
+        one = self.begun()
+        await one.append([(b"a", b"1")], 0)
+        for call, size in (("open", 0), ("pwrite", journals.SEGMENT)):
+            with mock.patch.object(journals, "SEGMENT", size), mock.patch.object(journals.os, call, side_effect=FULL):
+                with self.assertRaises(FullError):
+                    await one.append([(b"b", b"2")], 0)
+                await one.look_again()
+                self.assertIn("No space left on device", str(one.trouble))
+            await one.look_again()
+            self.assertIsNone(one.trouble)
+        self.assertEqual(await one.append([(b"b", b"2")], 0), [2])
+        one.close()
+        self.assertEqual(await self.given(self.begun(), 0), [(1, b"a", b"1"), (2, b"b", b"2")])
+
+    async def test_a_sync_that_failed(self):
+        """That is a fault of the device, and not want of room, whatever error it tells."""
+        one = self.begun()
+        for error in (FULL, OSError(errno.EIO, "Input/output error")):
+            with mock.patch.object(journals.os, "fdatasync", side_effect=error), self.assertRaises(DeviceError):
+                await one.append([(b"a", b"1")], 0)
+            with mock.patch.object(journals.os, "fdatasync", side_effect=error), self.assertRaises(DeviceError):
+                one.append_at_once([(b"a", b"1")])
 
     async def test_no_room_for_a_skip(self):
         """The store ends there again, and then it is tried again."""

@@ -24,6 +24,7 @@ from pazturrok_node.answers import Answers  # noqa: E402
 from pazturrok_node.appender import Appender  # noqa: E402
 from pazturrok_node.child import Child  # noqa: E402
 from pazturrok_node.etcd import Etcd  # noqa: E402
+from pazturrok_node.faults import DeviceError, Fault  # noqa: E402
 from pazturrok_node.frames import ANSWER, LIMIT, LOST, NO_ROOM, REQUEST, Frames, NoFrameError, request_of  # noqa: E402
 from pazturrok_node.log import BusyError, FullError, Refused  # noqa: E402
 from pazturrok_node.main import free_socket  # noqa: E402
@@ -170,6 +171,7 @@ class AppenderTest(unittest.IsolatedAsyncioTestCase):
             await asyncio.wait_for(self.task, 1)
 
 
+CAUSES = (b"Input/output error (os error 5)", b"No space left on device (os error 28)", b"locked by another process", b"there is no store in this folder")
 SPEAKS = "import os, sys; os.write(1, {!r}); os.write(2, {!r}); sys.stdin.read()"
 
 
@@ -190,15 +192,31 @@ class ChildTest(unittest.IsolatedAsyncioTestCase):
         one.hear(heard.append)
         while b"".join(heard) != b"5 1\nA\n":
             await asyncio.sleep(0.01)
-        self.assertEqual((one.position, one.is_over.done(), await one.end(), one.refusal), (17, False, 0, b"! 64 LOG-FULL"))
+        self.assertEqual((one.position, one.is_over.done(), await one.end(), one.fault), (17, False, 0, Fault(b"! 64 LOG-FULL")))
         self.assertTrue(one.is_over.done())
 
     async def test_what_is_no_position(self):
         for told in (b"at x\n", b"at 017\n", b"\n", b"17\n"):
-            self.assertIsNone(await self.started(told), told)
-        self.assertIsNone(await Child.start([sys.executable, "-c", "print('at', end=' ')"]))
+            self.assertEqual(await self.started(told), Fault(), told)
+        self.assertEqual(await Child.start([sys.executable, "-c", "print('at', end=' ')"]), Fault())
         with self.assertRaises(OSError):
             await Child.start(["/nowhere/program"])
+
+    async def test_why_it_ended(self):
+        broken, room, locked, missing = [await self.started(b"none\n", b"! 60 DEVICE\n%s\n" % cause) for cause in CAUSES]
+        self.assertEqual(str(broken), "60 DEVICE: Input/output error (os error 5)")
+        for was_open in (False, True):
+            with self.assertRaises(DeviceError):
+                broken.look(was_open)
+            room.look(was_open)
+            locked.look(was_open)
+            with self.assertRaises(FileNotFoundError):
+                missing.look(was_open)
+        denied = Fault().heard(b"! 60 DEVICE\n").heard(b"Permission denied (os error 13)\n").heard(b"more\n")
+        denied.look(was_open=False)
+        with self.assertRaises(DeviceError):
+            denied.look(was_open=True)
+        Fault(b"! 64 LOG-FULL", "(os error 5)").look(was_open=True)
 
     async def test_what_is_no_answer(self):
         """It is left, and read all the same until it ends: a program that writes much is not kept from that."""

@@ -60,7 +60,7 @@ class AloneKeeper(Keeper):
 
 
 class Sweeper:
-    """Deletes what is old from the journal."""
+    """Deletes what is old from the journal, and looks for room where there was none."""
 
     def __init__(self, journal: Journal, node: Node, marker: Marker) -> None:
         self._journal, self._node, self._marker = journal, node, marker
@@ -69,6 +69,7 @@ class Sweeper:
         await self._node.is_admitted.wait()
         while True:
             await asyncio.sleep(BEAT)
+            await self._journal.look_again()
             if self._journal.has_old:
                 await self._journal.trim(self._node.lasting)
             self._marker.heed()

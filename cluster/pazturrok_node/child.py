@@ -10,6 +10,7 @@ import os
 import sys
 from collections.abc import Callable, Sequence
 
+from .faults import Fault
 from .frames import POSITION, NoFrameError
 
 logger = logging.getLogger(__name__)
@@ -30,8 +31,8 @@ class Child:
     def __init__(self, process: asyncio.subprocess.Process, answers: int) -> None:
         loop = asyncio.get_running_loop()
         self.process, self.position = process, 0
-        self.refusal = b""
-        """The last refusal that it wrote to standard error: why it ended, where it said so."""
+        self.fault = Fault()
+        """Why it ended, where it wrote that to standard error."""
         self.is_over: asyncio.Future[None] = loop.create_future()
         """Done once the program answers no more, or what is none of its answers."""
         self._answers = answers
@@ -43,8 +44,8 @@ class Child:
         loop.add_reader(answers, self._read)
 
     @classmethod
-    async def start(cls, words: Sequence[str]) -> Child | None:
-        """Starts the program: None where it ends before it has told its position."""
+    async def start(cls, words: Sequence[str]) -> Child | Fault:
+        """Starts the program: why it ended, where it ends before it has told its position."""
         pipe, (answers, its_end) = asyncio.subprocess.PIPE, os.pipe()
         try:
             process = await asyncio.create_subprocess_exec(*words, stdin=pipe, stdout=its_end, stderr=pipe)
@@ -54,7 +55,8 @@ class Child:
         finally:
             os.close(its_end)
         assert process.stdin
-        with contextlib.suppress(OSError):
+        # a program that has ended already has no pipe: ValueError
+        with contextlib.suppress(OSError, ValueError):
             fcntl.fcntl(process.stdin.get_extra_info("pipe"), SET_PIPE_SIZE, PIPE)
         child = cls(process, answers)
         try:
@@ -66,14 +68,13 @@ class Child:
             return child
         await child.end()
         logger.error("the store ended with status %s as it was opened", process.returncode)
-        return None
+        return child.fault
 
     async def _hear_complaints(self) -> None:
         """Writes on what the program writes to standard error."""
         assert self.process.stderr
         while line := await self.process.stderr.readline():
-            if line.startswith(b"! "):
-                self.refusal = line.strip()
+            self.fault = self.fault.heard(line)
             sys.stderr.write(line.decode("utf-8", "replace"))
             sys.stderr.flush()
 

@@ -23,6 +23,7 @@ from .clients import MOST_CLIENTS, Clients
 from .compare import Comparer
 from .etcd import Etcd, EtcdError, PutBackError
 from .etcd_log import EtcdLog
+from .faults import ENDED_BY_DEVICE, NO_STORE, is_of_device
 from .journal import Journal
 from .log import BehindError, RefusedStoreError
 from .marks import Marker
@@ -45,6 +46,10 @@ REFUSED = "%s. Nothing more is carried out"
 PUT_BACK = "etcd is another one, or was put back to an older state, while this node ran"
 SEED_ALONE = "a store that was put back goes without the journal of the one before it"
 SEED = "have it take the store of another node (pazturrok-node seed)"
+
+DEVICE_FAILED = "%s. The device has failed, and what the system still has in memory is not what the disk has: look at the disk, and start the machine anew before this node"
+
+HALVES = ("half-a", "half-b")
 
 NO_AUTHORITY = "{}: it is no certificate of who signs for others: {}"
 NO_CERTIFICATE = "{}: it is no certificate with its key: {}"
@@ -207,8 +212,9 @@ async def tell_ready(asked: argparse.Namespace, node: Node) -> None:
 async def serve_alone(asked: argparse.Namespace) -> int:
     """A store on this machine, without etcd."""
     folder = asked.order[1]
-    if asked.existing and not os.path.isdir(folder):
-        raise OSError(errno.ENOENT, "there is no store in this folder", folder)
+    if asked.existing and not all(os.path.exists(os.path.join(folder, half)) for half in HALVES):
+        # as where a disk is not mounted: no journal is made in its place
+        raise FileNotFoundError(errno.ENOENT, NO_STORE, folder)
     journal = Journal(folder, asked.keep)
     node = Node(journal, AloneKeeper(journal), program_of(asked), asked.store_silence)
     appender = Appender(node)
@@ -281,6 +287,9 @@ async def carry_out(asked: argparse.Namespace) -> int:
         return 3
     except OSError as error:
         # as where there is no such program, or another one listens at this place
+        if is_of_device(error):
+            logger.error(DEVICE_FAILED, error)
+            return ENDED_BY_DEVICE
         logger.error("%s", error)
         return 3
 

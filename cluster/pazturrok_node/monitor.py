@@ -61,10 +61,11 @@ class Monitor:
     def troubles(self) -> list[str]:
         """Why this node does not answer now; nothing where it is well."""
         found, silent = [], self._node.log.silent_seconds
+        why = str(self._node.fault) and f" ({self._node.fault})"
         if not self._node.is_admitted.is_set():
-            found.append("the store was not opened yet")
+            found.append(f"the store was not opened yet{why}")
         elif not self._node.is_running:
-            found.append("the store has ended, and is started again")
+            found.append(f"the store has ended{why}, and is started again")
         if self._node.stuck:
             found.append(f"the store ends at entry {self._node.stuck} again and again")
         found += [trouble for trouble in (self._node.log.trouble, self._node.difference) if trouble]

@@ -12,6 +12,7 @@ from typing import NamedTuple
 
 from .answers import Answers
 from .child import Child
+from .faults import Fault
 from .frames import ANSWER, LOST, NO_MEMORY, Frames, NoFrameError, message, question
 from .log import COMPARED, MARKS, BehindError, Entry, Keeper, Log, Reached
 from .tasks import Waits, end_all
@@ -59,6 +60,8 @@ class Node:
         """The number of the last mark that the store could not read, and of the last one after which worlds are compared."""
         self.difference = ""
         """How the world of the store differs from those of others, where nobody can say which of them is right."""
+        self.fault = Fault()
+        """Why the store has ended last, where it said so."""
         self.is_admitted = asyncio.Event()
         self.count_of_entries = self.count_of_ends = 0
         """How many entries the store has answered, and how often it has ended, while this node ran."""
@@ -113,12 +116,15 @@ class Node:
     # The store
 
     async def run(self) -> None:
-        """Starts the store whenever it ends, and feeds it from its position on."""
+        """Starts the store whenever it ends, and feeds it from its position on. DeviceError where its device has failed."""
         pause = 0.05
         while True:
             await self._keeper.look()
             child = await Child.start(self._words)
-            if child:
+            if isinstance(child, Fault):
+                self.fault = child
+                child.look(was_open=False)
+            else:
                 before = self.position
                 try:
                     status = await self._follow(child)
@@ -126,9 +132,11 @@ class Node:
                     await self._keeper.catch_up(error)
                     continue
                 logger.error("the store ended with status %s, at %d", status, self.position)
+                self.fault = child.fault
+                self.fault.look(was_open=True)
                 self._count_end()
                 if self.stuck:
-                    await self._keeper.ended_at(self.stuck, child.refusal)
+                    await self._keeper.ended_at(self.stuck, self.fault.refusal)
                 pause = 0.05 if self.position > before else pause
             await asyncio.sleep(pause)
             pause = min(2 * pause, LONGEST_PAUSE)

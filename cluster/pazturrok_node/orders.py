@@ -7,6 +7,7 @@ from collections.abc import Sequence
 
 from .child import Child
 from .etcd_log import EPOCH, EtcdLog
+from .faults import Fault
 from .replica import Replica
 from .reports import Reports
 from .seed import BEFORE, NoSeedError
@@ -19,7 +20,8 @@ async def begin(log: EtcdLog, replica: Replica, words: Sequence[str], is_again: 
     if before is not None and not is_again:
         return refused("etcd has a log of this name already: --again begins another one in its place")
     child = await Child.start(words)
-    if child is None:
+    if isinstance(child, Fault):
+        child.look(was_open=False)
         return 3
     try:
         identity = await replica.begin(child.position, before)

@@ -117,7 +117,7 @@ class Replica(Keeper):
         shutil.rmtree(empty, ignore_errors=True)
         child = await Child.start([self._program, "run", empty, "--messages"])
         try:
-            if child:
+            if isinstance(child, Child):
                 await child.end()
             return await self._world(empty) == await self._world()
         finally:
