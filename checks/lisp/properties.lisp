@@ -27,10 +27,22 @@
   (setf (property store 'apple :other) #(1 2))
   (expect "a property list" t (equalp '(price 7 :other #(1 2)) (properties store 'apple))))
 
+(defun check-properties-anywhere (store)
+  "Somebody makes another package current, which uses no other, and another read base: the calls mean the same symbols and numbers."
+  (dolist (form '("(MAKE-PACKAGE \"SHOP\")" "(SETF *READ-BASE* 16.)" "(IN-PACKAGE \"SHOP\")"))
+    (feed-form store form))
+  (expect "what is set" '(10 1/12 (plum)) (setf (property store 'plum 'price) '(10 1/12 (plum))))
+  (expect "what was set" '(10 1/12 (plum)) (property store 'plum 'price 11))
+  (expect "what is compared and set" '(t nil) (list (compare-and-set store 'plum 'price '(10 1/12 (plum)) 20) (compare-and-set store 'plum 'price 10 9)))
+  (dolist (form '("(COMMON-LISP:IN-PACKAGE \"COMMON-LISP-USER\")" "(SETF *READ-BASE* 10.)"))
+    (feed-form store form))
+  (expect "where it was set" 20 (feed-form store "(GET 'PLUM 'PRICE)")))
+
 (define-check properties-by-a-pipe ()
   (with-store (store *program* (subfolder "properties"))
     (check-properties store)))
 
 (define-check properties-by-messages ()
   (with-feed (feed *program* (subfolder "properties of a feed"))
-    (check-properties feed)))
+    (check-properties feed)
+    (check-properties-anywhere feed)))

@@ -5,6 +5,7 @@ from __future__ import annotations
 import os
 import shutil
 import socket
+import ssl
 import subprocess
 import sys
 import threading
@@ -14,9 +15,10 @@ from unittest import mock
 
 from pazturrok import ClosedStoreError, LostAnswerError, NodeStore, NoNodeError, RefusedError, UnsendableError
 from lib.places import CLIENT
-from support import StoreTest
+from support import LONG, PROGRAM, StoreTest
 
 CHECKS = os.path.join(os.path.dirname(os.path.abspath(__file__)), "..")
+NODE = os.path.join(CHECKS, "..", "cluster", "pazturrok-node")
 sys.path.insert(0, os.path.join(CHECKS, "cluster"))
 
 from fake_nodes import ADD, LOSE, FakeNodes  # noqa: E402
@@ -169,3 +171,33 @@ class RealNodes(StoreTest):
         cluster.nodes[0].start()
         with NodeStore([f"{host}:{port}" for host, port in cluster.places[:1]]) as store:
             self.assertEqual(100, store.read(LOOK))
+
+
+@unittest.skipUnless(shutil.which("openssl"), "openssl is not installed")
+class Certificates(StoreTest):
+    def test_a_node_with_another_certificate_is_told_at_once(self) -> None:
+        from cluster import free_ports
+        from secrets import Secrets
+
+        ours, others, port = Secrets(self.folder), Secrets(self.folder, "others"), free_ports(1)[0]
+        words = [NODE, os.path.join(self.folder, "store"), "--alone", "--listen", f"127.0.0.1:{port}", "--program", PROGRAM]
+        node = subprocess.Popen([sys.executable, "-B", *words, "--cert", ours.both, "--client-ca", ours.ca], stderr=subprocess.DEVNULL)
+        self.addCleanup(node.wait)
+        self.addCleanup(node.terminate)
+        place, plain = f"127.0.0.1:{port}", self.nodes_without_tls()
+        with NodeStore([place], context=ours.context(), time_limit=LONG) as store:
+            self.assertEqual(7, store.put("A", "B", 7))
+        with NodeStore([place], context=others.context(), time_limit=LONG) as store, self.assertRaises(NoNodeError) as raised:
+            store.get("A", "B")
+        self.assertLess(raised.exception.seconds, LONG / 4)
+        self.assertIn("certificate verify failed", str(raised.exception))
+        nameless = ssl.create_default_context(cafile=ours.ca)
+        with NodeStore([place], context=nameless, time_limit=2.0) as store, self.assertRaisesRegex(NoNodeError, "the certificate of this client"):
+            store.get("A", "B")
+        with NodeStore([plain, place], context=ours.context(), time_limit=LONG, patience=2.0) as store:
+            self.assertEqual(7, store.get("A", "B"))
+
+    def nodes_without_tls(self) -> str:
+        nodes = FakeNodes(count=1)
+        self.addCleanup(nodes.close)
+        return nodes.names[0]

@@ -6,9 +6,10 @@ import os
 import subprocess
 import sys
 import time
+from fractions import Fraction
 from typing import Union
 
-from pazturrok import MessageStore, NodeStore, Store, StoreError, Symbol, keyword
+from pazturrok import MessageStore, NodeStore, Store, StoreError, Symbol, keyword, quote
 from support import LONG, PROGRAM, StoreTest
 
 NODE = os.path.join(os.path.dirname(os.path.abspath(__file__)), "..", "..", "cluster", "pazturrok-node")
@@ -57,12 +58,28 @@ class Calls(StoreTest):
         self.assertEqual((town, [town]), (store.get("TOWN", "NAME"), store.get("TOWN", "NAMES")))
         self.assertEqual((8, []), (store.get("APPLE", "PRICE"), store.get("QUEUE", "JOBS", 1)))
 
+    def has_calls_anywhere(self, store: Union[MessageStore, NodeStore], other: Union[MessageStore, NodeStore]) -> None:
+        """Somebody makes another package current, which uses no other, and another read base: the calls mean the same symbols and numbers."""
+        for form in ('(MAKE-PACKAGE "SHOP")', "(SETF *READ-BASE* 16.)", '(IN-PACKAGE "SHOP")'):
+            other.do(form)
+        plum = [10, Fraction(1, 12), Symbol("PLUM")]
+        self.assertEqual(plum, store.put("PLUM", "PRICE", plum))
+        self.assertEqual((plum, 11), (store.get("PLUM", "PRICE"), store.get("PLUM", "SOLD", 11)))
+        self.assertEqual([(Symbol("PRICE"), plum)], store.plist("PLUM"))
+        self.assertEqual((True, False), (store.compare_and_set("PLUM", "PRICE", plum, [20]), store.compare_and_set("PLUM", "PRICE", plum, 9)))
+        self.assertEqual((20, []), (store.take("PLUM", "PRICE"), store.take("PLUM", "PRICE")))
+        self.assertEqual(21, store.do([Symbol("SETF"), [Symbol("GET"), quote(Symbol("PLUM")), quote(Symbol("SOLD"))], 21]))
+        for form in ('(COMMON-LISP:IN-PACKAGE "COMMON-LISP-USER")', "(SETF *READ-BASE* 10.)"):
+            other.do(form)
+        self.assertEqual([Symbol("PRICE"), [], Symbol("SOLD"), 21], other.do("(SYMBOL-PLIST 'PLUM)"))
+
     def test_pipe(self) -> None:
         self.has_calls(self.store())
 
     def test_messages(self) -> None:
         with MessageStore(os.path.join(self.folder, "messages"), PROGRAM, time_limit=LONG) as store:
             self.has_calls(store)
+            self.has_calls_anywhere(store, store)
 
     def test_node(self) -> None:
         place = f"unix:{self.folder}/socket"
@@ -72,6 +89,13 @@ class Calls(StoreTest):
         self.addCleanup(node.terminate)
         with NodeStore([place], time_limit=LONG) as store:
             self.has_calls(store)
+            with NodeStore([place], time_limit=LONG) as other:
+                self.has_calls_anywhere(store, other)
+            for _ in range(2):
+                self.assertEqual("one", store.put("NAMED", "LIST", ["one", "two"], name="put-1")[0])
+                self.assertEqual("one", store.take("NAMED", "LIST", name="take-1"))
+                self.assertIs(True, store.compare_and_set("NAMED", "LIST", ["two"], [], name="set-1"))
+            self.assertEqual([], store.get("NAMED", "LIST"))
             store.put("ALL", "NUMBER", 0)
             way = {**os.environ, "PYTHONPATH": os.pathsep.join(sys.path)}
             order = [sys.executable, "-c", WORK, place]

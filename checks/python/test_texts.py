@@ -22,6 +22,7 @@ from pazturrok import (
 )
 from pazturrok.answers import AnswerSplitter, parse_answer, refusal_of
 from pazturrok.references import with_references, without_references
+from pazturrok.store import changes_naming
 from pazturrok.texts import is_one_form
 
 
@@ -234,6 +235,34 @@ class Printing(unittest.TestCase):
         for value, text in rows:
             with self.subTest(text):
                 self.assertEqual(text, printed(value))
+
+    def test_what_means_the_same_anywhere(self) -> None:
+        rows: list[tuple[Any, str]] = [
+            (Symbol("X"), "CL-USER::X"),
+            (Symbol("x"), "CL-USER::|x|"),
+            (Symbol("LIST"), "CL:LIST"),
+            (True, "CL:T"),
+            (None, "()"),
+            (keyword("X"), ":X"),
+            (Symbol("X", None), "#:X"),
+            (Symbol("X", "P"), "P::X"),
+            ([Symbol("GET"), quote(Symbol("X")), quote([1, []])], "(CL:GET 'CL-USER::X '(1. ()))"),
+            (([10, -1, Fraction(1, 12), "10"],), '#((10. -1. #10R1/12 "10"))'),
+            (DottedList((1,), 2), "(1. . 2.)"),
+        ]
+        for value, text in rows:
+            with self.subTest(text):
+                self.assertEqual(text, printed(value, anywhere=True))
+        longest = "X" * (4096 - len("CL-USER::"))
+        self.assertEqual(f"CL-USER::{longest}", printed(Symbol(longest), anywhere=True))
+        with self.assertRaises(UnsendableError):
+            printed(Symbol(longest + "X"), anywhere=True)
+
+    def test_what_changes_names(self) -> None:
+        for form in ('(IN-PACKAGE "P")', "(|IN-PACK|AGE P)", '#\\" (import \'X) "', '(LIST "a" (EXPORT "b"))', '"open (IMPORT', "#| open (IMPORT", '; " (IMPORT'):
+            self.assertTrue(changes_naming(form), form)
+        for form in ('(SETF (GET \'A \'B) "important")', '#\\" "IN-PACKAGE \\" EXPORT"', "(GET 'A 'B)", '#| " |# "import"'):
+            self.assertFalse(changes_naming(form), form)
 
     def test_what_no_session_reads_is_refused(self) -> None:
         circle: list[Any] = [1]

@@ -212,8 +212,9 @@ EXISTING, SNAPSHOT-RATIO and UNICODE are those of OPEN-STORE. One feed at a time
     (malformed-answer (condition) condition)))
 
 (defun feed-text (feed form)
-  "The text of a form, which is an object, or a text already."
-  (let ((text (if (stringp form) form (values (form-text form (feed-naming feed))))))
+  "The text of a form, which is an object, or a text already. That of an object means the same whatever package is current, as another
+client may have changed it."
+  (let ((text (if (stringp form) form (values (form-text form (feed-naming feed) t)))))
     (check-characters text text)
     (when (> (length text) +form-limit+) (cannot-send text "it is longer than ~D characters" +form-limit+))
     text))

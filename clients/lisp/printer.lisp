@@ -1,4 +1,4 @@
-;;;; Forms as text that every session reads, under the standard readtable in COMMON-LISP-USER; or UNSENDABLE.
+;;;; Forms as text that every session reads, under the standard readtable, and in COMMON-LISP-USER or in every package; or UNSENDABLE.
 
 (in-package "PAZTURROK-CLIENT")
 
@@ -11,6 +11,10 @@
 (defvar *text* nil "Where its text goes.")
 (defvar *room* 0 "How many characters it may still have.")
 (defvar *homes* '() "The store's packages that it names.")
+(defvar *anywhere-p* nil "Whether its text means the same in every package and read base of the store, or in COMMON-LISP-USER in base 10 alone.")
+
+(defparameter *short-prefixes* '(("COMMON-LISP-USER" . "CL-USER::") ("COMMON-LISP" . "CL:"))
+  "How a symbol is named in every package. No form gives these nicknames to another one.")
 
 (defun put (text)
   (when (minusp (decf *room* (length text)))
@@ -51,12 +55,17 @@
       (multiple-value-bind (home reason) (home-of symbol *naming*)
         (unless home (cannot-send symbol "~A" reason))
         (check-characters home symbol)
-        (cond ((member home '("COMMON-LISP" "COMMON-LISP-USER") :test #'string=) "")
+        (cond ((assoc home *short-prefixes* :test #'string=)
+               (if *anywhere-p* (whole-prefix (cdr (assoc home *short-prefixes* :test #'string=)) 0 symbol) ""))
               ((string= home "KEYWORD") ":")
               (t (pushnew home *homes* :test #'string=)
-                 (when (> (+ (length home) 2 (length (symbol-name symbol))) +token-limit+)
-                   (cannot-send symbol "with its package it has more than ~D characters" +token-limit+))
-                 (concatenate 'string (name-text home) "::"))))))
+                 (whole-prefix (concatenate 'string (name-text home) "::") (- (length home) (length (name-text home))) symbol))))))
+
+(defun whole-prefix (prefix less symbol)
+  "PREFIX, where the token of SYMBOL behind it is not too long. LESS is what the bars and escapes in it count, which is negative."
+  (when (> (+ (length prefix) less (length (symbol-name symbol))) +token-limit+)
+    (cannot-send symbol "with its package it has more than ~D characters" +token-limit+))
+  prefix)
 
 (defun put-symbol (symbol)
   (check-characters (symbol-name symbol) symbol)
@@ -69,7 +78,9 @@
   (unless (and (typep (numerator number) '(signed-byte 128))
                (typep (denominator number) '(unsigned-byte 128)))
     (cannot-send number "it has more than 128 bits"))
-  (put (let ((*print-base* 10) (*print-radix* nil)) (princ-to-string number))))
+  (when (and *anywhere-p* (not (integerp number))) (put "#10R"))
+  (put (let ((*print-base* 10) (*print-radix* nil)) (princ-to-string number)))
+  (when (and *anywhere-p* (integerp number)) (put ".")))
 
 (defparameter *character-names*
   '((#\Space . "Space") (#\Newline . "Newline") (#\Tab . "Tab") (#\Page . "Page")
@@ -87,6 +98,10 @@
   (let ((text (if (naming-unicode-p *naming*) (with-references string) string)))
     (check-characters text string)
     (put (string-text text))))
+
+(defun short-quotation-p (object)
+  "Whether it is a quotation that is written with a quote."
+  (and *anywhere-p* (consp object) (eq (first object) 'quote) (consp (rest object)) (null (cddr object))))
 
 (defun put-list (list depth)
   (put "(")
@@ -108,12 +123,13 @@
     (character (put-character object))
     (string (put-string object))
     (symbol (put-symbol object))
+    ((satisfies short-quotation-p) (put "'") (put-object (second object) depth))
     (cons (put-list object depth))
     (vector (put "#") (put-list (coerce object 'list) depth))
     (t (cannot-send object "a store has no objects of type ~S" (type-of object)))))
 
-(defun form-text (form naming)
-  "The text of FORM, and the store's packages that it names."
-  (let* ((*form* form) (*naming* naming) (*room* +form-limit+) (*homes* '())
+(defun form-text (form naming &optional anywhere)
+  "The text of FORM, and the store's packages that it names. With ANYWHERE it means the same in every package and read base."
+  (let* ((*form* form) (*naming* naming) (*room* +form-limit+) (*homes* '()) (*anywhere-p* anywhere)
          (text (with-output-to-string (*text*) (put-object form))))
     (values text *homes*)))

@@ -274,8 +274,9 @@ class MessageStore(Shared, Properties):
 
 
 def text_of(form: Form, unicode: bool) -> str:
-    """The text of a form, which a store can read as far as its characters and its length go."""
-    text = form if isinstance(form, str) else printed(form, unicode=unicode)
+    """The text of a form, which a store can read as far as its characters and its length go. That of a list means the
+    same whatever package is current, as another client may have changed it."""
+    text = form if isinstance(form, str) else printed(form, unicode=unicode, anywhere=True)
     check_characters(text, form)
     if len(text) > FORM_LIMIT:
         raise UnsendableError(form, f"it is longer than {FORM_LIMIT} characters")

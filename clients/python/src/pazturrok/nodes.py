@@ -26,9 +26,9 @@ from .errors import (
 )
 from .messages import FrameSplitter, question, text_of
 from .naming import NAMING_QUESTION, Naming, until_naming
-from .properties import Properties
+from .properties import Name, Properties, put_form, set_form, take_form
 from .store import Form, Outcome, changes_naming, texts_of, value_of
-from .values import Value
+from .values import NIL, Value
 
 VERSION = 1
 """Of the frames that are sent."""
@@ -41,6 +41,8 @@ AT_ONCE = 2000
 
 RESEND = 140.0
 """So many seconds a message is sent again. Its name may be free after 150, and it would be carried out twice."""
+
+UNKNOWN_CLIENT = "before it said anything, as where it does not take the certificate of this client"
 
 PIECE = 65536
 PAUSE = 0.05
@@ -64,7 +66,11 @@ class Connection:
         if "/" in node or node.startswith("unix:"):
             self._socket = socket.socket(socket.AF_UNIX)
             self._socket.settimeout(seconds)
-            self._socket.connect(node.removeprefix("unix:"))
+            try:
+                self._socket.connect(node.removeprefix("unix:"))
+            except BaseException:
+                self._socket.close()
+                raise
         else:
             host, _, port = node.rpartition(":")
             self._socket = socket.create_connection((host.strip("[]"), int(port)), seconds)
@@ -186,6 +192,28 @@ class NodeStore(Shared, Properties):
         """Asks after all that was answered before, anywhere: what it gives was so within this call."""
         return self._question("read", form)
 
+    def put(self, symbol: Name, indicator: Name, value: Value, *, name: str | None = None) -> Value:
+        """Sets the property of a symbol, and gives the value back, as the store has it; `name` is that of `do`."""
+        return self.do(put_form(symbol, indicator, value), name=name)
+
+    def compare_and_set(
+        self, symbol: Name, indicator: Name, old: Value, new: Value, *, name: str | None = None
+    ) -> bool:
+        """Sets the property of a symbol where it is EQUAL to the old value, and tells whether it did; `name` is that of `do`.
+
+        NIL stands for no property. The store has to have the package PAZTURROK, as `run DIR --operators` makes it.
+        """
+        return self.do(set_form(symbol, indicator, old, new), name=name) != NIL
+
+    def take(
+        self, symbol: Name, indicator: Name, default: Value | None = None, *, name: str | None = None
+    ) -> Value:
+        """Takes the first item away from the list that is the property of a symbol, and gives it; `name` is that of `do`.
+
+        Where the list is empty it gives the default, or NIL. The store has to have the package PAZTURROK.
+        """
+        return self.do(take_form(symbol, indicator, default), name=name)
+
     def _put_form(self, form: list[Value]) -> Value:
         return self.do(form)
 
@@ -227,13 +255,14 @@ class NodeStore(Shared, Properties):
         self, frames: Sequence[str], tries: float = math.inf, resend: float = math.inf
     ) -> list[tuple[str, str]]:
         """The answers to frames, which are sent until they have one, no more than so many times, and for so many
-        seconds after the first time."""
+        seconds after the first time. A node that refuses to speak by TLS is not asked again."""
         if self._is_closed:
             raise ClosedStoreError
         answers: list[tuple[str, str]] = []
+        strange: set[str] = set()
         begun = time.monotonic()
         end, reason = begun + self._time_limit, ""
-        while not reason or (tries > 0 and time.monotonic() < end):
+        while not reason or (tries > 0 and time.monotonic() < end and len(strange) < len(set(self._nodes))):
             seconds = min(self._patience, max(0.01, end - time.monotonic()))
             try:
                 connection = self._connect(seconds)
@@ -243,13 +272,14 @@ class NodeStore(Shared, Properties):
                 return answers
             except OSError as error:
                 self._leave()
+                strange |= {self.node} if refuses_tls(error) else set()
                 reason = f"{'' if tries > 0 else f'it was sent {MOST_TRIES} times; '}{self.node}: {error}"
                 self._at = (self._at + 1) % len(self._nodes)
                 time.sleep(PAUSE)
             except BaseException:
                 self._leave()
                 raise
-        lost = NoNodeError(round(end - begun, 1), reason)
+        lost = NoNodeError(round(time.monotonic() - begun, 1), reason)
         lost.outcomes = answers
         raise lost
 
@@ -260,8 +290,10 @@ class NodeStore(Shared, Properties):
             answers: list[tuple[str, str]] = []
             try:
                 self._connection.exchange([f"version {VERSION} 0\n", question(NAMING_QUESTION)], answers, seconds)
-            except OSError:
+            except OSError as error:
                 heed_greeting(answers)
+                if self._context and not answers:
+                    raise ConnectionError(f"{error}, {UNKNOWN_CLIENT}") from error
                 raise
             heed_greeting(answers)
             self._naming.take(answers[1][1])
@@ -279,6 +311,11 @@ class NodeStore(Shared, Properties):
         if isinstance(outcome, RefusedError) and outcome.number == OLD_NUMBER:
             return LostAnswerError(int(head))
         return outcome
+
+
+def refuses_tls(error: OSError) -> bool:
+    """Whether one of both does not take the other for whom it is to speak to. That stays so, other than a connection that is lost."""
+    return isinstance(error, ssl.SSLError) and not isinstance(error, (ssl.SSLEOFError, ssl.SSLZeroReturnError, ssl.SSLSyscallError))
 
 
 def checked_node(node: str) -> str:

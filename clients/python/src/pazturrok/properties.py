@@ -16,6 +16,24 @@ IF, LIST, PROGN, T = Symbol("IF"), Symbol("LIST"), Symbol("PROGN"), Symbol("T")
 CAR, CDR, EQUAL = Symbol("CAR", "PAZTURROK"), Symbol("CDR", "PAZTURROK"), Symbol("EQUAL", "PAZTURROK")
 
 
+def put_form(symbol: Name, indicator: Name, value: Value) -> list[Value]:
+    """The form that sets a property."""
+    return [SETF, place_of(symbol, indicator), quote(value)]
+
+
+def set_form(symbol: Name, indicator: Name, old: Value, new: Value) -> list[Value]:
+    """The form that sets a property where it is EQUAL to the old value, and whose value is whether it did."""
+    place = place_of(symbol, indicator)
+    return [IF, [EQUAL, place, quote(old)], [PROGN, [SETF, place, quote(new)], T], NIL]
+
+
+def take_form(symbol: Name, indicator: Name, default: Value | None) -> list[Value]:
+    """The form that takes the first item away from the list that is a property."""
+    place = place_of(symbol, indicator)
+    taken: list[Value] = [CAR, [LIST, [CAR, place], [SETF, place, [CDR, place]]]]
+    return [IF, place, taken, quote(NIL if default is None else default)]
+
+
 class Properties:
     """What has the properties of symbols. Names are as they are printed: the symbol apple of a form is "APPLE"."""
 
@@ -27,42 +45,39 @@ class Properties:
         """The value of a form that writes nothing."""
         raise NotImplementedError
 
-    def get(self, name: Name, indicator: Name, default: Value | None = None) -> Value:
+    def get(self, symbol: Name, indicator: Name, default: Value | None = None) -> Value:
         """The property of a symbol, or the default, or NIL, where it has none."""
-        return self._look_form([GET, *both(name, indicator), quote(NIL if default is None else default)])
+        return self._look_form([*place_of(symbol, indicator), quote(NIL if default is None else default)])
 
-    def put(self, name: Name, indicator: Name, value: Value) -> Value:
+    def put(self, symbol: Name, indicator: Name, value: Value) -> Value:
         """Sets the property of a symbol, and gives the value back, as the store has it."""
-        return self._put_form([SETF, [GET, *both(name, indicator)], quote(value)])
+        return self._put_form(put_form(symbol, indicator, value))
 
-    def compare_and_set(self, name: Name, indicator: Name, old: Value, new: Value) -> bool:
+    def compare_and_set(self, symbol: Name, indicator: Name, old: Value, new: Value) -> bool:
         """Sets the property of a symbol where it is EQUAL to the old value, and tells whether it did; NIL stands for none.
         The store has to have the package PAZTURROK, as `run DIR --operators` makes it."""
-        place: list[Value] = [GET, *both(name, indicator)]
-        form: list[Value] = [IF, [EQUAL, place, quote(old)], [PROGN, [SETF, place, quote(new)], T], NIL]
-        return self._put_form(form) not in (NIL, [])
+        return self._put_form(set_form(symbol, indicator, old, new)) != NIL
 
-    def take(self, name: Name, indicator: Name, default: Value | None = None) -> Value:
+    def take(self, symbol: Name, indicator: Name, default: Value | None = None) -> Value:
         """Takes the first item away from the list that is the property of a symbol, and gives it.
 
         Where the list is empty it gives the default, or NIL. The store has to have the package PAZTURROK, as
         `run DIR --operators` makes it.
         """
-        place: list[Value] = [GET, *both(name, indicator)]
-        taken: list[Value] = [CAR, [LIST, [CAR, place], [SETF, place, [CDR, place]]]]
-        return self._put_form([IF, place, taken, quote(NIL if default is None else default)])
+        return self._put_form(take_form(symbol, indicator, default))
 
-    def plist(self, name: Name) -> list[tuple[Value, Value]]:
+    def plist(self, symbol: Name) -> list[tuple[Value, Value]]:
         """The indicators of a symbol, each with its property."""
-        found = self._look_form([SYMBOL_PLIST, quote(symbol(name))])
+        found = self._look_form([SYMBOL_PLIST, quote(symbol_of(symbol))])
         if not isinstance(found, list) or len(found) % 2:
             raise MalformedAnswerError(printed(found), "it is no property list")
         return list(zip(found[::2], found[1::2]))
 
 
-def symbol(name: Name) -> Symbol:
+def symbol_of(name: Name) -> Symbol:
     return Symbol(name) if isinstance(name, str) else name
 
 
-def both(name: Name, indicator: Name) -> tuple[Value, Value]:
-    return quote(symbol(name)), quote(symbol(indicator))
+def place_of(symbol: Name, indicator: Name) -> list[Value]:
+    """The form whose value is a property, and that SETF takes as its place."""
+    return [GET, quote(symbol_of(symbol)), quote(symbol_of(indicator))]

@@ -26,7 +26,7 @@ from .errors import (
 from .printer import FORM_LIMIT, check_characters, packages_of, printed, string_text
 from .program import Program
 from .properties import Properties
-from .texts import is_one_form
+from .texts import is_one_form, without_texts
 from .values import LISP, OPERATORS, Symbol, Value
 
 Form = Union[str, "list[Value]"]
@@ -344,7 +344,11 @@ def texts_of(forms: Iterable[Form], text_of: Callable[[Form], str], first: int |
 
 
 def changes_naming(text: str) -> bool:
-    """Whether the form may change how symbols are printed after it."""
+    """Whether the form may change how symbols are printed after it. What stands in a text changes nothing."""
+    return _has_such_a_name(text) and _has_such_a_name(without_texts(text))
+
+
+def _has_such_a_name(text: str) -> bool:
     return CHANGES_NAMING.search(re.sub(r"[\\|]", "", text)) is not None
 
 

@@ -34,6 +34,19 @@ def block_end(text: str, place: int) -> int | None:
     return None
 
 
+def without_texts(text: str) -> str:
+    """The same without what stands between double quotes, as far as it can be read."""
+    parts, place = [], 0
+    while found := PIECE.match(text, place):
+        end = block_end(text, found.end()) if found.lastgroup == "block" else found.end()
+        if end is None:
+            break
+        if not found[0].startswith('"'):
+            parts.append(text[place:end])
+        place = end
+    return "".join(parts) + text[place:]
+
+
 def is_one_form(text: str) -> bool:
     """Whether this is one whole form, with nothing beside it but whitespace and comments."""
     place = depth = objects = 0
