@@ -8,7 +8,7 @@ _pazturrok() {
         help) words='run snapshot upgrade export dump verify show info log backup check help' kind= ;;
         compile) words=--library kind= ;;
         build) words='--anew --library' kind= ;;
-        install) words=--all ;;
+        install) words='--all --replace' ;;
         release) kind=-f ;;
         run)
             words='--existing --rescue --strict --group --snapshot-every --snapshot-ratio --quiet --help --operators --wait --messages'

@@ -195,12 +195,42 @@ need_program() {
     [ -z "$is_older" ] || say "$OTHER_SOURCES"
 }
 
+# What the program is, and of which commit.
+told_program() {
+    kind="the proved program"
+    [ -n "$is_proved" ] || kind="a program that is $NOT_PROVED,"
+    if knows_sources "$program" "$made_from"; then
+        echo "$kind of commit $(sed -n 's/^commit: //p' "$made_from")"
+    else
+        echo "$kind whose commit is not known"
+    fi
+}
+
+# Refuses to put another program than the proved one of the sources in place of a proved one, unless that is asked for.
+keep_proved() {
+    if [ -n "$replace" ] || [ ! -f "$prefix/libexec/pazturrok/${proved##*/}" ]; then
+        return 0
+    fi
+    choose_program
+    if [ -z "$program" ]; then
+        have="this clone has none"
+    elif [ -z "$is_proved" ]; then
+        have="that of this clone is $NOT_PROVED"
+    elif [ -n "$is_older" ]; then
+        have="that of this clone is of other sources than those of the clone"
+    else
+        return 0
+    fi
+    refuse "$prefix has a proved program, and $have: ./pazturrok build makes one; install $prefix --replace goes without"
+}
+
 # Carries out `install`.
 install() {
-    all='' prefix=''
+    all='' prefix='' replace=''
     for word in "$@"; do
         case $word in
             --all) all=1 ;;
+            --replace) replace=1 ;;
             '' | -*) refuse "install takes a folder, as in ./pazturrok install /usr/local, and not '$word'" ;;
             *)
                 [ -z "$prefix" ] || refuse "install takes one folder, as in ./pazturrok install /usr/local"
@@ -211,10 +241,12 @@ install() {
     [ -n "$prefix" ] || refuse "install takes a folder, as in ./pazturrok install /usr/local"
     case $prefix in /*) ;; *) prefix=$(pwd)/$prefix ;; esac
     prefix=${prefix%/}
+    keep_proved
     is_new=
     [ -d "$prefix/" ] || is_new=1
     mkdir -p "$prefix/" || refuse "$prefix cannot be made"
     need_program
+    say "installing $(told_program)"
     make_room
     [ -z "$is_new" ] || echo "-  ." >"$room/folders"
     install_program

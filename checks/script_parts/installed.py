@@ -21,13 +21,19 @@ def text_of(*path):
         return file.read()
 
 
+def bytes_of(path):
+    with open(path, "rb") as file:
+        return file.read()
+
+
 def check_proved(script, room):
     """A proved program below a prefix, which is then moved."""
     for words in (["install"], ["install", ""], ["install", "a", "b"], ["install", "--all"], ["install", "a", "--more"], ["build", "more"]):
         is_refused("words", script, *words, says="takes")
     prefix = os.path.join(room, "prefix")
     done = called(script, "install", prefix)
-    check("install", (done[0], done[1].count(prefix.encode()), done[2]), (0, 12, b""))
+    check("install", (done[0], done[1].count(prefix.encode()), done[2]), (0, 12, b"pazturrok: installing the proved program of commit 0123abc\n"))
+    check_replaced(script, prefix)
     moved = os.path.join(room, "moved")
     os.rename(prefix, moved)
     there = os.path.join(moved, "bin", "pazturrok")
@@ -53,6 +59,32 @@ def check_proved(script, room):
     for name in (page, forms) if shutil.which("groff") else ():
         linted = subprocess.run(["groff", "-man", "-ww", "-Tascii", "-z", name], capture_output=True, check=False)
         check(f"a manual page is well formed: {name}", (linted.returncode, linted.stderr), (0, b""))
+
+
+def check_replaced(script, prefix):
+    """A proved program that is installed stays, unless that of the clone is proved too and is that of its sources, or it is to be replaced."""
+    clone, there = os.path.dirname(script), os.path.join(prefix, "libexec", "pazturrok", "store_program")
+    built, source = (os.path.join(clone, "crates", *path) for path in (("store_program", "out", "store_program"), ("command_words", "src", "help.rt")))
+    bytes_there = bytes_of(there)
+    check("the same is installed again", called(script, "install", prefix)[0], 0)
+    length = os.path.getsize(source)
+    with open(source, "a", encoding="utf-8") as file:
+        file.write("// changed\n")
+    later = os.stat(built).st_mtime + 100
+    os.utime(source, (later, later))
+    is_refused("one of other sources", script, "install", prefix, says="is of other sources than those of the clone: ./pazturrok build makes one")
+    status, _, err = called(script, "install", prefix, "--replace")
+    check("one of other sources that is to be put there", (status, b"installing the proved program of commit 0123abc\n" in err), (0, True))
+    os.truncate(source, length)
+    os.rename(built, built + ".away")
+    is_refused("none", script, "install", "--all", prefix, says="this clone has none", PATH=PLAIN)
+    compiled = os.path.join(os.path.dirname(built), "compiled_program")
+    shutil.copy(built + ".away", compiled)
+    os.utime(compiled, (later + 100, later + 100))
+    is_refused("one that is not proved", script, "install", prefix, says="that of this clone is compiled, not proved: ./pazturrok build makes one")
+    check("it stays", bytes_of(there) == bytes_there, True)
+    os.remove(compiled)
+    os.rename(built + ".away", built)
 
 
 # What `install --all` puts there beside the program.
