@@ -24,11 +24,16 @@ LEFT_OUT = ("apt-get", "scp ")
 """Commands that install packages, or copy to another machine: all places of this check have one folder of certificates."""
 
 
-def commands():
+def blocks_of_page():
     """The commands for the certificates, those of each machine, and those for two clients, as the page has them."""
     with open(PAGE, encoding="utf-8") as page:
         blocks = re.findall(r"(?m)(?:^    .*\n)+", page.read())
-    return [[line.strip() for line in block.splitlines() if not line.strip().startswith(LEFT_OUT)] for block in blocks[:3]]
+    return [[line.strip() for line in block.splitlines()] for block in blocks[:3]]
+
+
+def commands():
+    """The same without those that are left out."""
+    return [[line for line in block if not line.startswith(LEFT_OUT)] for block in blocks_of_page()]
 
 
 def without_tls(lines):
@@ -56,7 +61,7 @@ class Machines:
         keys, lines, clients = commands()
         self.clients = clients if has_tls else without_tls(clients)
         lines = lines if has_tls else without_tls(lines)
-        subprocess.run(["bash", "-c", in_room("\n".join(keys), room)], cwd=TOP, check=True, capture_output=True)
+        subprocess.run(["bash", "-c", in_room("\n".join(keys), room)], cwd=TOP, env={**os.environ, "HOME": room}, check=True, capture_output=True)
         self.words = [words_of_machine(lines, place, room, program) for place in range(3)]
         self.shells = {}
         for place in range(3):
@@ -97,6 +102,32 @@ class Machines:
             os.killpg(shell.pid, signal.SIGKILL)
             shell.wait()
         self.net.end()
+
+
+SCP = """#!/bin/sh
+# puts files into the folder of a machine
+for last; do :; done
+while [ "$1" != "$last" ]; do
+    mkdir -p "{room}/${{last%%:*}}" && cp "$1" "{room}/${{last%%:*}}/" || exit 1
+    shift
+done
+"""
+
+
+def kept_keys(folder, _program):
+    """By the commands of the page each machine has its own certificate and that of who signs, and the key of who signs is on none."""
+    with open(os.path.join(folder, "scp"), "w", encoding="ascii") as file:
+        file.write(SCP.format(room=folder))
+    os.chmod(os.path.join(folder, "scp"), 0o755)
+    environment = {**os.environ, "HOME": folder, "PATH": f"{folder}:{os.environ['PATH']}"}
+    text = "set -e\n" + "\n".join(blocks_of_page()[0]).replace("/etc/pazturrok ", f"{folder}/{NET}1 ").replace("/etc/pazturrok/ca", f"{folder}/{NET}1/ca")
+    told = subprocess.run(["bash", "-c", text], cwd=TOP, env=environment, check=False, capture_output=True, text=True)
+    faults = [] if told.returncode == 0 else [f"the commands for certificates: {told.stderr[-300:]}"]
+    for place, name in enumerate("abc", 1):
+        machine = os.path.join(folder, f"{NET}{place}")
+        found = sorted(os.listdir(machine)) if os.path.isdir(machine) else []
+        faults += [] if found == [f"{name}.pem", "ca.crt"] else [f"the machine {name} has {found}"]
+    return faults
 
 
 def documented(folder, program):
@@ -235,6 +266,6 @@ def leader_of(cluster):
 
 LONG_ONES = ("own member", "stopped leader", "documented without certificates", "replaced")
 PARTS = {
-    "documented": documented, "replaced": replaced, "documented without certificates": without_certificates, "own member": own_member,
+    "kept keys": kept_keys, "documented": documented, "replaced": replaced, "documented without certificates": without_certificates, "own member": own_member,
     "stopped leader": stopped_leader,
 }  # fmt: skip

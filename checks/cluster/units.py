@@ -28,8 +28,21 @@ from pazturrok_node.faults import DeviceError, Fault  # noqa: E402
 from pazturrok_node.frames import ANSWER, LIMIT, LOST, NO_ROOM, REQUEST, Frames, NoFrameError, request_of  # noqa: E402
 from pazturrok_node.log import BusyError, FullError, Refused  # noqa: E402
 from pazturrok_node.main import free_socket  # noqa: E402
+from pazturrok_node.words import ORDERS, parser_of_words  # noqa: E402
 
 SENT = b"do own.name-1 5\n(A B)\nask 3\n(C)\nread 0\n\nask 17 1\nD\ndo 3\na\nb\n"
+
+
+class PageTest(unittest.TestCase):
+    def test_each_word(self):
+        """The page has each word of the command line."""
+        with open(os.path.join(os.path.dirname(os.path.abspath(__file__)), "..", "..", "cluster", "README.md"), encoding="utf-8") as page:
+            table = page.read().partition("## The words of a node\n")[2].partition("\n## ")[0]
+        told = [word for line in table.splitlines() if line.startswith("| `") for word in re.findall(r"--[a-z-]+", line.split(" | ")[0])]
+        known = {word for action in parser_of_words()._actions for word in action.option_strings if word.startswith("--")}
+        self.assertEqual({*told, "--from", "--again"}, known)
+        for order in ORDERS[1:]:
+            self.assertIn(f"| `{order}", table)
 
 
 class FramesTest(unittest.TestCase):
