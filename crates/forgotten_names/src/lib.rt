@@ -7,6 +7,8 @@
 //! - `laws`: what holds of that world
 //! - `unneeded`: the symbols that it does not need, over `marks`: symbols that are marked by their numbers
 //! - `forgetting`: `forget`
+//!
+//! Crates above cite the lemmas of proofs/NothingForgotten.antt.
 #![tactic(auto)]
 
 mod forgetting;
