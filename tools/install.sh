@@ -266,8 +266,8 @@ front_page() {
   bin/pazturrok run store      serves a store in the folder `store`; bin/pazturrok --help tells the rest
   sha256sum -c SHA256SUMS      tells whether each file is as it was packed
 
-It runs where it lies on x86-64 Linux with glibc, and needs nothing else. ORIGIN in share/doc/pazturrok has what it was made from, and README.md
-there what it is. The units of systemd in lib/systemd/system, and lib/pkgconfig/pazturrok.pc, name /usr/local: copy bin, include, lib, libexec and
+It runs where it lies on x86-64 Linux with glibc. The command wants sh, sed, awk and readlink too, and the node and the client for Python want
+Python 3.9. ORIGIN in share/doc/pazturrok has what it was made from, and README.md there what it is. The units of systemd in lib/systemd/system, and lib/pkgconfig/pazturrok.pc, name /usr/local: copy bin, include, lib, libexec and
 share there, or change that name.
 END
 }

@@ -39,7 +39,8 @@ class FakeNodes:
 
     def serve(self, place: int, connection: socket.socket) -> None:
         stream = connection.makefile("rwb")
-        with contextlib.suppress(OSError), connection, stream:
+        # who begins with TLS sends no frame: ValueError
+        with contextlib.suppress(OSError, ValueError), connection, stream:
             while head := stream.readline().split():
                 text = stream.read(int(head[-1]) + 1)[:-1].decode()
                 while self.is_silent[place]:
