@@ -9,8 +9,8 @@ ghost use Rattle.forgotten_names.specs.Forgotten.{forgotten};
 ghost use Rattle.prevalence_store.specs.meaning.Forgetting.{counting, forgettable_count, forgetting, held_symbols, is_forget_names, is_forgetting};
 
 use crate::whole_macros::WholeMacros;
-use form_eval::{Evaluated, EvaluationError};
 use forgotten_names::forget;
+use form_eval::{Evaluated, EvaluationError};
 use lisp_object::{Bytes, Datum};
 use plist_state::World;
 use std::alloc::{AllocError, Global};
@@ -89,10 +89,7 @@ pub(crate) fn forget_names<R: MacroFunctions>(
 ///
 /// # Errors
 /// `OutOfMemory`. The world is then as it was, its marks too.
-pub(crate) fn count_names(
-    alloc: Global,
-    world: &mut World,
-) -> Result<Evaluated, EvaluationError>
+pub(crate) fn count_names(alloc: Global, world: &mut World) -> Result<Evaluated, EvaluationError>
     ensures gives { Answers done result world.new.0 (counting world.old.0) }
     ensures value { IfOk result (λ e. IsArgument world.new.0.packages e.value) }
     ensures marked { IfOk result (λ _. world.new.1 ≡ world.old.1 ++ world.old.0 ∷ []) }
