@@ -182,6 +182,10 @@ more_accepted fewer more among names w x d = by_forgets fewer.forgets more.forge
     by_test true is = is
     by_test false is = more_evaluated fewer more among names w x d is
 
+    no_test : (now b : Bool) → b ≡ false → (now && b) ≡ false
+    no_test true b is = is
+    no_test false b is = refl
+
     by_forgets : (was now : Bool) → (was ≡ now) ⊎ ((was ≡ false) × ((names : List Name) → fewer.operators names forget_names ≡ None))
         → (if was && is_forgetting x then forgetting w else accept_over fewer.based (fewer.operators names) w x) ≡ Ok d
         → (if now && is_forgetting x then forgetting w else accept_over more.based (more.operators names) w x) ≡ Ok d
@@ -191,10 +195,6 @@ more_accepted fewer more among names w x d = by_forgets fewer.forgets more.forge
         let other = no_operator fewer.based (fewer.operators names) (none.1 names) w x d is in
         subst (λ b. (if b then forgetting w else accept_over more.based (more.operators names) w x) ≡ Ok d) (sym (no_test now (is_forgetting x) other))
         (more_evaluated fewer more among names w x d is)
-
-    no_test : (now b : Bool) → b ≡ false → (now && b) ≡ false
-    no_test true b is = is
-    no_test false b is = refl
 
 pub more_rules : (fewer more : Rules) → AreRulesAmong fewer more → (functions : Functions) → KnowsMore fewer more functions functions
 more_rules fewer more among functions = record {
