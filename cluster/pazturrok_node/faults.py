@@ -12,8 +12,11 @@ from typing import NamedTuple
 ENDED_BY_DEVICE = 5
 """The status of a node whose device has failed. The units do not start it again."""
 
-OF_A_DEVICE = frozenset({errno.EIO, errno.ENXIO, errno.ENODEV, errno.EROFS, errno.ESTALE, errno.EUCLEAN, errno.EREMOTEIO, errno.ENOMEDIUM})
-"""The errors that say so in whatever call they come. A file system that lost something is read alone from then on."""
+OF_A_DEVICE_ALONE = frozenset({errno.EIO, errno.EUCLEAN, errno.EREMOTEIO})
+"""The errors that say so in whatever call they come."""
+
+OF_A_DEVICE = OF_A_DEVICE_ALONE | {errno.ENXIO, errno.ENODEV, errno.EROFS, errno.ESTALE, errno.ENOMEDIUM}
+"""Those that say so as a store is opened. A file system that lost something may be read alone from then on."""
 
 OF_ROOM = frozenset({errno.ENOSPC, errno.EDQUOT, errno.EFBIG})
 """Those of a call for which there is no room, and which has done nothing."""
@@ -65,4 +68,4 @@ class Fault(NamedTuple):
 
 def is_of_device(error: OSError) -> bool:
     """Whether a call that failed so says that the device has failed."""
-    return isinstance(error, DeviceError) or error.errno in OF_A_DEVICE
+    return isinstance(error, DeviceError) or error.errno in OF_A_DEVICE_ALONE
