@@ -97,7 +97,7 @@
                     (feed-all feed (list "(INCF (GET 'N 'N))" "(FROB)" "(LIST 1" '(list "a") ''new))))
     (expect "5,000 of them" (loop for i from 3 to 5002 collect i)
             (feed-all feed (loop repeat 5000 collect '(incf (get 'n 'n)))))
-    (expect "a refusal has its form" '("(FROB)" 1)
+    (expect "a refusal has its form" '("(CL-USER::FROB)" 1)
             (let ((outcome (second (feed-all feed '(1 (frob)))))) (list (store-error-form outcome) (store-error-index outcome))))
     (expect "a question" 5002 (ask feed '(get 'n 'n)))
     (expect "one that would write" 51 (handler-case (ask feed '(setf (get 'n 'n) 1)) (refused (condition) (refused-number condition))))
