@@ -127,7 +127,7 @@ kind == "function" {
 # refused is worth 2, and one that has the name elsewhere 1.
 kind == "example" {
     worth = 0
-    if (index(cells[2] " ", "(" asked " ") == 1 || index(cells[2], "(" asked ")") == 1 || (index(cells[2], "(PAZTURROK::" asked " ") == 1 && !is_operator()))
+    if (index(cells[2] " ", "(" asked " ") == 1 || index(cells[2], "(" asked ")") == 1 || ((index(cells[2], "(PAZTURROK::" asked " ") == 1 || index(cells[2], "(PAZTURROK::" asked ")") == 1) && !is_operator()))
         worth = substr(cells[3], 1, 1) == "!" ? 2 : 3
     else if (has_word(cells[2], asked) && substr(cells[3], 1, 1) != "!")
         worth = 1
