@@ -43,6 +43,26 @@ line_with number form place (Some spots) = place_line number form spots
 abbrev pub line_of : Refusal → List ℕ
 line_of refusal = line_with refusal.number (form_of refusal) refusal.place refusal.spots
 
+-- the number of a refusal, before what is told of it
+abbrev pub number_text : ℕ → List ℕ
+number_text number = decimal number ++ codes ": "
+
+abbrev pub start_with : Place → Option Spots → List ℕ
+start_with place None = byte_text place.start
+start_with place (Some spots) = spot_text spots.start.line spots.start.column
+
+-- where a form that was refused begins, and the number
+abbrev pub before_text : Refusal → List ℕ
+before_text refusal = start_with refusal.place refusal.spots ++ number_text refusal.number
+
+-- where more is told of the number
+abbrev pub after_text : ℕ → List ℕ
+after_text number = codes " (help " ++ (decimal number ++ codes ")\n")
+
+-- what is told of a form that was refused, where this text is what it is about
+abbrev pub form_line : Refusal → List ℕ → List ℕ
+form_line refusal text = before_text refusal ++ (text ++ after_text refusal.number)
+
 -- a session that ended so ended with this refusal, or with none
 abbrev pub IsRefusalOf : Ended → Option Refusal → Type 0
 IsRefusalOf ways.End given = given ≡ None

@@ -2,7 +2,10 @@
 //! and the cause of a fault.
 //!
 //! - `Places` is an input that tells the line and the column after so many of its bytes; `Lines` is one over any reader (module `places`).
-//! - `write_refusal` writes the line on the refusal that ended a session (module `refusal`).
+//!   What it gave is a `History`, which tells them while the input is read.
+//! - `write_refusal` writes the line on the refusal that ended a session, and `write_refused_form` that on a form which was refused in one
+//!   that goes on (module `refusal`).
+//! - `RefusalTeller` writes that line, with the part of the form for which it was refused (module `teller`).
 //! - `write_fault` and `write_fault_with_cause` write that of a fault, and `write_text` and `write_out` a text, whole or a part of it
 //!   from its front (module `fault`). None of them takes memory.
 //!
@@ -14,7 +17,9 @@
 mod fault;
 mod places;
 mod refusal;
+mod teller;
 
 pub use fault::{Unwritten, write_fault, write_fault_with_cause, write_out, write_text};
-pub use places::{Lines, Places, Spot};
-pub use refusal::{Refusal, Spots, write_refusal};
+pub use places::{History, Lines, Places, Spot};
+pub use refusal::{Refusal, Spots, write_refusal, write_refused_form};
+pub use teller::RefusalTeller;

@@ -3,6 +3,7 @@ ghost use Rattle.std.specs.Prelude.{◌≡◌, ◌+◌, ◌≤◌, ℕ, List, []
 ghost use Rattle.diagnostics.specs.Places.{IsMoved, IsMovedFrom, IsSpotAfter, Keeps};
 
 use std::alloc::{AllocError, Global};
+use std::cell::RefCell;
 use std::io::Read;
 use std::{io, mem};
 
@@ -31,11 +32,17 @@ pub trait Places: Read {
     }
 }
 
-/// An input, with the last bytes that it gave.
+/// An input that keeps the last bytes that it gave, where others may ask for places while it is read.
 #[derive(Drop)]
-pub struct Lines<I> {
+pub struct Lines<'a, I> {
     input: I,
-    given: Given,
+    history: &'a History,
+}
+
+/// What an input gave last.
+#[derive(Drop)]
+pub struct History {
+    given: RefCell<Given>,
 }
 
 /// What was given: the place before the bytes that are kept, unless it is lost, and these in two parts.
@@ -168,30 +175,51 @@ fn passed(before: Option<Spot>, text: &[u8]) -> Option<Spot>
     before?.through(text)
 }
 
-impl<I> Lines<I> {
+impl History {
     /// Before the first byte.
-    pub fn new(alloc: Global, input: I) -> Lines<I>
-        ensures { result.input ≡ input }
-    {
-        Lines {
-            input,
-            given: Given::new(alloc),
+    pub fn new(alloc: Global) -> History {
+        History {
+            given: RefCell::new(Given::new(alloc)),
+        }
+    }
+
+    // A piece more.
+    fn note(&self, piece: &[u8]) {
+        if let Ok(mut given) = self.given.try_borrow_mut() {
+            given.note(piece);
+        }
+    }
+
+    /// The place after so many bytes of what was given, if it is known.
+    pub fn spot_at(&self, bytes: u64) -> Option<Spot> {
+        match self.given.try_borrow() {
+            Ok(given) => given.spot_at(bytes),
+            Err(_) => None,
         }
     }
 }
 
-impl<I: Read> Read for Lines<I> {
+impl<'a, I> Lines<'a, I> {
+    /// An input of which nothing is read yet. What it gives is noted in the history.
+    pub fn new(input: I, history: &'a History) -> Lines<'a, I>
+        ensures { result.input ≡ input }
+    {
+        Lines { input, history }
+    }
+}
+
+impl<I: Read> Read for Lines<'_, I> {
     ghost remaining = { λ lines. I.remaining lines.input };
 
     fn read(&mut self, buf: &mut [u8]) -> io::Result<usize> {
         let count = self.input.read(buf)?;
-        self.given.note(&buf[..count]);
+        self.history.note(&buf[..count]);
         Ok(count)
     }
 }
 
-impl<I: Read> Places for Lines<I> {
+impl<I: Read> Places for Lines<'_, I> {
     fn spot_at(&self, bytes: u64) -> Option<Spot> {
-        self.given.spot_at(bytes)
+        self.history.spot_at(bytes)
     }
 }

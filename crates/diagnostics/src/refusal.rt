@@ -1,6 +1,6 @@
 // The refusal that ended a session, and the line on it.
-ghost use Rattle.std.specs.Prelude.{◌≡◌, ◌++◌, OnOk};
-ghost use Rattle.diagnostics.specs.Refusals.{IsRefusalOf, byte_line, byte_text, form_of, line_of, place_line, refused_text, spot_text, start_byte_text, start_text};
+ghost use Rattle.std.specs.Prelude.{◌≡◌, ◌++◌, IfOk, OnOk};
+ghost use Rattle.diagnostics.specs.Refusals.{IsRefusalOf, after_text, before_text, byte_line, byte_text, form_line, form_of, line_of, number_text, place_line, refused_text, spot_text, start_byte_text, start_text};
 ghost use Rattle.diagnostics.specs.Texts.{WritesText};
 
 use crate::fault::{Unwritten, write_text};
@@ -8,6 +8,7 @@ use crate::places::{Places, Spot};
 use arrayvec::ArrayString;
 use lisp_object::refusal::name_of;
 use prevalence_store::{Ended, Place};
+use std::alloc::{AllocError, Global};
 use std::fmt;
 use std::fmt::Write as WriteText;
 use std::io::Write;
@@ -54,6 +55,13 @@ impl Refusal {
     }
 }
 
+impl Spots {
+    /// Those of a form that was refused where it begins.
+    pub fn of_form(start: Spot) -> Spots {
+        Spots { start, at: start }
+    }
+}
+
 // The lines of a place of an input, if they are known.
 fn spots_of<I: Places>(place: Place, input: &I) -> Option<Spots> {
     let start = input.spot_at(place.start)?;
@@ -69,6 +77,69 @@ pub fn write_refusal<W: Write>(faults: &mut W, refusal: &Refusal) -> Result<(), 
         Some(spots) => write_lines(faults, refusal.number, refusal.form(), spots),
         None => write_bytes(faults, refusal.number, refusal.form(), refusal.place),
     }
+}
+
+/// Writes the line on a form that was refused, and goes on: where it begins, its number, a text on it that is one line, and where more is told
+/// of the number. Without memory for the line nothing is written.
+pub fn write_refused_form<W: Write>(
+    alloc: Global,
+    faults: &mut W,
+    refusal: &Refusal,
+    text: &[u8],
+) -> Result<(), Unwritten>
+    ensures { WritesText result (W.contents faults.old) (W.contents faults.new)
+        (form_line refusal.now text.now) }
+{
+    match line_of_form(alloc, refusal, text) {
+        Ok(line) => write_text(faults, line.as_slice()),
+        Err(_) => Err(Unwritten),
+    }
+}
+
+// The line on a form that was refused.
+fn line_of_form(alloc: Global, refusal: &Refusal, text: &[u8]) -> Result<Vec<u8>, AllocError>
+    ensures { IfOk result (λ line. line.items ≡ form_line refusal.now text.now) }
+{
+    let (mut before, mut after) = (ArrayString::<256>::new(), ArrayString::<256>::new());
+    // each has room for all numbers
+    if push_before(&mut before, refusal).is_err()
+        || push_after(&mut after, refusal.number).is_err()
+    {
+        return Err(AllocError);
+    }
+    let mut line = Vec::from_slice(alloc, before.as_bytes())?;
+    line.extend_from_slice(text)?;
+    line.extend_from_slice(after.as_bytes())?;
+    Ok(line)
+}
+
+// Where a form that was refused begins, and its number.
+fn push_before(text: &mut ArrayString<256>, refusal: &Refusal) -> fmt::Result
+    ensures { OnOk result (text.new.bytes ≡ text.old.bytes ++ before_text refusal.now) }
+{
+    match refusal.spots {
+        Some(spots) => push_spot(text, spots.start.line, spots.start.column)?,
+        None => push_byte(text, refusal.place.start)?,
+    }
+    push_number(text, refusal.number)
+}
+
+fn push_number(text: &mut ArrayString<256>, number: u16) -> fmt::Result
+    ensures { OnOk result (text.new.bytes ≡ text.old.bytes ++ number_text number) }
+{
+    let Ok(()) = write!(text, "{number}: ") else {
+        return Err(fmt::Error);
+    };
+    Ok(())
+}
+
+fn push_after(text: &mut ArrayString<256>, number: u16) -> fmt::Result
+    ensures { OnOk result (text.new.bytes ≡ text.old.bytes ++ after_text number) }
+{
+    let Ok(()) = writeln!(text, " (help {number})") else {
+        return Err(fmt::Error);
+    };
+    Ok(())
 }
 
 // The line on a refusal whose lines are known.

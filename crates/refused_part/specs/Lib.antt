@@ -1,0 +1,4 @@
+pub mod Near
+pub mod Part
+pub mod Places
+pub mod Search
