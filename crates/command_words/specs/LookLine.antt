@@ -1,6 +1,6 @@
 -- The command line of the commands that look into a store, as clap reads it: `show DIR [SYMBOL] [--package NAME] [--indicator NAME]
--- [--like NAME] [--forms] [--json]`, `info DIR [--files] [--json]`, `log DIR [--from N] [--places] [--json]`, `backup DIR DEST` and
--- `dump DIR [--at N]`, each with `--existing`.
+-- [--like NAME] [--forms] [--json] [--count]`, `info DIR [--files] [--json]`, `log DIR [--from N] [--places] [--json]`, `backup DIR DEST`,
+-- `dump DIR [--at N]` and `verify DIR --json`, each with `--existing`.
 use Rattle.std.specs.Prelude.{◌≡◌, ◌==◌, ℕ, ◌-◌, ◌^◌, Bool, if◌then◌else◌, List, Option, None, Some, length, codes, nat_le, nat_lt, option_map, option_and_then}
 use Rattle.std.specs.Borrow.{Bor}
 use Rattle.std.specs.Char.{is_ascii_digit}
@@ -12,7 +12,7 @@ use Rattle.clap.specs.declared.builder.action.ArgAction.TheVariants.{Set}
 use Rattle.command_words.specs.Rules.{FindsCommand, bare_line, flag_rule, folder_line, is_set, option_rule, place_rule}
 use Rattle.command_words.specs.declared.looks.InfoPart.{InfoPart}
 use Rattle.command_words.specs.declared.looks.Look.{Look}
-use Rattle.command_words.specs.declared.looks.Look.TheVariants.{Backup, Dump, Info, Log, Show}
+use Rattle.command_words.specs.declared.looks.Look.TheVariants.{Backup, Dump, Info, Log, Show, Verify}
 use Rattle.command_words.specs.declared.looks.RecordPlace.{RecordPlace}
 use Rattle.command_words.specs.declared.looks.Records.{Records}
 use Rattle.command_words.specs.declared.looks.Shown.{Shown}
@@ -31,8 +31,13 @@ symbol_rule = record (new_rule (codes "SYMBOL")) { action = Some Set }
 abbrev pub names_line : App
 names_line = with_rule (with_rule rows_line (option_rule (codes "like"))) symbol_rule
 
+-- with how that is written
+abbrev pub layouts_line : App
+layouts_line = with_rule (with_rule names_line (flag_rule (codes "forms"))) (flag_rule (codes "json"))
+
+-- and whether it is only counted
 abbrev pub show_line : App
-show_line = with_rule (with_rule names_line (flag_rule (codes "forms"))) (flag_rule (codes "json"))
+show_line = with_rule layouts_line (flag_rule (codes "count"))
 
 abbrev pub info_line : App
 info_line = with_rule (with_rule (folder_line (codes "info")) (flag_rule (codes "files"))) (flag_rule (codes "json"))
@@ -50,8 +55,15 @@ abbrev pub telling_line : App
 telling_line =
     with_subcommand (with_subcommand (with_subcommand bare_line show_line.top) info_line.top) log_line.top
 
+-- without the option `verify` is a command of CommandLine
+abbrev pub verify_line : App
+verify_line = with_rule (folder_line (codes "verify")) (flag_rule (codes "json"))
+
+abbrev pub worlds_line : App
+worlds_line = with_subcommand (with_subcommand telling_line backup_line.top) dump_line.top
+
 abbrev pub looking_line : App
-looking_line = with_subcommand (with_subcommand telling_line backup_line.top) dump_line.top
+looking_line = with_subcommand worlds_line verify_line.top
 
 -- ---- the place of a record: N, or G.N
 
@@ -83,7 +95,7 @@ place_given least (Some text) = option_and_then (λ place. if nat_le least place
 abbrev pub text_of : Option (Bor Text) → Option Text
 text_of = option_map (λ (text : Bor Text). text.now)
 
--- which properties are shown, and how
+-- which properties are shown, and how, or whether they are only counted
 pub record IsShown (rows : List Row) (shown : Shown) : Type 0 where
   pub symbol : text_of shown.symbol ≡ first_of (codes "SYMBOL") rows
   pub in_package : text_of shown.package ≡ first_of (codes "package") rows
@@ -91,6 +103,7 @@ pub record IsShown (rows : List Row) (shown : Shown) : Type 0 where
   pub like : text_of shown.like ≡ first_of (codes "like") rows
   pub forms : shown.forms ≡ is_set (first_of (codes "forms") rows)
   pub json : shown.json ≡ is_set (first_of (codes "json") rows)
+  pub count : shown.count ≡ is_set (first_of (codes "count") rows)
 
 -- which figures are told, and how
 pub record IsInfo (rows : List Row) (part : InfoPart) : Type 0 where
@@ -110,6 +123,7 @@ IsLook name rows (Info part) = (name ≡ codes "info") × IsInfo rows part
 IsLook name rows (Log records) = (name ≡ codes "log") × AreRecords rows records
 IsLook name rows (Backup to) = (name ≡ codes "backup") × (Some to.now ≡ first_of (codes "DEST") rows)
 IsLook name rows (Dump place) = (name ≡ codes "dump") × (Some place ≡ place_given 0 (first_of (codes "at") rows))
+IsLook name rows Verify = name ≡ codes "verify"
 
 -- and for this folder
 abbrev pub IsLooked : Text → Look → Text → List Row → Type 0

@@ -28,7 +28,7 @@ is_report command = bytes_eq command (codes "dump") || (bytes_eq command (codes 
 abbrev pub way_of_help : List Text → Way
 way_of_help [] = Serve
 way_of_help (name ∷ names) =
-    if is_look name || bytes_eq name (codes "dump") then Look
+    if is_look name || (bytes_eq name (codes "dump") || bytes_eq name (codes "verify")) then Look
     else (if bytes_eq name (codes "check") then Check else Serve)
 
 -- a command with these options
@@ -38,8 +38,9 @@ way_of_command command options =
     else (if bytes_eq command (codes "check") then Check
     else (if bytes_eq command (codes "help") then way_of_help options
     else (if bytes_eq command (codes "dump") && (has_option (codes "--at") options || asks_for_help options) then Look
+    else (if bytes_eq command (codes "verify") && (has_option (codes "--json") options || asks_for_help options) then Look
     else (if is_report command && has_option (codes "--existing") options then See
-    else (if bytes_eq command (codes "run") && has_option (codes "--messages") options then Messages else Serve)))))
+    else (if bytes_eq command (codes "run") && has_option (codes "--messages") options then Messages else Serve))))))
 
 -- the words of the command line, of which the first is the program's name
 abbrev pub way_of : List Text → Way

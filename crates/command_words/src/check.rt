@@ -1,4 +1,4 @@
-// The words of the command that looks for forms which cannot be read: `check [FILE] [--store DIR]`.
+// The words of the command that looks for forms which cannot be read: `check [FILE] [--store DIR] [--json]`.
 ghost use Rattle.std.specs.Prelude.{◌≡◌, codes, false, map, option_map, IfOk, IfSome, Some};
 ghost use Rattle.clap.specs.Words.{app_of, first_of, found_of, rows_of, rule_of, subcommand_rows_of};
 ghost use Rattle.clap.specs.declared.builder.command.Command.TheViews.{out-Command as fields_of};
@@ -6,8 +6,9 @@ ghost use Rattle.command_words.specs.CheckLine.{check_line, checking_line, file_
 ghost use Rattle.command_words.specs.Rules.{FindsCommand};
 
 use crate::help::{CHECK_HELP, CHECK_USAGE};
-use crate::look_lines::bare_command;
-use crate::rules::{Help, new_command, with_arg, with_option};
+use crate::look_lines::{bare_command, with_json};
+use crate::looks::JSON;
+use crate::rules::{Help, flag_is_set, new_command, with_arg, with_option};
 use crate::tips::with_tip;
 use crate::words::nothing_asked;
 use clap::{Arg, ArgAction, ArgMatches, Command, Error};
@@ -27,6 +28,8 @@ pub struct Check<'a> {
     pub file: Option<&'a str>,
     /// The folder of the store under whose world it is read; else it is that of a new store.
     pub store: Option<&'a str>,
+    /// As JSON, and not as lines.
+    pub json: bool,
 }
 
 /// What the words ask to look at: they are the program's name and `check` with its options.
@@ -70,6 +73,7 @@ fn check_by<'a>(matches: &ArgMatches<'a>) -> Option<Check<'a>>
     Some(Check {
         file: file_in(found),
         store: found.get_str(STORE),
+        json: flag_is_set(found.get_str(JSON)),
     })
 }
 
@@ -101,7 +105,8 @@ fn check_command<'a>(alloc: Global) -> Result<Command<'a>, AllocError>
     };
     let command = with_arg(new_command(alloc, CHECK, help), file_place(alloc))?;
     let help = "Read under the packages and the readtable of this store";
-    with_option(command, alloc, STORE, "DIR", help)
+    let command = with_option(command, alloc, STORE, "DIR", help)?;
+    with_json(command, alloc)
 }
 
 fn file_place<'a>(alloc: Global) -> Arg<'a>

@@ -2,7 +2,7 @@
 ghost use Rattle.std.specs.Prelude.{◌≡◌, codes, false, IfOk};
 ghost use Rattle.clap.specs.Words.{app_of, rule_of, with_rule};
 ghost use Rattle.clap.specs.declared.builder.command.Command.TheViews.{out-Command as fields_of};
-ghost use Rattle.command_words.specs.LookLine.{backup_line, dump_line, info_line, log_line, looking_line, names_line, rows_line, show_line, symbol_rule, telling_line};
+ghost use Rattle.command_words.specs.LookLine.{backup_line, dump_line, info_line, layouts_line, log_line, looking_line, names_line, rows_line, show_line, symbol_rule, telling_line, verify_line, worlds_line};
 ghost use Rattle.command_words.specs.Rules.{bare_line, flag_rule, folder_line};
 
 use crate::help::{
@@ -10,17 +10,26 @@ use crate::help::{
     USAGE,
 };
 use crate::looks::{
-    AT, BACKUP, DESTINATION, FILES, FORMS, FROM, INDICATOR, INFO, JSON, LIKE, LOG, PACKAGE, PLACES,
-    SHOW, SYMBOL,
+    AT, BACKUP, COUNT, DESTINATION, FILES, FORMS, FROM, INDICATOR, INFO, JSON, LIKE, LOG, PACKAGE,
+    PLACES, SHOW, SYMBOL,
 };
 use crate::rules::{Help, PROGRAM, folder_command, place, with_arg, with_flag, with_option};
-use crate::words::{DUMP, dump_help};
+use crate::words::{DUMP, VERIFY, dump_help, verify_help};
 use clap::{Arg, ArgAction, Command};
 use std::alloc::{AllocError, Global};
 
 // The program with these commands alone.
 pub(crate) fn looking_command<'a>(alloc: Global) -> Result<Command<'a>, AllocError>
     ensures { IfOk result (λ command. app_of command ≡ looking_line) }
+{
+    let with_dump = worlds_command(alloc)?;
+    let verify = verify_command(alloc)?;
+    with_dump.subcommand(verify)
+}
+
+// The same without `verify`.
+fn worlds_command<'a>(alloc: Global) -> Result<Command<'a>, AllocError>
+    ensures { IfOk result (λ command. app_of command ≡ worlds_line) }
 {
     let with_log = telling_command(alloc)?;
     let backup = backup_command(alloc)?;
@@ -69,6 +78,16 @@ fn show_command<'a>(alloc: Global) -> Result<Command<'a>, AllocError>
     ensures line { IfOk result (λ command. app_of command ≡ show_line) }
     ensures local { IfOk result (λ command. (fields_of command).has_globals ≡ false) }
 {
+    let command = layouts_command(alloc)?;
+    let help = "Write how many they are alone, and of how many symbols";
+    with_flag(command, alloc, COUNT, help)
+}
+
+// The same, which always writes the properties themselves.
+fn layouts_command<'a>(alloc: Global) -> Result<Command<'a>, AllocError>
+    ensures line { IfOk result (λ command. app_of command ≡ layouts_line) }
+    ensures local { IfOk result (λ command. (fields_of command).has_globals ≡ false) }
+{
     let command = names_command(alloc)?;
     let command = with_flag(command, alloc, FORMS, "Write the forms that set them")?;
     with_json(command, alloc)
@@ -93,8 +112,8 @@ fn symbol_place<'a>(alloc: Global) -> Arg<'a>
         .action(ArgAction::Set)
 }
 
-// The same command, which may write JSON.
-fn with_json<'a>(command: Command<'a>, alloc: Global) -> Result<Command<'a>, AllocError>
+/// The same command, which may write JSON.
+pub(crate) fn with_json<'a>(command: Command<'a>, alloc: Global) -> Result<Command<'a>, AllocError>
     requires { (fields_of command).has_globals ≡ false }
     ensures line { IfOk result (λ new. app_of new
         ≡ with_rule (app_of command.entry) (flag_rule (codes "json"))) }
@@ -174,4 +193,12 @@ fn dump_command<'a>(alloc: Global) -> Result<Command<'a>, AllocError>
     let help =
         "The world after the first N records of the half in use; G.N of that of generation G";
     with_option(command, alloc, AT, "N", help)
+}
+
+fn verify_command<'a>(alloc: Global) -> Result<Command<'a>, AllocError>
+    ensures line { IfOk result (λ command. app_of command ≡ verify_line) }
+    ensures local { IfOk result (λ command. (fields_of command).has_globals ≡ false) }
+{
+    let command = look_command(alloc, VERIFY, verify_help())?;
+    with_json(command, alloc)
 }

@@ -1,4 +1,4 @@
-// The words of the commands that only look into a store: `show`, `info`, `log` and `backup`, and `dump --at N`.
+// The words of the commands that only look into a store: `show`, `info`, `log` and `backup`, `dump --at N` and `verify --json`.
 ghost use Rattle.std.specs.Prelude.{◌≡◌, map, IfOk, Some};
 ghost use Rattle.std.specs.Char.{is_ascii_digit};
 ghost use Rattle.std.specs.List.{list_all};
@@ -9,7 +9,7 @@ ghost use Rattle.command_words.specs.Rules.{FindsCommand};
 use crate::look_lines::looking_command;
 use crate::rules::{DIRECTORY, flag_is_set};
 use crate::tips::with_tip;
-use crate::words::{DUMP, nothing_asked};
+use crate::words::{DUMP, VERIFY, nothing_asked};
 use clap::error::ErrorKind;
 use clap::{ArgMatches, Command, Error};
 use std::alloc::{AllocError, Global};
@@ -35,6 +35,8 @@ pub(crate) const SYMBOL: &str = "SYMBOL";
 
 pub(crate) const JSON: &str = "json";
 
+pub(crate) const COUNT: &str = "count";
+
 pub(crate) const FILES: &str = "files";
 
 pub(crate) const FROM: &str = "from";
@@ -58,6 +60,8 @@ pub enum Look<'a> {
     Backup(&'a str),
     /// The text of the world after so many records of the half in use.
     Dump(RecordPlace),
+    /// The half in use and the position of messages, as JSON.
+    Verify,
 }
 
 /// Which figures are told, and how.
@@ -158,6 +162,8 @@ pub struct Shown<'a> {
     pub forms: bool,
     /// As JSON, and neither as forms nor as lines.
     pub json: bool,
+    /// How many they are alone, and of how many symbols.
+    pub count: bool,
 }
 
 /// What the words ask to look at.
@@ -278,6 +284,7 @@ fn look_for<'a>(name: &str, found: &ArgMatches<'a>) -> Result<Look<'a>, Mistake<
             None => Err(Mistake::NoCommand),
         },
         DUMP => Ok(Look::Dump(place_by(found, AT, 0)?)),
+        VERIFY => Ok(Look::Verify),
         _ => Err(Mistake::NoCommand),
     }
 }
@@ -293,6 +300,7 @@ fn shown_by<'a>(found: &ArgMatches<'a>) -> Shown<'a>
         like: found.get_str(LIKE),
         forms: flag_is_set(found.get_str(FORMS)),
         json: flag_is_set(found.get_str(JSON)),
+        count: flag_is_set(found.get_str(COUNT)),
     }
 }
 
@@ -302,6 +310,9 @@ fn one_layout<'a>(shown: Shown<'a>) -> Result<Shown<'a>, Mistake<'a>>
 {
     if shown.forms && shown.json {
         return Err(Mistake::FormsWith(JSON));
+    }
+    if shown.forms && shown.count {
+        return Err(Mistake::FormsWith(COUNT));
     }
     Ok(shown)
 }

@@ -49,6 +49,9 @@ fn way_of_command<S: AsStr>(command: &str, options: &[S]) -> Way
     if command == DUMP && (has_option(options, "--at") || asks_for_help(options)) {
         return Way::Look;
     }
+    if command == VERIFY && (has_option(options, "--json") || asks_for_help(options)) {
+        return Way::Look;
+    }
     if is_report(command) && has_option(options, "--existing") {
         return Way::See;
     }
@@ -80,7 +83,7 @@ fn way_of_help<S: AsStr>(names: &[S]) -> Way
         return Way::Serve;
     };
     let name = name.as_str();
-    if is_look(name) || name == DUMP {
+    if is_look(name) || name == DUMP || name == VERIFY {
         Way::Look
     } else if name == CHECK {
         Way::Check

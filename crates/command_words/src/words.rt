@@ -227,12 +227,7 @@ fn whole_command<'a>(alloc: Global) -> Result<Command<'a>, AllocError>
     let export = export_command(alloc)?;
     let with_export = with_upgrade.subcommand(export)?;
     let with_dump = with_command(alloc, with_export, DUMP, dump_help())?;
-    let help = Help {
-        about: "Tells the half in use, its generation and how many records it has",
-        usage: VERIFY_USAGE,
-        end: VERIFY_HELP,
-    };
-    with_command(alloc, with_dump, VERIFY, help)
+    with_command(alloc, with_dump, VERIFY, verify_help())
 }
 
 /// What the help says of `dump`.
@@ -241,6 +236,15 @@ pub(crate) fn dump_help() -> Help<'static> {
         about: "Writes the text of the world",
         usage: DUMP_USAGE,
         end: DUMP_HELP,
+    }
+}
+
+/// What the help says of `verify`.
+pub(crate) fn verify_help() -> Help<'static> {
+    Help {
+        about: "Tells the half in use, its generation and how many records it has",
+        usage: VERIFY_USAGE,
+        end: VERIFY_HELP,
     }
 }
 

@@ -1,6 +1,7 @@
 pub mod Accounts
 pub mod Commands
 pub mod Folders
+pub mod Output
 pub mod Report
 pub mod Session
 pub mod Sessions

@@ -6,6 +6,7 @@ ghost use Rattle.command_words.specs.declared.words.Task.{Task};
 ghost use Rattle.command_words.specs.CommandLine.{AsksFor, IsTaken, faults_of};
 ghost use Rattle.store_commands.specs.Commands.{DoesAfter, OpensFolder, Performs, PerformsAtTerminal, PerformsInTurn, PerformsNone, SitsAfter};
 ghost use Rattle.store_commands.specs.Folders.{OpensStore};
+ghost use Rattle.store_commands.specs.Output.{held_by};
 ghost use Rattle.store_commands.specs.Status.{EndsAfter, HasFaultNumber, IsAfterWords, IsOfWords, IsQuiet, TakesWords};
 ghost use Rattle.store_commands.specs.Told.{TellsFault, left_out_of};
 ghost use Rattle.store_commands.specs.declared.told.Told.{Told};
@@ -13,6 +14,7 @@ ghost use Rattle.store_commands.specs.declared.told.Told.{Told};
 use crate::folders::{Folders, TellsCause, open_folder};
 use crate::on_disk::carry_out_on;
 use crate::opening::Opening;
+use crate::output::SessionOutput;
 use crate::recipient::SessionRecipient;
 use crate::sessions::sessions_on;
 use crate::status::Status;
@@ -46,13 +48,13 @@ use user_macros::MacroFunctions;
 /// Faults are found in this order: the words, the seed, DIR, the opening of the store, the command. A text on words that are refused, or
 /// the line of a fault, and after that of the device one with its cause, goes to `faults`, and so does the line on a refusal that
 /// ended the session; help and the version that was asked for
-/// go to `output`. What is written to `output` is flushed.
-pub fn program<R, M, S, I, O, F>(
+/// go to `output`. What is written to `output` is flushed. Of the first 100 forms that are refused the teller of `output` writes a line each.
+pub fn program<R, M, S, I, O, T, F>(
     rt: &R,
     macros: M,
     words: &[S],
     input: &mut I,
-    output: &mut O,
+    output: &mut SessionOutput<'_, O, T>,
     faults: &mut F,
 ) -> Status
 where
@@ -61,6 +63,7 @@ where
     S: AsStr,
     I: Places,
     O: Write,
+    T: Write,
     F: Write,
     requires answers { M.answers macros }
     ensures words { (folder : Text) (existing : Bool) (task : Task)
@@ -69,13 +72,13 @@ where
     ensures ends { EndsAfter (faults_of (map S.text words.now)) result }
     ensures taken { (folder : Text) (existing : Bool) (task : Task)
         → IsTaken (map S.text words.now) folder existing task
-        → (told : Told) × Performs M.Meaning.functions I.remaining O.contents
+        → (told : Told) × Performs M.Meaning.functions I.remaining (held_by O.contents)
         input.old input.new output.old output.new folder task result told
         × TellsFault result told (F.contents faults.old) (F.contents faults.new)
         × OpensFolder input.old input.new output.old output.new
         (OpensStore R.Disk.state R.Disk.tells (R.opens rt.now))
         (DoesAfter M.Meaning.functions R.Disk.state macros
-        (are_registered M.Meaning.functions (M.functions macros)) I.remaining O.contents
+        (are_registered M.Meaning.functions (M.functions macros)) I.remaining (held_by O.contents)
         input.old input.new output.old output.new task result told)
         folder existing result told }
     ensures untaken { (faults_of (map S.text words.now) ≡ [] → ⊥)
@@ -91,7 +94,7 @@ where
             end_with_told(faults, status, &told)
         }
         Err(error) => {
-            let status = answer_words(&error, output, faults);
+            let status = answer_words(&error, &mut output.output, faults);
             end_with(faults, status)
         }
     }
@@ -100,12 +103,12 @@ where
 /// Does what the words ask for, as `program`, where the input is a terminal. `run` is sessions in a row on one open store then: after
 /// a refusal of the reader the rest of the line is dropped, and the next session begins; the status is that of the last one. A terminal
 /// gives a byte at a time, so that with `--group` each form is a group of its own there.
-pub fn program_at_terminal<R, M, S, I, O, F>(
+pub fn program_at_terminal<R, M, S, I, O, T, F>(
     rt: &R,
     macros: M,
     words: &[S],
     input: &mut I,
-    output: &mut O,
+    output: &mut SessionOutput<'_, O, T>,
     faults: &mut F,
 ) -> Status
 where
@@ -114,18 +117,19 @@ where
     S: AsStr,
     I: Sessions,
     O: Write,
+    T: Write,
     F: Write,
     requires answers { M.answers macros }
     ensures ends { EndsAfter (faults_of (map S.text words.now)) result }
     ensures taken { (folder : Text) (existing : Bool) (task : Task)
         → IsTaken (map S.text words.now) folder existing task
-        → (told : Told) × PerformsAtTerminal M.Meaning.functions I.remaining O.contents
+        → (told : Told) × PerformsAtTerminal M.Meaning.functions I.remaining (held_by O.contents)
         input.old input.new output.old output.new folder task result told
         × TellsFault result told (F.contents faults.old) (F.contents faults.new)
         × OpensFolder input.old input.new output.old output.new
         (OpensStore R.Disk.state R.Disk.tells (R.opens rt.now))
         (SitsAfter M.Meaning.functions R.Disk.state macros
-        (are_registered M.Meaning.functions (M.functions macros)) I.remaining O.contents
+        (are_registered M.Meaning.functions (M.functions macros)) I.remaining (held_by O.contents)
         input.old input.new output.old output.new task result told)
         folder existing result told }
     ensures untaken { (faults_of (map S.text words.now) ≡ [] → ⊥)
@@ -139,34 +143,35 @@ where
             end_with_told(faults, status, &told)
         }
         Err(refusal) => {
-            let status = answer_words(&refusal, output, faults);
+            let status = answer_words(&refusal, &mut output.output, faults);
             end_with(faults, status)
         }
     }
 }
 
 // Carries a task out over the store in a folder, a session as sessions in a row.
-fn carry_out_at_terminal<R, M, I, O>(
+fn carry_out_at_terminal<R, M, I, O, T>(
     rt: &R,
     macros: M,
     asked: Asked<'_>,
     input: &mut I,
-    output: &mut O,
+    output: &mut SessionOutput<'_, O, T>,
 ) -> (Status, Told)
 where
     R: Folders + RandomSource + AllocGlobal,
     M: MacroFunctions + Drop,
     I: Sessions,
     O: Write,
+    T: Write,
     requires answers { M.answers macros }
     ensures taken { TakesWords result.0 }
     ensures opened { OpensFolder input.old input.new output.old output.new
         (OpensStore R.Disk.state R.Disk.tells (R.opens rt.now))
         (SitsAfter M.Meaning.functions R.Disk.state macros
-        (are_registered M.Meaning.functions (M.functions macros)) I.remaining O.contents
+        (are_registered M.Meaning.functions (M.functions macros)) I.remaining (held_by O.contents)
         input.old input.new output.old output.new asked.entry.task result.0 result.1)
         asked.entry.folder.now asked.entry.existing result.0 result.1 }
-    ensures performs { PerformsAtTerminal M.Meaning.functions I.remaining O.contents
+    ensures performs { PerformsAtTerminal M.Meaning.functions I.remaining (held_by O.contents)
         input.old input.new output.old output.new asked.entry.folder.now asked.entry.task result.0 result.1 }
 {
     match asked.task {
@@ -259,25 +264,26 @@ fn write_help<O: Write>(help: &Error, output: &mut O) -> Status
 
 // Carries a task out over the store in a folder, and tells what is to be told of it on standard error. The store is closed after it,
 // and its files are let go.
-fn carry_out<R, M, I, O>(
+fn carry_out<R, M, I, O, T>(
     rt: &R,
     macros: M,
     asked: Asked<'_>,
     input: &mut I,
-    output: &mut O,
+    output: &mut SessionOutput<'_, O, T>,
 ) -> (Status, Told)
 where
     R: Folders + RandomSource + AllocGlobal,
     M: MacroFunctions + Drop,
     I: Places,
     O: Write,
+    T: Write,
     requires answers { M.answers macros }
-    ensures performs { Performs M.Meaning.functions I.remaining O.contents
+    ensures performs { Performs M.Meaning.functions I.remaining (held_by O.contents)
         input.old input.new output.old output.new asked.entry.folder.now asked.entry.task result.0 result.1 }
     ensures opened { OpensFolder input.old input.new output.old output.new
         (OpensStore R.Disk.state R.Disk.tells (R.opens rt.now))
         (DoesAfter M.Meaning.functions R.Disk.state macros
-        (are_registered M.Meaning.functions (M.functions macros)) I.remaining O.contents
+        (are_registered M.Meaning.functions (M.functions macros)) I.remaining (held_by O.contents)
         input.old input.new output.old output.new asked.entry.task result.0 result.1)
         asked.entry.folder.now asked.entry.existing result.0 result.1 }
 {

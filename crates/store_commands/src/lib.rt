@@ -7,6 +7,8 @@
 //!   writes the forms that make the world, and `report_on` writes what is told of a store (modules `session`, `snapshot`, `upgrade`,
 //!   `export` and `report`). What the store is opened with is handed to them as an `Opening` (module `opening`).
 //! - `sessions_on` serves sessions in a row (module `sessions`), and `terminal` has the input that asks for them, with its prompts.
+//! - `output` has the output of the program, which tells of forms that were refused: the place of each and the part for which it was, on a stream
+//!   of its own.
 //! - `recipient` has who gets the lines of sessions in a row, and may keep account of each; `sessions_go_on` (module `laws`): what follows
 //!   at each moment of them.
 //! - `answers` has an output that tells what was answered, and an input that knows whether anything was; `given` tells comments from
@@ -34,6 +36,7 @@ mod laws;
 mod looking;
 mod on_disk;
 mod opening;
+mod output;
 mod recipient;
 mod report;
 mod session;
@@ -48,8 +51,8 @@ pub use answers::{Answers, Heard, Piped};
 pub use command_words::{Report, Task};
 pub use commands::{answer_words, program, program_at_terminal};
 pub use diagnostics::{
-    Lines, Places, Refusal, Spot, Spots, Unwritten, write_fault, write_fault_with_cause,
-    write_refusal,
+    History, Lines, Places, Refusal, RefusalTeller, Spot, Spots, Unwritten, write_fault,
+    write_fault_with_cause, write_refusal,
 };
 pub use export::export_on;
 pub use folders::{Folders, TellsCause, holds_store, open_folder};
@@ -57,6 +60,7 @@ pub use half_line::write_half_line;
 pub use laws::{existing_stores_are_open, sessions_go_on};
 pub use looking::Looking;
 pub use opening::{HALF_LIMIT, Opening};
+pub use output::SessionOutput;
 pub use recipient::SessionRecipient;
 pub use report::{report_on, status_of_output};
 pub use session::serve_on;

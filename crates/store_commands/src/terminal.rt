@@ -20,14 +20,11 @@ const WELCOME: &[u8] =
     b"Type a form and Enter; help tells more, Ctrl-D ends. For editing lines: rlwrap ./pazturrok run DIR\n";
 
 const HELP: &[u8] =
-    b"(SETF (GET 'APPLE 'PRICE) 7) sets a property, (GET 'APPLE 'PRICE) gives it, (SYMBOL-PLIST 'APPLE) gives all of a symbol.\nAn answer that begins with ! is a refusal: ./pazturrok help 31 tells of the number 31, ./pazturrok help GET of the operator GET;\ndocs/use/operators.md has all operators.\nCtrl-D at the beginning of a line ends. Each answer is in the store by then.\n";
+    b"(SETF (GET 'APPLE 'PRICE) 7) sets a property, (GET 'APPLE 'PRICE) gives it, (SYMBOL-PLIST 'APPLE) gives all of a symbol.\nAn answer that begins with ! is a refusal: ./pazturrok help 31 tells of the number 31, ./pazturrok help GET of the operator GET;\n./pazturrok help has all commands, docs/use/operators.md all operators.\nCtrl-D at the beginning of a line ends. Each answer is in the store by then.\n";
 
 const BESIDE: &[u8] = b"Beside this session: ./pazturrok ";
 
 const LEAVING: &[u8] = b"Ctrl-D at the beginning of a line ends.\n";
-
-const UNKNOWN_OPERATOR: &[u8] =
-    b"The current package finds no operator of this name: docs/use/operators.md has all. + and the other functions are known after\n./pazturrok run DIR --operators. If none is found any more, the package does not use COMMON-LISP, and\n(COMMON-LISP:IN-PACKAGE \"CL-USER\") leads back.\n";
 
 const UNANSWERED: &[u8] =
     b"Nothing was answered: a form is open, or the readtable makes comments of what is typed; --rescue reads under the standard one.\n";
@@ -61,8 +58,6 @@ pub struct Terminal<'a, I, P> {
     open_lines: u8,
     gave_text: bool,
     has_answered: bool,
-    // whether it was told how to go on after an unknown operator, since the last other answer
-    told_operators: bool,
     // how many bytes were given, and how many of them before the present session
     given: u64,
     start: u64,
@@ -96,7 +91,6 @@ impl<'a, I, P> Terminal<'a, I, P> {
             open_lines: 0,
             gave_text: false,
             has_answered: false,
-            told_operators: false,
             given: 0,
             start: 0,
             is_new: true,
@@ -166,7 +160,7 @@ impl<I, P: Write> Terminal<'_, I, P> {
             } else {
                 Line::Closed
             };
-            self.hint(heard);
+            self.hint();
         }
         if self.last == b'\n' {
             self.typed.clear();
@@ -184,6 +178,10 @@ impl<I, P: Write> Terminal<'_, I, P> {
             (Line::Closed, _) => Line::Open,
             (line, _) => line,
         };
+        if self.last == b'\n' && self.line == Line::Closed {
+            // a form was answered before the line ended
+            let _ = write_text(&mut self.prompts, told_of(self.typed.as_slice()));
+        }
         if self.last == b'\n' && self.line == Line::Open {
             self.open_lines = self.open_lines.saturating_add(1);
             if self.open_lines == PATIENCE {
@@ -192,24 +190,13 @@ impl<I, P: Write> Terminal<'_, I, P> {
         }
     }
 
-    // Tells how to go on after an answer: to a word that asks for help, or that would leave, and to an unknown operator.
-    fn hint(&mut self, heard: Heard)
+    // Tells how to go on after an answer to a line that asks for help, or that would leave.
+    fn hint(&mut self)
         ensures { self.new.input ≡ self.old.input }
     {
-        if self.last == b'\n' {
-            self.tell_line();
+        if self.last != b'\n' {
+            return;
         }
-        let is_unknown = heard == Heard::UnknownOperator;
-        if is_unknown && !self.told_operators {
-            let _ = write_text(&mut self.prompts, UNKNOWN_OPERATOR);
-        }
-        self.told_operators = is_unknown;
-    }
-
-    // Tells more after a line that asks for help, or that would leave.
-    fn tell_line(&mut self)
-        ensures { self.new.input ≡ self.old.input }
-    {
         let typed = self.typed.as_slice();
         if asks_for_page(typed) {
             let _ = write_text(&mut self.prompts, BESIDE);
@@ -221,15 +208,29 @@ impl<I, P: Write> Terminal<'_, I, P> {
     }
 }
 
-// What is told after a line that is one of these words.
+// What is told after a line that is one of these words, or a form of one.
 fn told_of(typed: &[u8]) -> &'static [u8] {
-    if typed.eq_ignore_ascii_case(b"help") {
+    if asks_for_help(typed) {
         HELP
-    } else if typed.eq_ignore_ascii_case(b"quit") || typed.eq_ignore_ascii_case(b"exit") {
+    } else if would_leave(typed) {
         LEAVING
     } else {
         b""
     }
+}
+
+fn asks_for_help(typed: &[u8]) -> bool {
+    typed.eq_ignore_ascii_case(b"help")
+        || typed.eq_ignore_ascii_case(b"(help)")
+        || typed.eq_ignore_ascii_case(b":help")
+        || typed == b"?".as_slice()
+}
+
+fn would_leave(typed: &[u8]) -> bool {
+    typed.eq_ignore_ascii_case(b"quit")
+        || typed.eq_ignore_ascii_case(b"exit")
+        || typed.eq_ignore_ascii_case(b"(quit)")
+        || typed.eq_ignore_ascii_case(b"(exit)")
 }
 
 // Whether a line asks for what the pages say of an operator or of a number.

@@ -17,9 +17,10 @@ use Rattle.store_commands.specs.Session.{half_limit}
 use Rattle.store_commands.specs.Status.{IsOfWords}
 use Rattle.store_commands.specs.declared.status.Status.{Status}
 use Rattle.store_looks.specs.Checked.{Checks, EndsSo, FindsIn, IsCheckText, IsTextOf, IsWorldOf, TellsForms}
-use Rattle.store_looks.specs.Told.{Has}
+use Rattle.store_looks.specs.Told.{Has, notation_of}
 use Rattle.store_looks.specs.Unlooked.{status_of}
 use Rattle.store_looks.proofs.Looking.{at_world}
+use Rattle.store_reports.specs.declared.numbers.Notation.{Notation}
 use Rattle.world_text.specs.Snapshot.{snapshot, snapshot_in}
 use Rattle.store_looks.specs.declared.unlooked.Unlooked.{Unlooked}
 use Rattle.user_macros.specs.Functions.{Functions}
@@ -27,9 +28,10 @@ use Rattle.user_macros.specs.Functions.{Functions}
 module _ (functions registered : Functions) {R : Type 0} (macros : R) (input held written : Option (List ℕ)) where
   -- what was found was told
   pub forms_told : (asked : Check) (text seen : List ℕ) (world : WorldState) (found : Checking) (lines told : List ℕ) (all : Bool) (status : Status) → seen ≡ text → told ≡ lines
-      → IsTextOf (text_of asked.file) input text → IsWorldOf functions macros (text_of asked.store) world → FindsIn registered world seen found → IsCheckText found lines
+      → IsTextOf (text_of asked.file) input text → IsWorldOf functions macros (text_of asked.store) world → FindsIn registered world seen found → (notation : Notation)
+      → notation ≡ notation_of asked.json → IsCheckText notation found lines
       → all ≡ (length found.1 == 0) → EndsSo all held written told status → TellsForms functions registered macros input held written asked status
-  forms_told asked text seen world found lines told all status seen_is told_is text_is world_is finds lines_are all_is ends = record {
+  forms_told asked text seen world found lines told all status seen_is told_is text_is world_is finds notation asked_so lines_are all_is ends = record {
     text = text;
     text_is = text_is;
     world = world;
@@ -37,7 +39,7 @@ module _ (functions registered : Functions) {R : Type 0} (macros : R) (input hel
     found = found;
     finds = subst (λ (t : List ℕ). FindsIn registered world t found) seen_is finds;
     told = lines;
-    told_is = lines_are;
+    told_is = subst (λ (n : Notation). IsCheckText n found lines) asked_so lines_are;
     tells = subst (λ (b : Bool). EndsSo b held written lines status) all_is (subst (λ (t : List ℕ). EndsSo all held written t status) told_is ends);
   }
 

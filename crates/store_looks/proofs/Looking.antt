@@ -1,16 +1,18 @@
 -- From what was seen to what a look promises.
-use Rattle.std.proofs.Common.{◌≡◌, ◌∙◌, ℕ, Bool, false, true, List, [], Option, Some, Result, Ok, Err, MatchResult, refl, sym, subst, ap, inl, inr, append-nil}
+use Rattle.std.proofs.Common.{◌≡◌, ◌∙◌, ℕ, Bool, false, true, List, [], Option, None, Some, Result, Ok, Err, MatchResult, option_and_then, refl, sym, subst, ap, inl, inr, append-nil}
 use Rattle.std.specs.Borrow.{Bor}
 use Rattle.std.specs.Global.{Vec}
 use Rattle.std.specs.Prelude.{IfErr, IfOk, IfSome}
 use Rattle.clap.specs.Words.{Text}
 use Rattle.command_words.specs.declared.looks.InfoPart.{InfoPart}
 use Rattle.command_words.specs.declared.looks.Look.{Look}
-use Rattle.command_words.specs.declared.looks.Look.TheVariants.{Backup, Dump, Info, Log, Show}
+use Rattle.command_words.specs.declared.looks.Look.TheVariants.{Backup, Dump, Info, Log, Show, Verify}
+use Rattle.disk_trait.specs.declared.half.Half.{Half}
 use Rattle.disk_trait.specs.declared.host.HostError.{HostError}
 use Rattle.log_look.specs.declared.sight.Sight.{Sight}
 use Rattle.log_look.specs.SeenState.{state_of}
 use Rattle.log_look.specs.declared.host.Figures.{Figures}
+use Rattle.messages.specs.Position.{position}
 use Rattle.plist_state.specs.State.{WorldState}
 use Rattle.prevalence_store.specs.calls.Open.{IsOpened, IsUnopened}
 use Rattle.prevalence_store.specs.calls.Store.{StoreView}
@@ -30,10 +32,9 @@ use Rattle.store_commands.specs.Texts.{TellsText}
 use Rattle.store_commands.specs.declared.status.Status.{Status}
 use Rattle.store_commands.specs.declared.status.Status.TheVariants as statuses
 use Rattle.store_looks.specs.Looks.{PrintsText}
-use Rattle.store_looks.specs.Told.{BacksUp, IsSelection, Looks, LooksAt, System, TellsDump, TellsFigures, TellsFileFigures, TellsInfo, TellsLog, TellsLook, TellsShown, Unopens, WithholdsBackup, WithholdsDump, WithholdsFigures, WithholdsFileFigures, WithholdsInfo, WithholdsLog, WithholdsLook, WithholdsShown, notation_of, part_of, status_in}
+use Rattle.store_looks.specs.Told.{BacksUp, IsSelection, TellsProperties, WithholdsProperties, Looks, LooksAt, System, TellsDump, TellsFigures, TellsFileFigures, TellsInfo, TellsLog, TellsLook, TellsShown, TellsVerified, Unopens, WithholdsBackup, WithholdsDump, WithholdsFigures, WithholdsFileFigures, WithholdsInfo, WithholdsLog, WithholdsLook, WithholdsShown, WithholdsVerified, notation_of, part_of, status_in}
 use Rattle.store_looks.specs.Unlooked.{IsOfBackup, of_log, of_show}
-use Rattle.store_reports.specs.Figures.{AreFiguresOf, file_info_text, info_text}
-use Rattle.store_reports.specs.Shown.{IsShown, IsUnshown}
+use Rattle.store_reports.specs.Figures.{AreFiguresOf, file_info_text, info_text, verified_text}
 use Rattle.store_reports.specs.declared.backups.BackupError.{BackupError}
 use Rattle.store_reports.specs.declared.figures.HalfFigures.{HalfFigures}
 use Rattle.store_reports.specs.declared.numbers.Notation.{Notation}
@@ -58,6 +59,8 @@ module _ (functions : Functions) {R : Type 0} (macros : R) (held written : Optio
   told_prints (Log records) sight status told = (told.0, told.2)
   told_prints (Backup to) sight status told = subst (PrintsText held written) (sym told.0.1) (nothing_prints held written told.1)
   told_prints (Dump place) sight status told = (snapshot told.2.1.is_opened.world, told.2.1.tells)
+  told_prints Verify sight status told =
+      (verified_text told.opened.half told.opened.generation told.opened.record_count (position told.is_opened.world), told.tells)
 
   module _ (whole : Bool) where
     -- what a look came to
@@ -96,6 +99,16 @@ module _ (functions : Functions) {R : Type 0} (macros : R) (held written : Optio
       pub shown_told : (shown : Shown) → look ≡ Show shown → (ended : Result Status Unlooked)
           → MatchResult ended (TellsShown functions macros held written shown sight) (WithholdsShown functions macros whole shown sight) → CameTo look sight ended
       shown_told shown is ended shows = subst (λ (l : Look). CameTo l sight ended) (sym is) (by_shown shown ended shows)
+
+      by_verified : (ended : Result Status Unlooked)
+          → MatchResult ended (TellsVerified functions macros held written sight) (WithholdsVerified functions whole sight) → CameTo Verify sight ended
+      unfolding TellsLook WithholdsLook
+      by_verified (Ok status) tells = tells
+      by_verified (Err why) tells = tells
+
+      pub verified_told : look ≡ Verify → (ended : Result Status Unlooked)
+          → MatchResult ended (TellsVerified functions macros held written sight) (WithholdsVerified functions whole sight) → CameTo look sight ended
+      verified_told is ended tells = subst (λ (l : Look). CameTo l sight ended) (sym is) (by_verified ended tells)
 
       by_dump : (place : RecordPlace) (ended : Result Status Unlooked)
           → MatchResult ended (TellsDump functions macros held written place sight) (WithholdsDump functions macros whole place sight) → CameTo (Dump place) sight ended
@@ -143,30 +156,52 @@ module _ (functions : Functions) {R : Type 0} (macros : R) (held written : Optio
 pub at_world : (P : WorldState → Type 0) (known : Option WorldState) (world : WorldState) → known ≡ Some world → IfSome known P → P world
 at_world P known world is given = subst (λ (o : Option WorldState). IfSome o P) is given
 
+-- what is told of the half in use of an open store, and of its position
+module _ {R E : Type 0} (store : StoreView Sight R) (half : Half) (generation records : ℕ) (found : Option ℕ) (result : Result (Vec ℕ) E) where
+  pub verified_at : half ≡ store.half → generation ≡ store.generation → records ≡ store.record_count → IfOk result (λ t. t.items ≡ verified_text half generation records found)
+      → found ≡ option_and_then position store.world
+      → IfSome store.world (λ world. IfOk result (λ t. t.items ≡ verified_text store.half store.generation store.record_count (position world)))
+  verified_at of_half of_generation of_records told is = go store.world is
+    where
+      whole : IfOk result (λ t. t.items ≡ verified_text store.half store.generation store.record_count found)
+      whole =
+          subst (λ (h : Half). IfOk result (λ t. t.items ≡ verified_text h store.generation store.record_count found)) of_half
+          (subst (λ (g : ℕ). IfOk result (λ t. t.items ≡ verified_text half g store.record_count found)) of_generation
+          (subst (λ (n : ℕ). IfOk result (λ t. t.items ≡ verified_text half generation n found)) of_records told))
+
+      go : (known : Option WorldState) → found ≡ option_and_then position known
+          → IfSome known (λ world. IfOk result (λ t. t.items ≡ verified_text store.half store.generation store.record_count (position world)))
+      go None same = tt
+      go (Some world) same = subst (λ (f : Option ℕ). IfOk result (λ t. t.items ≡ verified_text store.half store.generation store.record_count f)) same whole
+
 module _ (functions : Functions) {R : Type 0} (macros : R) (store : StoreView Sight R) where
-  module _ (sight : Sight) (opened : IsOpened functions state_of sight macros half_limit store) (shown : Shown) (selection : Selection) (asked : IsSelection shown selection)
-      (result : Result (Vec ℕ) ShowError)
-      (shows : IfSome store.world (λ world. MatchResult result (λ text. IsShown selection world text.items) (IsUnshown selection world))) where
-    showing : MatchResult result (λ text. IsShown selection opened.world text.items) (IsUnshown selection opened.world)
-    showing = at_world (λ world. MatchResult result (λ text. IsShown selection world text.items) (IsUnshown selection world)) store.world opened.world opened.known shows
+  module _ (sight : Sight) (opened : IsOpened functions state_of sight macros half_limit store) (shown : Shown) (selection : Selection) (asked : IsSelection shown selection) where
+    -- what is told of them, and why nothing is
+    abbrev Is : WorldState → List ℕ → Type 0
+    Is = TellsProperties shown.count (notation_of shown.json) selection
 
-    -- properties were shown
-    pub show_done : (held written : Option (List ℕ)) (status : Status) (text : Vec ℕ) (lines : List ℕ) → result ≡ Ok text → lines ≡ text.items → TellsText status held written lines
-        → TellsShown functions macros held written shown sight status
-    unfolding TellsShown
-    show_done held written status text lines is same tells =
-        let told : IsShown selection opened.world text.items =
-        subst (λ (r : Result (Vec ℕ) ShowError). MatchResult r (λ t. IsShown selection opened.world t.items) (IsUnshown selection opened.world)) is showing in
-        (selection, asked, record { opened = store; is_opened = opened; text = lines; is = subst (IsShown selection opened.world) (sym same) told; tells = tells })
+    abbrev IsNot : WorldState → ShowError → Type 0
+    IsNot = WithholdsProperties shown.count selection
 
-    -- none were
-    pub show_failed : (whole : Bool) (error : ShowError) (why : Unlooked) → result ≡ Err error → why ≡ of_show error
-        → WithholdsShown functions macros whole shown sight why
-    unfolding WithholdsShown
-    show_failed whole error why is given =
-        let not : IsUnshown selection opened.world error =
-        subst (λ (r : Result (Vec ℕ) ShowError). MatchResult r (λ t. IsShown selection opened.world t.items) (IsUnshown selection opened.world)) is showing in
-        inr (selection, asked, (error, record { opened = store; is_opened = opened; is = not }, given))
+    module _ (result : Result (Vec ℕ) ShowError) (shows : IfSome store.world (λ world. MatchResult result (λ text. Is world text.items) (IsNot world))) where
+      showing : MatchResult result (λ text. Is opened.world text.items) (IsNot opened.world)
+      showing = at_world (λ world. MatchResult result (λ text. Is world text.items) (IsNot world)) store.world opened.world opened.known shows
+
+      -- properties were shown, or counted
+      pub show_done : (held written : Option (List ℕ)) (status : Status) (text : Vec ℕ) (lines : List ℕ) → result ≡ Ok text → lines ≡ text.items
+          → TellsText status held written lines → TellsShown functions macros held written shown sight status
+      unfolding TellsShown
+      show_done held written status text lines is same tells =
+          let told : Is opened.world text.items = subst (λ (r : Result (Vec ℕ) ShowError). MatchResult r (λ t. Is opened.world t.items) (IsNot opened.world)) is showing in
+          (selection, asked, record { opened = store; is_opened = opened; text = lines; is = subst (Is opened.world) (sym same) told; tells = tells })
+
+      -- none were
+      pub show_failed : (whole : Bool) (error : ShowError) (why : Unlooked) → result ≡ Err error → why ≡ of_show error
+          → WithholdsShown functions macros whole shown sight why
+      unfolding WithholdsShown
+      show_failed whole error why is given =
+          let not : IsNot opened.world error = subst (λ (r : Result (Vec ℕ) ShowError). MatchResult r (λ t. Is opened.world t.items) (IsNot opened.world)) is showing in
+          inr (selection, asked, (error, record { opened = store; is_opened = opened; is = not }, given))
 
   -- figures were told of a sight that is as it was
   pub info_done : (notation : Notation) (measured : Result Figures HostError → Type 0) (sight same : Sight) (half : HalfFigures) (files : Figures) → measured (Ok files) → AreFiguresOf (state_of sight).reads half → (state_of same).reads ≡ (state_of sight).reads
@@ -186,6 +221,17 @@ module _ (functions : Functions) {R : Type 0} (macros : R) (store : StoreView Si
         reads = reads;
         tells = record { opened = store; is_opened = opened; text = lines; is = equal ∙ text_is; tells = tells };
       }
+
+  -- the half in use and the position were told
+  pub verify_done : (sight : Sight) (opened : IsOpened functions state_of sight macros half_limit store) (E : Type 0) (result : Result (Vec ℕ) E) (text : Vec ℕ) (lines : List ℕ) → lines ≡ text.items
+      → IfSome store.world (λ world. IfOk result (λ t. t.items ≡ verified_text store.half store.generation store.record_count (position world))) → result ≡ Ok text
+      → (held written : Option (List ℕ)) (status : Status) → TellsText status held written lines → TellsVerified functions macros held written sight status
+  verify_done sight opened E result text lines equal told is held written status tells =
+      let of_world : IfOk result (λ t. t.items ≡ verified_text store.half store.generation store.record_count (position opened.world)) =
+      at_world (λ world. IfOk result (λ t. t.items ≡ verified_text store.half store.generation store.record_count (position world))) store.world opened.world opened.known told in
+      let text_is : text.items ≡ verified_text store.half store.generation store.record_count (position opened.world) =
+      subst (λ (r : Result (Vec ℕ) E). IfOk r (λ t. t.items ≡ verified_text store.half store.generation store.record_count (position opened.world))) is of_world in
+      record { opened = store; is_opened = opened; tells = subst (TellsText status held written) (equal ∙ text_is) tells }
 
 -- the lines of records were written, or not
 module _ (sight : Sight) where
@@ -207,6 +253,16 @@ module _ (sight : Sight) where
 pub unopens : (functions : Functions) (whole : Bool) (sight : Sight) (number : ℕ) (back : Sight) → IsUnopened functions state_of sight whole half_limit number back → Unopens functions whole sight (unlooked.Fault number)
 unfolding Unopens
 unopens functions whole sight number back refused = (number, back, refused, refl)
+
+-- nor told of
+module _ (functions : Functions) (whole : Bool) (sight : Sight) where
+  pub verify_unopened : (given why : Unlooked) → why ≡ given → Unopens functions whole sight given → WithholdsVerified functions whole sight why
+  unfolding WithholdsVerified
+  verify_unopened given why is not = inl (subst (Unopens functions whole sight) (sym is) not)
+
+  pub verify_memory : (why : Unlooked) → why ≡ unlooked.Fault NO_MEMORY → WithholdsVerified functions whole sight why
+  unfolding WithholdsVerified
+  verify_memory why is = inr is
 
 module _ (functions : Functions) {R : Type 0} (macros : R) (sight : Sight) where
   -- the text of a world after so many records was written

@@ -1,11 +1,11 @@
--- The lines on forms that cannot be read, one after the other.
+-- What is told of forms that cannot be read, one after the other.
 use Rattle.std.proofs.Common.{◌≡◌, ◌∙◌, ℕ, ◌+◌, ◌<◌, List, [], ◌∷◌, ◌++◌, length, take, get_or, sym, ap, subst}
 use Rattle.std.specs.List.{flat_map}
 use Rattle.std.proofs.lemmas.List.{flat_map_more, take_more}
-use Rattle.diagnostics.specs.Refusals.{line_of}
 use Rattle.diagnostics.specs.declared.refusal.Refusal.{Refusal}
 use Rattle.form_check.specs.declared.checking.Unreadable.{Unreadable}
-use Rattle.store_looks.specs.Checked.{AreRefusalsOf, IsCheckText, IsRefusalOf, counts_line}
+use Rattle.store_looks.specs.Checked.{AreRefusalsOf, IsCheckText, IsRefusalOf, counts_text, unreadable_text}
+use Rattle.store_reports.specs.declared.numbers.Notation.{Notation}
 
 -- none so far
 pub none_so_far : AreRefusalsOf [] []
@@ -21,22 +21,24 @@ one_more [] (r ∷ rs) one refusal are is = absurd are
 one_more (o ∷ os) [] one refusal are is = absurd are
 one_more (o ∷ os) (r ∷ rs) one refusal are is = (are.0, one_more os rs one refusal are.1 is)
 
--- with its line
-pub told_more : (unreadable : List Unreadable) (i : ℕ) (one default : Unreadable) (refusal : Refusal) (t u v : List ℕ) → i < length unreadable → one ≡ get_or unreadable i default
-    → IsRefusalOf one refusal → ((refusals : List Refusal) × AreRefusalsOf (take i unreadable) refusals × (u ≡ t ++ flat_map line_of refusals)) → v ≡ u ++ line_of refusal
-    → (refusals : List Refusal) × AreRefusalsOf (take (i + 1) unreadable) refusals × (v ≡ t ++ flat_map line_of refusals)
-told_more unreadable i one default refusal t u v within is told so wrote = (
+-- with what is told of it
+pub told_more : (notation : Notation) (unreadable : List Unreadable) (i : ℕ) (one default : Unreadable) (refusal : Refusal) (t u v : List ℕ) → i < length unreadable → one ≡ get_or unreadable i default
+    → IsRefusalOf one refusal → ((refusals : List Refusal) × AreRefusalsOf (take i unreadable) refusals × (u ≡ t ++ flat_map (unreadable_text notation) refusals)) → v ≡ u ++ unreadable_text notation refusal
+    → (refusals : List Refusal) × AreRefusalsOf (take (i + 1) unreadable) refusals × (v ≡ t ++ flat_map (unreadable_text notation) refusals)
+told_more notation unreadable i one default refusal t u v within is told so wrote = (
   so.0 ++ refusal ∷ [],
   subst (λ (ones : List Unreadable). AreRefusalsOf ones (so.0 ++ refusal ∷ [])) (ap (λ (y : Unreadable). take i unreadable ++ y ∷ []) is ∙ sym (take_more unreadable i default within))
       (one_more (take i unreadable) so.0 one refusal so.1 told),
-  wrote ∙ ap (λ (s : List ℕ). s ++ line_of refusal) so.2 ∙ flat_map_more line_of t so.0 refusal,
+  wrote ∙ ap (λ (s : List ℕ). s ++ unreadable_text notation refusal) so.2 ∙ flat_map_more (unreadable_text notation) t so.0 refusal,
 )
 
--- all of them, and the last line
-pub whole_text : (forms : ℕ) (unreadable seen : List Unreadable) (none lines all : List ℕ) (count : ℕ) → none ≡ [] → seen ≡ unreadable → count ≡ length unreadable
-    → ((refusals : List Refusal) × AreRefusalsOf seen refusals × (lines ≡ none ++ flat_map line_of refusals)) → all ≡ lines ++ counts_line forms count → IsCheckText (forms, unreadable) all
-whole_text forms unreadable seen none lines all count nothing same counted told ends = record {
+-- all of them, and how many they are
+pub whole_text : (notation : Notation) (forms : ℕ) (unreadable seen : List Unreadable) (none lines all : List ℕ) (count : ℕ) → none ≡ [] → seen ≡ unreadable → count ≡ length unreadable
+    → ((refusals : List Refusal) × AreRefusalsOf seen refusals × (lines ≡ none ++ flat_map (unreadable_text notation) refusals)) → all ≡ lines ++ counts_text notation forms count
+    → IsCheckText notation (forms, unreadable) all
+whole_text notation forms unreadable seen none lines all count nothing same counted told ends = record {
   refusals = told.0;
   are = subst (λ (us : List Unreadable). AreRefusalsOf us told.0) same told.1;
-  is = ends ∙ ap (λ (n : ℕ). lines ++ counts_line forms n) counted ∙ ap (λ (l : List ℕ). l ++ counts_line forms (length unreadable)) (told.2 ∙ ap (λ (l : List ℕ). l ++ flat_map line_of told.0) nothing);
+  is = ends ∙ ap (λ (n : ℕ). lines ++ counts_text notation forms n) counted
+      ∙ ap (λ (l : List ℕ). l ++ counts_text notation forms (length unreadable)) (told.2 ∙ ap (λ (l : List ℕ). l ++ flat_map (unreadable_text notation) told.0) nothing);
 }

@@ -6,20 +6,27 @@ use Rattle.clap.specs.Words.{Text}
 use Rattle.command_words.specs.CheckLine.{AsksToCheck}
 use Rattle.command_words.specs.LookLine.{text_of}
 use Rattle.command_words.specs.declared.check.Check.{Check}
-use Rattle.diagnostics.specs.Refusals.{line_of}
+use Rattle.diagnostics.specs.Refusals.{form_of, line_of}
 use Rattle.diagnostics.specs.Texts.{WritesFront}
 use Rattle.diagnostics.specs.declared.refusal.Refusal.{Refusal}
+use Rattle.diagnostics.specs.declared.refusal.Spots.{Spots}
 use Rattle.form_check.specs.Checking.{Checking, checked, setting_under}
 use Rattle.form_check.specs.declared.checking.Unreadable.{Unreadable}
+use Rattle.lisp_object.specs.Refusal.{name_of}
 use Rattle.lisp_object.specs.declared.refusal.TheConstants.{OUTPUT}
 use Rattle.log_look.specs.declared.sight.Sight.{Sight}
 use Rattle.plist_state.specs.State.{WorldState, initial}
 use Rattle.prevalence_store.specs.calls.Streams.{Writes}
+use Rattle.prevalence_store.specs.declared.outcome.Place.{Place}
 use Rattle.store_commands.specs.Status.{IsOfWords}
 use Rattle.store_commands.specs.declared.status.Status.{Status}
 use Rattle.store_commands.specs.declared.status.Status.TheVariants as statuses
-use Rattle.store_looks.specs.Told.{Has, status_in}
+use Rattle.store_looks.specs.Told.{Has, notation_of, status_in}
 use Rattle.store_looks.specs.declared.unlooked.Unlooked.{Unlooked}
+use Rattle.store_reports.specs.Figures.{figure}
+use Rattle.store_reports.specs.Json.{number_member, string_member}
+use Rattle.store_reports.specs.declared.numbers.Notation.{Notation}
+use Rattle.store_reports.specs.declared.numbers.Notation.TheVariants.{Json, Lines}
 use Rattle.user_macros.specs.Functions.{Functions}
 
 -- ---- the text that is told
@@ -35,14 +42,44 @@ AreRefusalsOf [] (refusal ∷ refusals) = ⊥
 AreRefusalsOf (one ∷ others) [] = ⊥
 AreRefusalsOf (one ∷ others) (refusal ∷ refusals) = IsRefusalOf one refusal × AreRefusalsOf others refusals
 
--- the last line
+-- a number that is not the first member of an object
+unfoldable pub later_member : List ℕ → ℕ → List ℕ
+later_member name value = figure Json name value
+
+-- where a form is refused and where it began: its lines and columns, and the bytes before these places if no lines are known
+abbrev pub place_members : Place → Option Spots → List ℕ
+place_members place None = later_member (codes "after-bytes") place.at ++ later_member (codes "start-after-bytes") place.start
+place_members place (Some spots) =
+    later_member (codes "line") spots.at.line ++ later_member (codes "column") spots.at.column
+    ++ later_member (codes "start-line") spots.start.line ++ later_member (codes "start-column") spots.start.column
+
+-- the same as an object
+abbrev pub refusal_object : Refusal → List ℕ
+refusal_object refusal =
+    123 ∷ [] ++ string_member (codes "name") (name_of refusal.number) ++ later_member (codes "number") refusal.number
+    ++ later_member (codes "form") (form_of refusal) ++ place_members refusal.place refusal.spots ++ 125 ∷ 10 ∷ []
+
+-- what is told of a form that cannot be read
+abbrev pub unreadable_text : Notation → Refusal → List ℕ
+unreadable_text Lines refusal = line_of refusal
+unreadable_text Json refusal = refusal_object refusal
+
+-- and last how many forms there are, and how many of them cannot be read
 abbrev pub counts_line : (forms unreadable : ℕ) → List ℕ
 counts_line forms unreadable = codes "forms " ++ decimal forms ++ codes " unreadable " ++ decimal unreadable ++ codes "\n"
 
-pub record IsCheckText (found : Checking) (text : List ℕ) : Type 0 where
+abbrev pub counts_object : (forms unreadable : ℕ) → List ℕ
+counts_object forms unreadable =
+    123 ∷ [] ++ number_member (codes "forms") forms ++ later_member (codes "unreadable") unreadable ++ 125 ∷ 10 ∷ []
+
+abbrev pub counts_text : Notation → (forms unreadable : ℕ) → List ℕ
+counts_text Lines forms unreadable = counts_line forms unreadable
+counts_text Json forms unreadable = counts_object forms unreadable
+
+pub record IsCheckText (notation : Notation) (found : Checking) (text : List ℕ) : Type 0 where
   pub refusals : List Refusal
   pub are : AreRefusalsOf found.1 refusals
-  pub is : text ≡ flat_map line_of refusals ++ counts_line found.0 (length found.1)
+  pub is : text ≡ flat_map (unreadable_text notation) refusals ++ counts_text notation found.0 (length found.1)
 
 -- it was written, and the status says whether all forms can be read; or a part of it, and the output failed
 unfoldable pub EndsSo : Bool → Option (List ℕ) → Option (List ℕ) → List ℕ → Status → Type 0
@@ -82,7 +119,7 @@ module _ (functions registered : Functions) {R : Type 0} (macros : R) (input hel
     pub found : Checking
     pub finds : FindsIn registered world text found
     pub told : List ℕ
-    pub told_is : IsCheckText found told
+    pub told_is : IsCheckText (notation_of asked.json) found told
     pub tells : EndsSo (length found.1 == 0) held written told status
 
   -- the words are refused, or ask for help; or they ask for such a text, and this is told of it, or nothing

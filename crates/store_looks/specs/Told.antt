@@ -4,7 +4,7 @@ use Rattle.clap.specs.Words.{Text}
 use Rattle.command_words.specs.LookLine.{AsksToLook, text_of}
 use Rattle.command_words.specs.declared.looks.InfoPart.{InfoPart}
 use Rattle.command_words.specs.declared.looks.Look.{Look}
-use Rattle.command_words.specs.declared.looks.Look.TheVariants.{Backup, Dump, Info, Log, Show}
+use Rattle.command_words.specs.declared.looks.Look.TheVariants.{Backup, Dump, Info, Log, Show, Verify}
 use Rattle.command_words.specs.declared.looks.RecordPlace.{RecordPlace}
 use Rattle.command_words.specs.declared.looks.Records.{Records}
 use Rattle.command_words.specs.declared.looks.Shown.{Shown}
@@ -19,6 +19,7 @@ use Rattle.log_look.specs.SeenState.{state_of}
 use Rattle.log_look.specs.declared.error.LogError.{LogError}
 use Rattle.log_look.specs.declared.host.Figures.{Figures}
 use Rattle.log_look.specs.declared.sight.Sight.{Sight}
+use Rattle.messages.specs.Position.{position}
 use Rattle.plist_state.specs.State.{WorldState}
 use Rattle.prevalence_store.specs.calls.Open.{IsOpened, IsUnopened}
 use Rattle.prevalence_store.specs.calls.Store.{StoreView}
@@ -33,9 +34,10 @@ use Rattle.store_looks.specs.Unlooked.{IsOfBackup, of_log, of_show, status_of}
 use Rattle.store_looks.specs.declared.unlooked.Unlooked.{Unlooked}
 use Rattle.store_looks.specs.declared.unlooked.Unlooked.TheVariants as unlooked
 use Rattle.store_reports.specs.Backup.{IsMade, IsUnmade}
-use Rattle.store_reports.specs.Figures.{AreFiguresOf, file_info_text, info_text}
+use Rattle.store_reports.specs.Figures.{AreFiguresOf, file_info_text, info_text, verified_text}
 use Rattle.store_reports.specs.Log.{IsLogText, least}
 use Rattle.store_reports.specs.Places.{Deed}
+use Rattle.store_reports.specs.Counted.{IsCountText, IsNoCount}
 use Rattle.store_reports.specs.Shown.{IsShown, IsUnshown}
 use Rattle.store_reports.specs.declared.backups.BackupError.{BackupError}
 use Rattle.store_reports.specs.declared.figures.HalfFigures.{HalfFigures}
@@ -85,6 +87,16 @@ pub record IsSelection (shown : Shown) (selection : Selection) : Type 0 where
 -- how figures and records are written
 abbrev pub notation_of : Bool → Notation
 notation_of json = if json then notations.Json else notations.Lines
+
+-- the properties that are asked for are shown, or counted
+abbrev pub TellsProperties : Bool → Notation → Selection → WorldState → List ℕ → Type 0
+TellsProperties false notation selection world text = IsShown selection world text
+TellsProperties true notation selection world text = IsCountText selection world notation text
+
+-- and why they are not
+abbrev pub WithholdsProperties : Bool → Selection → WorldState → ShowError → Type 0
+WithholdsProperties false selection world error = IsUnshown selection world error
+WithholdsProperties true selection world error = IsNoCount selection world error
 
 abbrev pub part_of : Records → LogPart
 part_of records = record {
@@ -161,10 +173,11 @@ module _ (functions : Functions) {R : Type 0} (macros : R) where
         ((part.files ≡ true) × TellsFileFigures held written (notation_of part.json) measured sight status)
         ⊎ ((part.files ≡ false) × TellsFigures (notation_of part.json) measured sight status)
 
-    -- the properties that are asked for
+    -- the properties that are asked for, or how many they are
     unfoldable pub TellsShown : Shown → Sight → Status → Type 0
     TellsShown shown sight status =
-        (selection : Selection) × IsSelection shown selection × Tells (IsShown selection) sight held written status
+        (selection : Selection) × IsSelection shown selection
+        × Tells (TellsProperties shown.count (notation_of shown.json) selection) sight held written status
 
     -- the text of the world after so many records
     unfoldable pub TellsDump : RecordPlace → Sight → Status → Type 0
@@ -172,17 +185,28 @@ module _ (functions : Functions) {R : Type 0} (macros : R) where
         (cut : Sight) × IsCut place.number place.generation (state_of sight).reads (state_of cut).reads
         × ((back : Sight) × IsReport functions state_of reports.Dump cut macros held written status back)
 
+    -- the half in use and the position of messages
+    pub record TellsVerified (sight : Sight) (status : Status) : Type 0 where
+      pub opened : StoreView Sight R
+      pub is_opened : IsOpened functions state_of sight macros half_limit opened
+      pub tells : TellsText status held written (verified_text opened.half opened.generation opened.record_count (position is_opened.world))
+
     unfoldable pub TellsLook : System → Text → Look → Sight → Status → Type 0
     TellsLook system folder (Show shown) sight status = TellsShown shown sight status
     TellsLook system folder (Info part) sight status = TellsInfo part (system.measures folder) sight status
     TellsLook system folder (Log records) sight status = TellsLog held written records sight status
     TellsLook system folder (Backup to) sight status = BacksUp (system.made to.now) sight status × (written ≡ held)
     TellsLook system folder (Dump place) sight status = TellsDump place sight status
+    TellsLook system folder Verify sight status = TellsVerified sight status
 
 -- it was not opened, all macro functions registered or not
 unfoldable pub Unopens : Functions → Bool → Sight → Unlooked → Type 0
 Unopens functions whole sight why =
     (number : ℕ) × (back : Sight) × IsUnopened functions state_of sight whole half_limit number back × (why ≡ unlooked.Fault number)
+
+-- nor, where memory was refused, told of
+unfoldable pub WithholdsVerified : Functions → Bool → Sight → Unlooked → Type 0
+WithholdsVerified functions whole sight why = Unopens functions whole sight why ⊎ (why ≡ unlooked.Fault NO_MEMORY)
 
 -- why nothing is told
 module _ (functions : Functions) {R : Type 0} (macros : R) (whole : Bool) where
@@ -201,7 +225,7 @@ module _ (functions : Functions) {R : Type 0} (macros : R) (whole : Bool) where
   WithholdsShown shown sight why =
       Unopens functions whole sight why
       ⊎ ((selection : Selection) × IsSelection shown selection
-      × ((error : ShowError) × Has functions macros (λ world. IsUnshown selection world error) sight × (why ≡ of_show error)))
+      × ((error : ShowError) × Has functions macros (λ world. WithholdsProperties shown.count selection world error) sight × (why ≡ of_show error)))
 
   unfoldable pub WithholdsDump : RecordPlace → Sight → Unlooked → Type 0
   WithholdsDump place sight why =
@@ -220,6 +244,7 @@ module _ (functions : Functions) {R : Type 0} (macros : R) (whole : Bool) where
   WithholdsLook system folder (Log records) sight why = WithholdsLog records sight why
   WithholdsLook system folder (Backup to) sight why = WithholdsBackup (system.unmade to.now) sight why
   WithholdsLook system folder (Dump place) sight why = WithholdsDump place sight why
+  WithholdsLook system folder Verify sight why = WithholdsVerified functions whole sight why
 
 -- ---- the whole look
 

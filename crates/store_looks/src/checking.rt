@@ -1,8 +1,7 @@
 // Which forms of a file cannot be read.
-ghost use Rattle.std.specs.Prelude.{◌≡◌, ◌++◌, decimal, IfErr, IfOk, IfSome, List, OnOk, map};
+ghost use Rattle.std.specs.Prelude.{◌≡◌, ◌++◌, IfErr, IfOk, IfSome, List, OnOk, map};
 ghost use Rattle.std.specs.List.{flat_map};
 ghost use Rattle.command_words.specs.LookLine.{text_of as borrowed_text};
-ghost use Rattle.diagnostics.specs.Refusals.{line_of};
 ghost use Rattle.diagnostics.specs.declared.refusal.Refusal.{Refusal as Refused};
 ghost use Rattle.log_look.specs.declared.sight.Sight.{Sight as Seen};
 ghost use Rattle.plist_state.specs.Sound.{IsSound as IsSoundState};
@@ -10,14 +9,15 @@ ghost use Rattle.world_text.specs.Snapshot.{snapshot};
 ghost use Rattle.store_commands.specs.Status.{IsQuiet};
 ghost use Rattle.store_commands.specs.Told.{TellsFault};
 ghost use Rattle.store_commands.specs.declared.told.Told.{Told};
-ghost use Rattle.store_looks.specs.Checked.{AreRefusalsOf, Checks, EndsSo, FindsIn, IsCheckText, IsRefusalOf, IsTextOf, IsWorldOf, TellsForms, counts_line};
+ghost use Rattle.store_looks.specs.Checked.{AreRefusalsOf, Checks, EndsSo, FindsIn, IsCheckText, IsRefusalOf, IsTextOf, IsWorldOf, TellsForms, unreadable_text};
 ghost use Rattle.store_looks.specs.Told.{Has};
 
-use crate::looks::{end_unlooked, opened, sight_of};
+use crate::looks::{end_unlooked, notation_for, opened, sight_of};
 use crate::seeds::Seeds;
 use crate::unlooked::Unlooked;
+use crate::unreadable::{push_counts, push_refusal};
 use command_words::{Check, checked_in};
-use diagnostics::{Refusal, Spot, Spots, write_out, write_refusal};
+use diagnostics::{Refusal, Spot, Spots, write_out};
 use form_check::{Checked, Under, Unreadable};
 use lisp_object::refusal::{DAMAGED, INPUT, NO_MEMORY, OUTPUT};
 use log_look::Sight;
@@ -32,6 +32,7 @@ use std::io::{ErrorKind, Read, Write};
 use std::path::Path;
 use std::rt::Files;
 use store_commands::{Looking, Status, answer_words, end_with};
+use store_reports::Notation;
 use user_macros::MacroFunctions;
 
 /// The version of the text of a world as it is written.
@@ -40,7 +41,7 @@ const VERSION: u16 = 2;
 /// Tells which forms of a file, or of the input, cannot be read, as the words ask (`Way::Check` of `command_words`), and answers how that
 /// ended. Nothing is evaluated. The first word is the program's name.
 ///
-/// A line on each goes to `output`, and one with how many forms there are. A file that cannot be read is status 2, with a sentence on
+/// A line on each goes to `output`, or an object, and one with how many forms there are. A file that cannot be read is status 2, with a sentence on
 /// `faults`.
 pub fn check<R, M, S, I, O, F>(
     rt: &R,
@@ -97,7 +98,7 @@ where
     let text = text_of(rt, asked.file, input)?;
     let (world, macros) = world_of(rt, macros, asked.store)?;
     let found = check_in(alloc, &world, &macros, text.as_slice())?;
-    let lines = lines_of(alloc, text.as_slice(), &found)?;
+    let lines = lines_of(alloc, notation_for(asked.json), text.as_slice(), &found)?;
     let unreadable = found.unreadable.as_slice();
     let all_are_readable = unreadable.is_empty();
     Ok(write_lines(output, lines.as_slice(), all_are_readable))
@@ -230,58 +231,46 @@ fn check_in<M: MacroFunctions>(
     form_check::check(alloc, &under, macros, text)
 }
 
-// What is told of a text: a line on each form that cannot be read, and one with how many there are.
-fn lines_of(alloc: Global, text: &[u8], found: &Checked) -> Result<Vec<u8>, AllocError>
-    ensures { IfOk result (λ lines. IsCheckText (found.now.forms, found.now.unreadable.items) lines.items) }
+// What is told of a text: a line on each form that cannot be read, and one with how many there are, or such objects.
+fn lines_of(
+    alloc: Global,
+    notation: Notation,
+    text: &[u8],
+    found: &Checked,
+) -> Result<Vec<u8>, AllocError>
+    ensures { IfOk result (λ lines.
+        IsCheckText notation (found.now.forms, found.now.unreadable.items) lines.items) }
 {
     let mut lines = Vec::new(alloc);
-    push_refusals(&mut lines, text, found.unreadable.as_slice())?;
+    push_refusals(
+        alloc,
+        &mut lines,
+        notation,
+        text,
+        found.unreadable.as_slice(),
+    )?;
     let unreadable = found.unreadable.len();
-    push_counts(alloc, &mut lines, found.forms, unreadable)?;
+    push_counts(alloc, &mut lines, notation, found.forms, unreadable)?;
     Ok(lines)
 }
 
-// Adds the line on how many forms there are, and how many of them cannot be read.
-fn push_counts(
+// Adds what is told of each form that cannot be read.
+fn push_refusals(
     alloc: Global,
     lines: &mut Vec<u8>,
-    forms: usize,
-    unreadable: usize,
-) -> Result<(), AllocError>
-    ensures { OnOk result (lines.new.items ≡ lines.old.items ++ counts_line forms unreadable) }
-{
-    lines.extend_from_slice(b"forms ")?;
-    push_number(alloc, lines, forms)?;
-    lines.extend_from_slice(b" unreadable ")?;
-    push_number(alloc, lines, unreadable)?;
-    lines.push(b'\n')?;
-    Ok(())
-}
-
-fn push_number(alloc: Global, lines: &mut Vec<u8>, number: usize) -> Result<(), AllocError>
-    ensures { OnOk result (lines.new.items ≡ lines.old.items ++ decimal number) }
-{
-    let digits = format!(in alloc; "{number}")?;
-    lines.extend_from_slice(digits.as_bytes())
-}
-
-// Adds a line on each form that cannot be read.
-fn push_refusals(
-    lines: &mut Vec<u8>,
+    notation: Notation,
     text: &[u8],
     unreadable: &[Unreadable],
 ) -> Result<(), AllocError>
     ensures { OnOk result ((refusals : List Refused) × AreRefusalsOf unreadable.now refusals
-        × (lines.new.items ≡ lines.old.items ++ flat_map line_of refusals)) }
+        × (lines.new.items ≡ lines.old.items ++ flat_map (unreadable_text notation) refusals)) }
 {
     let mut spot = Some(Spot::first());
     let mut passed = 0;
     for one in unreadable {
         let spots = spots_of(text, spot, passed, one);
         let refusal = refusal_of(one, spots);
-        let Ok(()) = write_refusal(lines, &refusal) else {
-            return Err(AllocError);
-        };
+        push_refusal(alloc, lines, notation, &refusal)?;
         (spot, passed) = (spots.map(|spots| spots.at), one.at);
     }
     Ok(())

@@ -21,6 +21,7 @@ use crate::measures::Measures;
 use crate::seeds::Seeds;
 use crate::showing::show_on;
 use crate::unlooked::Unlooked;
+use crate::verifying::verify_on;
 use command_words::{Look, Looked, RecordPlace, Records, Report, looked_in};
 use diagnostics::write_out;
 use disk_trait::{Disk, HostError};
@@ -205,6 +206,7 @@ where
         }
         Look::Log(records) => log_on(rt.alloc(), sight, records, output),
         Look::Backup(to) => back_up(rt.alloc(), rt, sight, macros, seed, to),
+        Look::Verify => verify_on(rt.alloc(), sight, macros, seed, output),
     }
 }
 

@@ -1,24 +1,23 @@
 // The properties of a store that was seen.
 ghost use Rattle.std.specs.Prelude.{◌≡◌, ◌<◌, ◌-◌, ◌^◌, IfErr, IfSome, MatchResult};
 ghost use Rattle.command_words.specs.LookLine.{text_of};
-ghost use Rattle.store_looks.specs.Told.{IsSelection, TellsShown, WithholdsShown};
-ghost use Rattle.store_reports.specs.Shown.{IsShown, IsUnshown};
+ghost use Rattle.store_looks.specs.Told.{IsSelection, TellsProperties, WithholdsProperties, TellsShown, WithholdsShown, notation_of};
 ghost use Rattle.user_macros.specs.Functions.{are_registered};
 
-use crate::looks::{opened, write_told};
+use crate::looks::{notation_for, opened, write_told};
 use crate::unlooked::Unlooked;
 use command_words::Shown;
 use disk_trait::Disk;
 use log_look::Sight;
-use plist_state::Seed;
+use plist_state::{Seed, World};
 use prevalence_store::Store;
 use std::alloc::Global;
 use std::io::Write;
 use store_commands::Status;
-use store_reports::{Layout, Selection, ShowError, show};
+use store_reports::{Layout, Selection, ShowError, count, show};
 use user_macros::MacroFunctions;
 
-// Shows properties.
+// Shows properties, or counts them.
 pub(crate) fn show_on<M, O>(
     alloc: Global,
     sight: Sight,
@@ -40,24 +39,44 @@ where
 {
     let selection = selection_of(shown);
     let store = opened(alloc, sight, macros, seed)?;
-    let shown = shown_in(alloc, &store, &selection);
+    let told = told_of(alloc, &store, &selection, shown);
     let _ = store.close();
-    let text = shown?;
+    let text = told?;
     Ok(write_told(output, text.as_slice()))
 }
 
-// The properties of an open store that are asked for.
-fn shown_in<M: MacroFunctions>(
+// The properties of an open store that are asked for, or how many they are.
+fn told_of<M: MacroFunctions>(
     alloc: Global,
     store: &Store<Sight, M>,
     selection: &Selection<'_>,
+    shown: Shown<'_>,
 ) -> Result<Vec<u8>, ShowError>
     ensures { IfSome store.now.world (λ world. MatchResult result
-        (λ text. IsShown selection.now world text.items) (IsUnshown selection.now world)) }
+        (λ text. TellsProperties shown.entry.count (notation_of shown.entry.json) selection.now world text.items)
+        (WithholdsProperties shown.entry.count selection.now world)) }
 {
     match store.world() {
-        Some(world) => show(alloc, world, selection),
+        Some(world) => told_in(alloc, world, selection, shown),
         None => Err(ShowError::OutOfMemory),
+    }
+}
+
+// The same of this world.
+fn told_in(
+    alloc: Global,
+    world: &World,
+    selection: &Selection<'_>,
+    shown: Shown<'_>,
+) -> Result<Vec<u8>, ShowError>
+    ensures { MatchResult result
+        (λ text. TellsProperties shown.entry.count (notation_of shown.entry.json) selection.now world.now.0 text.items)
+        (WithholdsProperties shown.entry.count selection.now world.now.0) }
+{
+    if shown.count {
+        count(alloc, world, selection, notation_for(shown.json))
+    } else {
+        show(alloc, world, selection)
     }
 }
 

@@ -2,18 +2,20 @@
 //! the files of the system, and ends with its status.
 #![tactic(auto)]
 
+mod counted;
 mod opening;
 
 ghost use Rattle.std.specs.Prelude.{◌≡◌, true, IfErr, is_ok};
 ghost use Rattle.user_macros.specs.Sound.{IsSoundCall};
 ghost use Rattle.user_macros.specs.Functions.{are_registered};
 
+use crate::counted::Counted;
 use crate::opening::Telling;
 use command_words::{Way, asks_for_quiet, way_of};
 use lisp_object::refusal::NO_MEMORY;
 use message_command::run_messages;
 use program_streams::{
-    BesidePipe, Cleared, Pipe, Progress, Refusals, TypedLines, Uninterrupted, write_counts,
+    BesidePipe, Cleared, Counts, Pipe, Progress, Refusals, TypedLines, Uninterrupted, write_counts,
 };
 use readtable_core::FnName;
 use six_functions::{SixFunctions, macro_functions};
@@ -25,14 +27,17 @@ use std::process::ExitCode;
 use std::random::RandomSource;
 use std::{env, fs};
 use store_commands::{
-    Answers, Folders, Heard, Lines, Looking, Piped, Status, Terminal, end_with, program,
-    program_at_terminal,
+    Answers, Folders, Heard, History, Lines, Looking, Piped, RefusalTeller, SessionOutput, Status,
+    Terminal, end_with, program, program_at_terminal,
 };
 use store_looks::{check, look};
 use user_macros::{Answer, Call, Cause, MacroFn, MacroFunctions, Macros, Refusal};
 
 /// How many bytes of the stack are taken at the start. The deepest form takes fewer.
 const STACK: usize = 524_288;
+
+/// The variable of the environment by which somebody asks for the lines on refused forms.
+const REASONS: &str = "PAZTURROK_REASONS";
 
 // The words that the program was started with, or the status where they are not had: they are no text, or there is no memory.
 fn words_given(rt: &HostRuntime) -> Result<Vec<String>, Status> {
@@ -147,26 +152,24 @@ fn serve_quietly<M: MacroFunctions + Drop, F: Write>(
 ) -> Status
     requires answers { M.answers macros }
 {
+    if rt.stdin().is_terminal() {
+        return serve_quietly_at_terminal(rt, macros, words, faults);
+    }
     let mut output = Refusals::new(rt.alloc(), Uninterrupted::new(rt.stdout()));
-    let status = if rt.stdin().is_terminal() {
-        serve_quietly_at_terminal(rt, macros, words, &mut output, faults)
-    } else {
-        serve_pipe(
-            rt,
-            &Telling::new(rt, rt),
-            macros,
-            words,
-            &mut output,
-            rt.stderr(),
-        )
-    };
+    let folders = Telling::new(rt, rt);
+    let status = serve_pipe(rt, &folders, macros, words, &mut output, rt.stderr());
+    tell_counts(faults, status, output.counts());
+    status
+}
+
+// Tells on standard error how many answers there were, unless no session was asked for.
+fn tell_counts<F: Write>(faults: &mut F, status: Status, counts: Counts) {
     match status {
         Status::Helped | Status::WordsRefused => {}
         _ => {
-            let _ = write_counts(faults, output.counts());
+            let _ = write_counts(faults, counts);
         }
     }
-    status
 }
 
 // The same where standard input is no terminal, and folders are opened by another system. At a terminal standard error has a line on how far
@@ -187,14 +190,23 @@ where
     requires answers { M.answers macros }
 {
     let (heard, stands) = (Cell::new(Heard::Nothing), Cell::new(false));
+    let are_unasked = Cell::new(!asks_for_reasons(rt, words));
+    let history = History::new(rt.alloc());
     let stdin = Uninterrupted::new(rt.stdin());
     let progress = if is_told(rt, words) {
         Progress::new(rt, stdin, rt.stderr(), &stands, size_of_input(rt))
     } else {
         Progress::silent(rt, stdin, rt.stderr(), &stands)
     };
-    let mut input = Piped::new(Lines::new(rt.alloc(), progress), &heard);
-    let mut output = Answers::new(output, &heard);
+    let mut input = Piped::new(Lines::new(progress, &history), &heard);
+    let mut output = SessionOutput {
+        output: Answers::new(output, &heard),
+        teller: RefusalTeller::new(
+            rt.alloc(),
+            BesidePipe::new(Cleared::new(rt.stderr(), &stands), &are_unasked),
+            &history,
+        ),
+    };
     let mut faults = Cleared::new(faults, &stands);
     let status = program(folders, macros, words, &mut input, &mut output, &mut faults);
     faults.clear();
@@ -204,6 +216,17 @@ where
 // Whether standard error has a line on how far it is: at a terminal that gets no answers.
 fn is_told(rt: &HostRuntime, words: &[String]) -> bool {
     rt.stderr().is_terminal() && (asks_for_quiet(words) || !rt.stdout().is_terminal())
+}
+
+// Whether standard error has lines on refused forms where standard input is no terminal: in a quiet session, or if the environment asks for them.
+fn asks_for_reasons(rt: &HostRuntime, words: &[String]) -> bool {
+    if asks_for_quiet(words) {
+        return true;
+    }
+    match env::var(rt, REASONS) {
+        Ok(value) => !value.is_empty(),
+        Err(_) => false,
+    }
 }
 
 // How many bytes standard input has, if it is a file.
@@ -228,30 +251,60 @@ fn serve_at_terminal<M: MacroFunctions + Drop, F: Write>(
 ) -> Status
     requires answers { M.answers macros }
 {
-    let heard = Cell::new(Heard::Nothing);
-    let lines = Lines::new(rt.alloc(), typed_lines(rt));
+    let (heard, history) = (Cell::new(Heard::Nothing), History::new(rt.alloc()));
+    let lines = Lines::new(typed_lines(rt), &history);
     let mut input = Terminal::new(lines, rt.stderr(), &heard);
-    let mut output = Answers::new(Uninterrupted::new(rt.stdout()), &heard);
+    let mut output = SessionOutput {
+        output: Answers::new(Uninterrupted::new(rt.stdout()), &heard),
+        teller: RefusalTeller::new(rt.alloc(), rt.stderr(), &history),
+    };
     let folders = Telling::new(rt, rt);
     program_at_terminal(&folders, macros, words, &mut input, &mut output, faults)
 }
 
-// The same with refusals alone.
+// What is noted of the answers of a quiet session.
+#[derive(Drop)]
+struct Noted {
+    heard: Cell<Heard>,
+    counts: Cell<Counts>,
+}
+
+impl Noted {
+    // Both, lent for the same time.
+    fn lent<'a>(&'a self) -> (&'a Cell<Heard>, &'a Cell<Counts>) {
+        (&self.heard, &self.counts)
+    }
+}
+
+// The same with refusals alone, and a count at the end.
 fn serve_quietly_at_terminal<M: MacroFunctions + Drop, F: Write>(
     rt: &HostRuntime,
     macros: M,
     words: &[String],
-    output: &mut Refusals<Uninterrupted<Stdout>>,
     faults: &mut F,
 ) -> Status
     requires answers { M.answers macros }
 {
-    let heard = Cell::new(Heard::Nothing);
-    let lines = Lines::new(rt.alloc(), typed_lines(rt));
-    let mut input = Terminal::new(lines, rt.stderr(), &heard);
-    let mut output = Answers::new(&mut *output, &heard);
+    let history = History::new(rt.alloc());
+    let noted = Noted {
+        heard: Cell::new(Heard::Nothing),
+        counts: Cell::new(Counts {
+            values: 0,
+            refusals: 0,
+        }),
+    };
+    let (heard, counts) = noted.lent();
+    let lines = Lines::new(typed_lines(rt), &history);
+    let mut input = Terminal::new(lines, rt.stderr(), heard);
+    let refusals = Counted::new(rt.alloc(), Uninterrupted::new(rt.stdout()), counts);
+    let mut output = SessionOutput {
+        output: Answers::new(refusals, heard),
+        teller: RefusalTeller::new(rt.alloc(), rt.stderr(), &history),
+    };
     let folders = Telling::new(rt, rt);
-    program_at_terminal(&folders, macros, words, &mut input, &mut output, faults)
+    let status = program_at_terminal(&folders, macros, words, &mut input, &mut output, faults);
+    tell_counts(faults, status, counts.get());
+    status
 }
 
 // What comes of registering a function whose name is known and not taken: only memory can refuse it.

@@ -53,6 +53,12 @@ abbrev pub end_of_figures : Notation → List ℕ
 end_of_figures Lines = []
 end_of_figures Json = codes "}\n"
 
+-- what is told of an open store, as an object: its half in use, and the position of messages, where there is one
+abbrev pub verified_text : Half → (generation records : ℕ) → Option ℕ → List ℕ
+verified_text half generation records position =
+    half_line Json half ++ figure Json (codes "generation") generation ++ figure Json (codes "records") records
+    ++ known_figure Json (codes "position") position ++ end_of_figures Json
+
 -- as much of a number as one of 64 bits can tell
 abbrev pub told_number : ℕ → ℕ
 told_number n = min n 18446744073709551615

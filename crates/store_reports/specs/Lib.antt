@@ -1,4 +1,5 @@
 pub mod Backup
+pub mod Counted
 pub mod Escaped
 pub mod Figures
 pub mod Json

@@ -1,5 +1,5 @@
 -- Which properties of a world are shown, and how.
-use Rattle.std.specs.Prelude.{◌≡◌, ◌≢◌, ℕ, Bool, true, false, ◌&&◌, bytes_eq, if◌then◌else◌, List, [], ◌∷◌, ◌++◌, codes, is_some, Option, Result, Ok, Err}
+use Rattle.std.specs.Prelude.{◌≡◌, ◌≢◌, ℕ, Bool, true, false, ◌&&◌, ◌||◌, bytes_eq, if◌then◌else◌, List, [], ◌∷◌, ◌++◌, codes, is_some, Option, Result, Ok, Err}
 use Rattle.std.specs.Borrow.{Bor}
 use Rattle.std.specs.FinMap as finite
 use Rattle.std.specs.Global.{Vec}
@@ -39,6 +39,10 @@ takes_symbol wanted x = is_named wanted.package x.0 && option_map_or (λ (patter
 unfoldable pub shown_symbol : Table → Symbol → List ℕ
 shown_symbol t x = if list_all is_ascii x.0 && list_all is_ascii x.1 then printed t common_lisp_user (symbol x.0 x.1) else []
 
+-- a text asks for a symbol of this name that is printed so: by how it is printed, and among the symbols of a package also by its name
+abbrev pub is_asked : Selection → (text printed name : List ℕ) → Bool
+is_asked wanted text printed name = bytes_eq printed text || (is_some wanted.package && bytes_eq name text)
+
 -- the texts of a symbol, an indicator and a value, as a line, as the form that sets the property, or as an object
 unfoldable pub property_text : Layout → List ℕ → List ℕ → List ℕ → List ℕ
 property_text Lines x indicator value = escaped x ++ 32 ∷ [] ++ escaped indicator ++ 32 ∷ [] ++ escaped value ++ 10 ∷ []
@@ -69,10 +73,10 @@ module _ (wanted : Selection) (world : WorldState) where
   unfoldable pub shown_text : List ℕ
   shown_text = flat_map shown_list (symbols_with_properties world)
 
-  -- the home of a symbol that is shown as this text, and its properties
+  -- the home of a symbol for which this text asks, and its properties
   unfoldable pub shown_home : List ℕ → Symbol → List ℕ
   shown_home text x =
-      if takes_symbol wanted x && bytes_eq (shown_symbol world.packages x) text
+      if takes_symbol wanted x && is_asked wanted text (shown_symbol world.packages x) x.1
       then home_text wanted.layout (shown_symbol world.packages x) x.0 ++ shown_list x
       else []
 

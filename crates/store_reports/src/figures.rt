@@ -3,7 +3,7 @@ ghost use Rattle.std.specs.Prelude.{◌≡◌, ◌+◌, ◌-◌, ◌^◌, ◌<�
 ghost use Rattle.log_look.specs.Cut.{IsUnopened};
 ghost use Rattle.package_table.specs.Readers.{package_names};
 ghost use Rattle.plist_state.specs.Readers.{borrowed_symbols, symbols_with_properties};
-ghost use Rattle.store_reports.specs.Figures.{AreFiguresOf, counts_in, end_of_figures, file_info_text, files_text, half_line, half_text, info_text, sizes_text, known_figure, property_count, symbol_count, told_number, world_text};
+ghost use Rattle.store_reports.specs.Figures.{AreFiguresOf, counts_in, end_of_figures, file_info_text, files_text, half_line, half_text, info_text, sizes_text, known_figure, property_count, symbol_count, told_number, verified_text, world_text};
 
 use crate::numbers::{Notation, push_figure};
 use disk_trait::{Disk, Half};
@@ -47,14 +47,6 @@ pub fn half_figures(alloc: Global, sight: Sight) -> Result<(HalfFigures, Sight),
         first_bytes: log.first_size(),
     };
     Ok((figures, log.into_disk()))
-}
-
-// How many packages there are.
-fn package_count(alloc: Global, packages: &Packages) -> Result<u64, AllocError>
-    ensures { IfOk result (λ count. count ≡ length (package_names packages.now.0)) }
-{
-    let names = packages.package_names(alloc)?;
-    Ok(names.len() as u64)
 }
 
 // How many symbols are at home in the packages.
@@ -127,6 +119,30 @@ pub fn file_info(
     Ok(text)
 }
 
+/// What is told of an open store that was verified, as one object: its half in use, and the position of messages, where there is one.
+///
+/// # Errors
+///
+/// Out of memory.
+pub fn verified(
+    alloc: Global,
+    half: Half,
+    generation: u64,
+    records: u64,
+    position: Option<u64>,
+) -> Result<Vec<u8>, AllocError>
+    ensures { IfOk result (λ text. text.items ≡ verified_text half generation records position) }
+{
+    let notation = Notation::Json;
+    let mut text = Vec::new(alloc);
+    push_letter(&mut text, notation, half)?;
+    push_figure(alloc, &mut text, notation, b"generation", generation)?;
+    push_figure(alloc, &mut text, notation, b"records", records)?;
+    push_known(alloc, &mut text, notation, b"position", position)?;
+    push_end(&mut text, notation)?;
+    Ok(text)
+}
+
 fn push_letter(text: &mut Vec<u8>, notation: Notation, half: Half) -> Result<(), AllocError>
     ensures { OnOk result (text.new.items ≡ text.old.items ++ half_line notation half) }
 {
@@ -188,12 +204,12 @@ struct Counts {
 fn counts_of(alloc: Global, world: &World) -> Result<Counts, AllocError>
     ensures { IfOk result (λ counts. counts ≡ counts_in world.now.0) }
 {
-    let packages = package_count(alloc, world.packages())?;
+    let packages = world.packages().package_names(alloc)?;
     let symbols = symbol_count(alloc, world.packages())?;
     let owners = world.owners(alloc)?;
     let properties = property_count(world, owners.as_slice());
     Ok(Counts {
-        packages,
+        packages: packages.len() as u64,
         symbols,
         owners: owners.len() as u64,
         properties,

@@ -3,7 +3,7 @@ ghost use Rattle.std.specs.List.{flat_map};
 ghost use Rattle.std.specs.Prelude.{◌≡◌, ◌++◌, [], ◌∷◌, IfOk, OnOk};
 ghost use Rattle.package_table.specs.Readers.{names_of};
 ghost use Rattle.store_reports.specs.Escaped.{escaped};
-ghost use Rattle.store_reports.specs.Shown.{home_text, shown_by_home, shown_home, shown_homes};
+ghost use Rattle.store_reports.specs.Shown.{home_text, is_asked, shown_by_home, shown_home, shown_homes};
 
 use crate::escaped::push_escaped;
 use crate::json::push_string_member;
@@ -12,11 +12,20 @@ use crate::showing::{push_list, symbol_text};
 use plist_state::World;
 use std::alloc::{AllocError, Global};
 
-/// A symbol that is asked for, as it is printed in COMMON-LISP-USER.
+/// A symbol that is asked for, as it is printed in COMMON-LISP-USER, or, among those of a package, by its name.
 #[derive(Clone, Copy)]
 pub(crate) struct AskedSymbol<'a> {
     pub(crate) selection: &'a Selection<'a>,
     pub(crate) symbol: &'a [u8],
+}
+
+impl AskedSymbol<'_> {
+    /// Whether it is one of this name that is printed so.
+    pub(crate) fn is_for(&self, printed: &[u8], name: &[u8]) -> bool
+        ensures { result ≡ is_asked self.now.selection.now self.now.symbol.now printed.now name.now }
+    {
+        printed == self.symbol || (self.selection.package.is_some() && name == self.symbol)
+    }
 }
 
 /// The symbol that is asked for: its home, and its properties.
@@ -106,7 +115,7 @@ fn push_symbol(
         return Ok(());
     }
     let symbol = symbol_text(alloc, world.packages(), home, name)?;
-    if symbol.as_slice() != asked.symbol {
+    if !asked.is_for(symbol.as_slice(), name) {
         return Ok(());
     }
     push_home(text, asked.selection.layout, symbol.as_slice(), home)?;

@@ -64,11 +64,7 @@ pub(crate) fn push_json_number(
 
 /// Adds a member of an object, a string.
 #[tactic(auto, unfolding(crate::specs::Json::string_member))]
-pub(crate) fn push_string_member(
-    text: &mut Vec<u8>,
-    name: &[u8],
-    value: &[u8],
-) -> Result<(), AllocError>
+pub fn push_string_member(text: &mut Vec<u8>, name: &[u8], value: &[u8]) -> Result<(), AllocError>
     ensures { OnOk result (text.new.items ≡ text.old.items ++ string_member name.now value.now) }
 {
     push_json_string(text, name)?;
@@ -78,7 +74,7 @@ pub(crate) fn push_string_member(
 
 /// Adds a member of an object, a number.
 #[tactic(auto, unfolding(crate::specs::Json::number_member))]
-pub(crate) fn push_number_member(
+pub fn push_number_member(
     alloc: Global,
     text: &mut Vec<u8>,
     name: &[u8],

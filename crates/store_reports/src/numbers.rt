@@ -25,7 +25,7 @@ pub(crate) fn push_number(alloc: Global, text: &mut Vec<u8>, number: u64) -> Res
 }
 
 /// Adds a name and a number: a line, or a member of an object that is not its first one.
-pub(crate) fn push_figure(
+pub fn push_figure(
     alloc: Global,
     text: &mut Vec<u8>,
     notation: Notation,

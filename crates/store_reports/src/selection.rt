@@ -18,7 +18,7 @@ pub enum Layout {
 /// Which properties are asked for: those with all of what is given here.
 #[derive(Clone, Copy, Debug)]
 pub struct Selection<'a> {
-    /// Of the symbol that is printed so in COMMON-LISP-USER, with its home.
+    /// Of the symbol that is printed so in COMMON-LISP-USER, or has this name in the package that is asked for, with its home.
     pub symbol: Option<&'a [u8]>,
     /// Of the symbols at home in the package of this name.
     pub package: Option<&'a [u8]>,

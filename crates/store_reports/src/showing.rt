@@ -4,7 +4,7 @@ ghost use Rattle.std.specs.List.{flat_map};
 ghost use Rattle.lisp_object.specs.Datum.{is_proper};
 ghost use Rattle.plist_state.specs.Readers.{borrowed_symbols};
 ghost use Rattle.plist_state.specs.Shown.{property_of};
-ghost use Rattle.store_reports.specs.Shown.{asked_text, has_wanted, property_text, shown_list, shown_property, shown_symbol, shown_text, IsShown, GivesSome, IsUnshown};
+ghost use Rattle.store_reports.specs.Shown.{asked_text, has_wanted, property_text, shown_list, shown_property, shown_symbol, IsShown, GivesSome, IsUnshown};
 ghost use Rattle.store_reports.specs.declared.showing.ShowError.TheVariants as showing;
 
 use crate::escaped::push_escaped;
@@ -28,8 +28,8 @@ pub enum ShowError {
     /// There is no package of the name that is asked for.
     #[error("there is no package of this name (a name is given as the store has it, mostly in upper case)")]
     NoPackage,
-    /// No symbol that is asked for is printed so.
-    #[error("there is no such symbol (a symbol is given as it is printed, mostly in upper case)")]
+    /// No symbol that is asked for is printed so, nor, where a package is asked for, has this name.
+    #[error("there is no such symbol (a symbol is given as it is printed, with its package, as SHOP::APPLE, or by its name with --package; mostly in upper case)")]
     NoSymbol,
     /// No property that is asked for has an indicator of this name.
     #[error("no property has an indicator of this name (a name is given without its package, mostly in upper case)")]
@@ -79,6 +79,7 @@ fn some_text(text: Vec<u8>, none: ShowError) -> Result<Vec<u8>, ShowError>
 }
 
 // The symbol that is asked for, or the properties.
+#[tactic(auto, unfolding(crate::specs::Shown::shown_text))]
 fn asked_text(
     alloc: Global,
     world: &World,
@@ -88,27 +89,17 @@ fn asked_text(
 {
     match selection.symbol {
         Some(symbol) => shown_by_home(alloc, world, &AskedSymbol { selection, symbol }),
-        None => shown_text(alloc, world, selection),
+        None => {
+            let mut text = Vec::new(alloc);
+            let symbols = world.owners(alloc)?;
+            push_lists(alloc, &mut text, world, selection, symbols.as_slice())?;
+            Ok(text)
+        }
     }
 }
 
-// The properties that are asked for.
-#[tactic(auto, unfolding(crate::specs::Shown::shown_text))]
-fn shown_text(
-    alloc: Global,
-    world: &World,
-    selection: &Selection<'_>,
-) -> Result<Vec<u8>, AllocError>
-    ensures { IfOk result (λ text. text.items ≡ shown_text selection.now world.now.0) }
-{
-    let mut text = Vec::new(alloc);
-    let symbols = world.owners(alloc)?;
-    push_lists(alloc, &mut text, world, selection, symbols.as_slice())?;
-    Ok(text)
-}
-
-// Whether the package that is asked for is there, if one is.
-fn has_wanted(world: &World, selection: &Selection<'_>) -> bool
+/// Whether the package that is asked for is there, if one is.
+pub(crate) fn has_wanted(world: &World, selection: &Selection<'_>) -> bool
     ensures { result ≡ has_wanted selection.now world.now.0 }
 {
     match selection.package {

@@ -14,4 +14,5 @@ returns c =
       like = c.get_str-4.ensures ∙ first_value-rows f (codes "like");
       forms = c.flag_is_set.ensures ∙ ap is_set (c.get_str-5.ensures ∙ first_value-rows f (codes "forms"));
       json = c.flag_is_set-2.ensures ∙ ap is_set (c.get_str-6.ensures ∙ first_value-rows f (codes "json"));
+      count = c.flag_is_set-3.ensures ∙ ap is_set (c.get_str-7.ensures ∙ first_value-rows f (codes "count"));
     }

@@ -1,5 +1,6 @@
 use Rattle.std.proofs.Common.{◌∙◌, ap, inl, map, refl, subst, sym}
 use Rattle.clap.specs.Words.{Kinds, kind_of}
+use Rattle.store_commands.specs.Output.{held_by}
 use Rattle.store_commands.specs.Folders.{OpensStore}
 use Rattle.command_words.specs.CommandLine.{asked_in, faults_of}
 use Rattle.store_commands.specs.Status.{EndsAfter, HasFaultNumber, IsAfterWords, IsCarriedOut, TakesWords}
@@ -42,10 +43,10 @@ returns-in-Ok-clause-taken g c = λ folder existing task taken.
     let existing_too = same_existing asked c.in-Ok.asked.folder.now folder c.in-Ok.asked.existing existing c.in-Ok.asked.task task c.in-Ok.ensures.asked taken.1 in
     let likewise = same_task asked c.in-Ok.asked.folder.now folder c.in-Ok.asked.existing existing c.in-Ok.asked.task task c.in-Ok.ensures.asked taken.1 in (
       c.carry_out-status.result.1,
-      moved_performs _ g.I.Read.remaining g.O.Write.contents _ _ _ _ _ _ c.carry_out-status.result.1 folder c.in-Ok.asked.folder.now task c.in-Ok.asked.task
+      moved_performs _ g.I.Read.remaining (held_by g.O.Write.contents) _ _ _ _ _ _ c.carry_out-status.result.1 folder c.in-Ok.asked.folder.now task c.in-Ok.asked.task
           c.end_with_told.result c.carry_out-status.result.0 (sym same) (sym likewise) c.end_with_told.ensures.status refl refl c.carry_out-status.ensures.performs,
       told_of_task g c,
-      moved_opening _ _ _ _ g.I.Read.remaining g.O.Write.contents _ _ _ _ (OpensStore _ g.R.Disk.TellsCause.tells (g.R.Folders.opens c.args.rt.now)) c.carry_out-status.result.1 folder c.in-Ok.asked.folder.now existing c.in-Ok.asked.existing
+      moved_opening _ _ _ _ g.I.Read.remaining (held_by g.O.Write.contents) _ _ _ _ (OpensStore _ g.R.Disk.TellsCause.tells (g.R.Folders.opens c.args.rt.now)) c.carry_out-status.result.1 folder c.in-Ok.asked.folder.now existing c.in-Ok.asked.existing
           task c.in-Ok.asked.task c.end_with_told.result c.carry_out-status.result.0 (sym same) (sym existing_too) (sym likewise) c.end_with_told.ensures.status c.carry_out-status.ensures.opened,
     )
 
@@ -68,10 +69,10 @@ returns-in-Err-clause-taken g c = λ folder existing task taken.
     let memory = only_memory (faults_of (map g.S.AsStr.text c.args.words.now)) (kind_of c.in-Err.error) taken.0 c.in-Err.ensures.faults in
     let ended = memory_at c.end_with.result c.answer_words-status.result (kind_of c.in-Err.error) c.end_with.ensures.status memory c.answer_words-status.ensures.status in (
       Nothing,
-      performs_nothing _ g.I.Read.remaining g.O.Write.contents _ _ _ _ Nothing folder task c.end_with.result (inl ended)
-          (refl, c.answer_words-status.ensures.memory (sym c.end_with.ensures.status ∙ ended)),
+      performs_nothing _ g.I.Read.remaining (held_by g.O.Write.contents) _ _ _ _ Nothing folder task c.end_with.result (inl ended)
+          (refl, ap (λ o. record c.args.output.now { output = o }) (c.answer_words-status.ensures.memory (sym c.end_with.ensures.status ∙ ended))),
       told_of_words g c,
-      inl (inl ended, (refl, c.answer_words-status.ensures.memory (sym c.end_with.ensures.status ∙ ended))),
+      inl (inl ended, (refl, ap (λ o. record c.args.output.now { output = o }) (c.answer_words-status.ensures.memory (sym c.end_with.ensures.status ∙ ended)))),
     )
 
 pub returns-in-Err-clause-untaken : goal.returns-in-Err-clause-untaken
@@ -82,8 +83,8 @@ returns-in-Err-clause-untaken g c = λ some.
       unread = refl;
       not_carried_out = λ carried. words_carry_out _ told.of_words (subst IsCarriedOut is carried);
       no_opening = λ number fault of. words_open _ told.of_words number (sym is ∙ fault) of;
-      refused = λ refused. told.refused (sym is ∙ refused);
-      memory = λ memory. told.memory (sym is ∙ memory);
+      refused = λ refused. ap (λ o. record c.args.output.now { output = o }) (told.refused (sym is ∙ refused));
+      memory = λ memory. ap (λ o. record c.args.output.now { output = o }) (told.memory (sym is ∙ memory));
     }
 
 pub returns-in-Err-clause-fault : goal.returns-in-Err-clause-fault

@@ -7,5 +7,5 @@ loop-one-init c = ([], none_so_far, sym (append-nil c.args.lines.now.items))
 
 pub loop-one-preserved : goal.loop-one-preserved
 loop-one-preserved c =
-    told_more c.args.unreadable.now c.loop-one.one-index _ _ c.refusal_of-refusal.result c.args.lines.now.items c.loop-one.lines.items c.write_refusal.new.faults.items c.loop-one-test.true refl
-    c.refusal_of-refusal.ensures c.loop-one.invariant (let h = c.in-Ok.ensures.whole c.loop-one.lines.items refl in cc)
+    told_more c.args.notation c.args.unreadable.now c.loop-one.one-index _ _ c.refusal_of-refusal.result c.args.lines.now.items c.loop-one.lines.items c.push_refusal.new.text.items c.loop-one-test.true refl
+    c.refusal_of-refusal.ensures c.loop-one.invariant c.in_ok-push_refusal.ensures

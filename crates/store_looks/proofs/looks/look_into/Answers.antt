@@ -1,5 +1,5 @@
 use Rattle.std.proofs.Common.{refl}
-use Rattle.store_looks.proofs.Looking.{backed_up, dump_told, figures_told, log_told, shown_told}
+use Rattle.store_looks.proofs.Looking.{backed_up, dump_told, figures_told, log_told, shown_told, verified_told}
 use Rattle.store_looks.proofs.looks.look_into.Goals as goal
 
 pub returns-in-Dump-clause-looks : goal.returns-in-Dump-clause-looks
@@ -16,3 +16,6 @@ returns-in-Log-clause-looks g c = log_told _ _ _ _ _ _ _ _ _ c.in-Log.records c.
 
 pub returns-in-Backup-clause-looks : goal.returns-in-Backup-clause-looks
 returns-in-Backup-clause-looks g c = backed_up _ _ _ _ _ _ _ _ _ c.in-Backup.to c.in-Backup.is refl c.back_up.result c.back_up.ensures
+
+pub returns-in-Verify-clause-looks : goal.returns-in-Verify-clause-looks
+returns-in-Verify-clause-looks g c = verified_told _ _ _ _ _ _ _ _ _ c.in-Verify.is c.verify_on.result c.verify_on.ensures.looks
