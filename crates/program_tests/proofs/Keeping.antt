@@ -1,15 +1,16 @@
 -- What follows of a session whose recipient keeps account of it.
-use Rattle.std.proofs.Common.{◌≡◌, ℕ, ◌+◌, List, [], ◌∷◌, ◌++◌, Option, None, Some, IsSome, unwrap_or, refl, sym, ap, subst, ◌∙◌}
+use Rattle.std.proofs.Common.{◌≡◌, ℕ, zero, suc, ◌+◌, ◌<◌, ◌≤◌, List, [], ◌∷◌, ◌++◌, length, take, drop, Option, None, Some, IsSome, unwrap_or, refl, sym, ap, subst, ◌∙◌, arith}
 use Rattle.std.specs.Option.{option_map}
+use Rattle.std.proofs.lemmas.List.{length-take-le, take-append-drop}
 use Rattle.disk_trait.specs.Disk.{Image, State}
 use Rattle.plist_state.specs.State.{WorldState, initial}
-use Rattle.prevalence_store.specs.Theorem.{Call, Keeps, disk_after}
+use Rattle.prevalence_store.specs.Theorem.{Call, Keeps, Run, disk_after, world_after}
 use Rattle.prevalence_store.specs.calls.Account.{Account, AreStored, AreUnderWay, with_forms}
 use Rattle.prevalence_store.specs.calls.Store.{StoreView}
 use Rattle.session_words.specs.declared.mode.Mode.TheVariants.{Current}
 use Rattle.store_laws.specs.Batches.{MeansCalls}
 use Rattle.store_laws.specs.Sessions.{AreCalls, AreHanded, Handing, account_after, call_since, calls_of}
-use Rattle.program_tests.specs.Keepers.{ComesOf, IsKept, KeeperView, account_of, began_with, first_of, kept_by}
+use Rattle.program_tests.specs.Keepers.{AreDone, ComesOf, HasDone, IsKept, KeeperView, account_of, began_with, first_of, kept_by}
 use Rattle.user_macros.specs.Functions.{Functions}
 
 -- its account after more forms
@@ -69,11 +70,26 @@ module _ (functions : Functions) {D : Type 0} (R : Type 0) (state : D → State)
 
   -- ---- a session, from its beginning to its end
 
-  -- the disk after its calls
-  ends_at : (handings : List (Handing D R)) (account : Account D) (handed : AreHanded functions state account handings) (call : Call D)
-      → disk_after account.disk (calls_of functions state account handings handed ++ call ∷ []) ≡ call.disk
-  ends_at [] account handed call = refl
-  ends_at (one ∷ more) account handed call = ends_at more (with_forms one.forms one.store account) handed.1 call
+  module _ (last : Call D) where
+    -- what was handed on is calls, one for each time, and then this last one
+    abbrev all_calls : (handings : List (Handing D R)) (account : Account D) → AreHanded functions state account handings → List (Call D)
+    all_calls handings account handed = calls_of functions state account handings handed ++ last ∷ []
+
+    ends_at : (handings : List (Handing D R)) (account : Account D) (handed : AreHanded functions state account handings)
+        → disk_after account.disk (all_calls handings account handed) ≡ last.disk
+    ends_at [] account handed = refl
+    ends_at (one ∷ more) account handed = ends_at more (with_forms one.forms one.store account) handed.1
+
+    number_of : (handings : List (Handing D R)) (account : Account D) (handed : AreHanded functions state account handings)
+        → length (all_calls handings account handed) ≡ length handings + 1
+    number_of [] account handed = refl
+    number_of (one ∷ more) account handed = let fewer = number_of more (with_forms one.forms one.store account) handed.1 in omega arith
+
+    disk_at : (handings : List (Handing D R)) (account : Account D) (handed : AreHanded functions state account handings) (k : ℕ) → k ≤ length handings
+        → disk_after account.disk (take k (all_calls handings account handed)) ≡ (account_after account (take k handings)).disk
+    disk_at handings account handed zero le = refl
+    disk_at [] account handed (suc k) le = absurd (omega arith)
+    disk_at (one ∷ more) account handed (suc k) le = disk_at more (with_forms one.forms one.store account) handed.1 k (omega arith)
 
   -- what was done up to its end is calls in a row
   abbrev pub Ends : Account D → StoreView D R → Type 0
@@ -81,21 +97,24 @@ module _ (functions : Functions) {D : Type 0} (R : Type 0) (state : D → State)
       → (since : AreUnderWay functions state (account_after first handings) store)
       → AreCalls functions state first (calls_of functions state first handings handed ++ call_since functions state (account_after first handings) store since ∷ [])
 
-  calls_to : (first kept : Account D) (store : StoreView D R) → Ends first store → ComesOf functions R state first kept → AreUnderWay functions state kept store
-      → (calls : List (Call D)) × AreCalls functions state first calls × (disk_after first.disk calls ≡ store.disk)
+  calls_to : (first kept : Account D) (store : StoreView D R) → Ends first store → ComesOf functions R state first kept → AreUnderWay functions state kept store → AreDone functions R state first store.disk
   calls_to first kept store law comes since =
       let here = subst (λ (a : Account D). AreUnderWay functions state a store) (sym comes.is) since in
-      let last = call_since functions state (account_after first comes.handings) store here in (
-        calls_of functions state first comes.handings comes.handed ++ last ∷ [],
-        law comes.handings comes.handed here,
-        ends_at comes.handings first comes.handed last,
-      )
+      let last = call_since functions state (account_after first comes.handings) store here in record {
+        handings = comes.handings;
+        handed = comes.handed;
+        calls = all_calls last comes.handings first comes.handed;
+        are = law comes.handings comes.handed here;
+        number = number_of last comes.handings first comes.handed;
+        disks = disk_at last comes.handings first comes.handed;
+        ends = ends_at last comes.handings first comes.handed;
+      }
 
   pub session_calls : (first : Account D) (store : StoreView D R) (keeper : KeeperView D R) → Ends first store → first_of keeper ≡ first → IsSome keeper.forms
       → IsKept functions state keeper.start keeper.input keeper.last keeper.forms → ((kept : Account D) → account_of keeper ≡ Some kept → AreUnderWay functions state kept store)
-      → (calls : List (Call D)) × AreCalls functions state first calls × (disk_after first.disk calls ≡ store.disk)
+      → AreDone functions R state first store.disk
   session_calls first store keeper law same some is_kept since = by_forms keeper.forms refl some where
-    by_forms : (forms : Option ℕ) → keeper.forms ≡ forms → IsSome forms → (calls : List (Call D)) × AreCalls functions state first calls × (disk_after first.disk calls ≡ store.disk)
+    by_forms : (forms : Option ℕ) → keeper.forms ≡ forms → IsSome forms → AreDone functions R state first store.disk
     by_forms None is counted = absurd (cc)
     by_forms (Some forms) is counted =
         let kept : Account D = kept_by keeper.start keeper.input keeper.last forms in
@@ -107,13 +126,43 @@ pub keeps_first : (functions : Functions) {D R : Type 0} (state : D → State) (
     → Keeps functions (state start.disk) (unwrap_or start.world initial)
 keeps_first functions state start world known keeps = subst (λ o. Keeps functions (state start.disk) (unwrap_or o initial)) (sym known) keeps
 
--- what a crash leaves at any moment of it
-pub at_any_moment : (functions : Functions) {D R : Type 0} (state : D → State) (start new : StoreView D R) (input : Option (List ℕ)) (world : WorldState) → start.world ≡ Some world
-    → (calls : List (Call D)) × AreCalls functions state (began_with start input) calls × (disk_after start.disk calls ≡ new.disk)
-    → (image : Image) → (state new.disk).left_since (state start.disk).moment image → (calls : List (Call D)) × MeansCalls functions world calls 0 image
-at_any_moment functions state start new input world known (calls, are, ends) image might =
-    let here : unwrap_or start.world initial ≡ world = ap (λ o. unwrap_or o initial) known in (
-      calls,
-      subst (λ w. MeansCalls functions w calls 0 image) here
-          ((are.whole [] calls refl).any_moment (unwrap_or start.world initial) refl image (subst (λ d. (state d).left_since (state start.disk).moment image) (sym ends) might)),
-    )
+-- ---- a crash after some of the calls
+
+module _ (functions : Functions) {D : Type 0} (state : D → State) where
+  -- no call comes where no store is open, so each but the last left a world
+  open_before : (calls : List (Call D)) (k : ℕ) (disk : D) (left : Option WorldState) → Run functions state disk left calls → k < length calls
+      → (now : WorldState) × (world_after left (take k calls) ≡ Some now)
+  open_before [] k disk left run less = absurd (omega arith)
+  open_before (call ∷ calls) k disk None run less = absurd run
+  open_before (call ∷ calls) zero disk (Some world) run less = (world, refl)
+  open_before (call ∷ calls) (suc k) disk (Some world) run less = open_before calls k call.disk call.left run.1 (omega arith)
+
+  after_some : (account : Account D) (calls : List (Call D)) → AreCalls functions state account calls → (k : ℕ) → k < length calls → (image : Image)
+      → (state (disk_after account.disk calls)).left_since (state (disk_after account.disk (take k calls))).moment image → MeansCalls functions account.now calls k image
+  after_some account calls are k less image might =
+      let parted = take-append-drop k calls in
+      let was_open = open_before calls k account.disk (Some account.now) are.run less in
+      let means : MeansCalls functions account.now (take k calls ++ drop k calls) (length (take k calls)) image =
+      (are.whole (take k calls) (drop k calls) (sym parted)).any_moment was_open.0 was_open.1 image
+      (subst (λ (all : List (Call D)). (state (disk_after account.disk all)).left_since (state (disk_after account.disk (take k calls))).moment image) (sym parted) might) in
+      subst (λ (all : List (Call D)). MeansCalls functions account.now all k image) parted
+      (subst (λ n. MeansCalls functions account.now (take k calls ++ drop k calls) n image) (length-take-le k calls (omega arith)) means)
+
+-- what a crash leaves after lines were handed on for the k-th time
+pub at_each_moment : (functions : Functions) {D R : Type 0} (state : D → State) (start new : StoreView D R) (input : Option (List ℕ)) (world : WorldState) → start.world ≡ Some world
+    → AreDone functions R state (began_with start input) new.disk → HasDone functions state start new input world
+at_each_moment functions {D} {R} state start new input world known done =
+    let first : Account D = began_with start input in
+    let here : first.now ≡ world = ap (λ o. unwrap_or o initial) known in record {
+      handings = done.handings;
+      handed = done.handed;
+      calls = done.calls;
+      are = done.are;
+      number = done.number;
+      ends = done.ends;
+      any_moment = λ k le image might.
+          subst (λ w. MeansCalls functions w done.calls k image) here
+          (after_some functions state first done.calls done.are k (let n = done.number in omega arith) image
+          (subst (λ (d : D). (state d).left_since (state (disk_after first.disk (take k done.calls))).moment image) (sym done.ends)
+          (subst (λ (d : D). (state new.disk).left_since (state d).moment image) (sym (done.disks k le)) might)));
+    }

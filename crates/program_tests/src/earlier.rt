@@ -7,7 +7,7 @@ ghost use Rattle.prevalence_store.specs.meaning.BeforeOperators.{rules_before_op
 ghost use Rattle.prevalence_store.specs.meaning.Files.{MeansWorldBy};
 ghost use Rattle.user_macros.specs.Functions.{no_functions};
 
-use crate::troubled_disks::{AMPLE, Trouble, disk_of};
+use crate::troubled_disks::{AMPLE, HALF, Trouble, disk_of};
 use disk_trait::{Disk, MemoryDisk};
 use prevalence_store::Store;
 use std::alloc::Global;
@@ -35,11 +35,7 @@ fn opened_later<D: Disk + Drop, M: MacroFunctions + Drop>(
     Some(store)
 }
 
-/// A half of version 2 whose world has the property 7.
-const HALF: &[u8] =
-    b"\xa5\0\x02\0\0\0\0\0\0\0\x01\0\0\0\x8a((\"COMMON-LISP-USER\" (\"COMMON-LISP\") NIL NIL NIL) (\"KEYWORD\" NIL NIL NIL NIL))\nNIL\n(\"COMMON-LISP-USER\" \"USER\" 10 ((\"USER\" \"UPCASE\" NIL)))\n\xa5\0\0\0\0\x14(SETF (GET 'A 'B) 7)\0";
-
-/// How many records a store has that is opened on such files.
+/// How many records a store has that is opened on a half with one.
 fn record_count(alloc: Global) -> Result<u64, Trouble> {
     let disk = disk_of(alloc, HALF)?;
     if disk.failures() > 0 {

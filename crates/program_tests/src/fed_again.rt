@@ -1,14 +1,14 @@
 //! A session over what is fed again.
 ghost use Rattle.std.specs.Prelude.{◌≡◌, ◌<◌, ◌-◌, ◌^◌, ℕ, List, Some};
 ghost use Rattle.std.specs.List.{AllByRecursion, flat_map};
-ghost use Rattle.feeding_laws.specs.Feeding.{AreAnsweredAgain, FeedsAgain, over};
+ghost use Rattle.feeding_laws.specs.Feeding.{AreAnsweredAgain, FeedsAgain, over, told_position};
 ghost use Rattle.message_frames.specs.Frames.{IsFrame, Sent, frame_bytes};
 ghost use Rattle.message_session.specs.Sessions.{text_limit};
 ghost use Rattle.plist_state.specs.State.{WorldState};
 ghost use Rattle.messages.specs.Position.{position};
 
 use disk_trait::{Disk, MemoryDisk};
-use feeding_laws::fed_sessions;
+use feeding_laws::{fed_sessions, feeding_on};
 use message_session::{Ended, serve_messages};
 use prevalence_store::Store;
 use std::alloc::{AllocError, Global};
@@ -20,7 +20,9 @@ use user_macros::{MacroFunctions, Macros, NoFunctions};
 const AMPLE: u64 = 1 << 30;
 
 /// A session over a store that has a position. If its input are just the messages over it, of frames that may be fed again, and it comes to its
-/// end, it writes the answers that were given, and leaves the world after all.
+/// end, it writes the answers that were given, and leaves the world after all (`again`).
+///
+/// `twice`: so it does where the store was stopped once more before, with the world in the middle.
 fn feed_again<D: Disk, M: MacroFunctions, I: Read, O: Write>(
     alloc: Global,
     store: &mut Store<D, M>,
@@ -33,10 +35,18 @@ fn feed_again<D: Disk, M: MacroFunctions, I: Read, O: Write>(
         → I.remaining input.old ≡ Some (flat_map frame_bytes (over p frames))
         → result ≡ Ended.End
         → AreAnsweredAgain M.Meaning.functions store.new last first frames p (O.contents output.old) (O.contents output.new) }
+    ensures twice { (last p : ℕ) (first middle now : WorldState) (frames : List Sent)
+        → store.old.world ≡ Some now → FeedsAgain M.Meaning.functions last first frames middle
+        → FeedsAgain M.Meaning.functions (told_position middle) middle (over (told_position middle) frames) now
+        → position now ≡ Some p → AllByRecursion (IsFrame text_limit) frames
+        → I.remaining input.old ≡ Some (flat_map frame_bytes (over p frames))
+        → result ≡ Ended.End
+        → AreAnsweredAgain M.Meaning.functions store.new last first frames p (O.contents output.old) (O.contents output.new) }
     ensures macros { store.new.macros ≡ store.old.macros }
 {
     let ended = serve_messages(alloc, store, input, output, 0);
     fed_sessions::<D, M>();
+    feeding_on();
     ended
 }
 

@@ -1,13 +1,10 @@
 //! A recipient that keeps account of its session, and what follows of the session at each moment.
 ghost use Rattle.std.specs.Option.{option_map};
-ghost use Rattle.std.specs.Prelude.{◌≡◌, ℕ, ◌+◌, ◌<◌, ◌-◌, ◌^◌, [], List, Some, IfSome, IsSome};
-ghost use Rattle.disk_trait.specs.Disk.{Image, IsHonest};
+ghost use Rattle.std.specs.Prelude.{◌≡◌, ℕ, ◌+◌, ◌<◌, ◌-◌, ◌^◌, [], Some, IfSome, IsSome};
+ghost use Rattle.disk_trait.specs.Disk.{IsHonest};
 ghost use Rattle.plist_state.specs.State.{WorldState};
-ghost use Rattle.prevalence_store.specs.Theorem.{Call, disk_after};
 ghost use Rattle.prevalence_store.specs.calls.Account.{Account, AreStored, with_forms};
-ghost use Rattle.program_tests.specs.Keepers.{IsKept, account_of, began_with, first_of};
-ghost use Rattle.store_laws.specs.Batches.{MeansCalls};
-ghost use Rattle.store_laws.specs.Sessions.{AreCalls};
+ghost use Rattle.program_tests.specs.Keepers.{HasDone, IsKept, account_of, first_of};
 
 use crate::again::{AMPLE, reopen_failed};
 use disk_trait::{Disk, MemoryDisk, OnceDisk};
@@ -64,7 +61,7 @@ fn with_more(before: Option<usize>, more: usize) -> Option<usize>
 
 impl<D: Disk, M: MacroFunctions, I: Read> Keeper<D, M, I> {
     /// As a session over this store and this input begins.
-    fn new(alloc: Global, store: &Store<D, M>, reader: &I) -> Keeper<D, M, I>
+    pub fn new(alloc: Global, store: &Store<D, M>, reader: &I) -> Keeper<D, M, I>
         ensures { result ≡ record {
           bytes = [];
           start = store.now;
@@ -105,7 +102,7 @@ impl<D: Disk, M: MacroFunctions, I: Read> Keeper<D, M, I> {
     }
 
     /// What it was handed, if it could count the forms.
-    fn into_bytes(self) -> Option<Vec<u8>>
+    pub fn into_bytes(self) -> Option<Vec<u8>>
         ensures { IfSome result (λ bytes. (bytes.items ≡ self.bytes) × IsSome self.forms) }
     {
         let Keeper {
@@ -155,21 +152,16 @@ impl<D: Disk, M: MacroFunctions, I: Read> Recipient<D, M> for Keeper<D, M, I> {
 /// A session with groups over an input, to a recipient that keeps account of it: how it ended, and what it wrote. `None` after more forms
 /// than can be counted.
 ///
-/// - `calls`: what the session did are calls in a row, from its beginning to its end.
-/// - `any_moment`: so a crash at any moment of it leaves the world after all forms of so many of them.
+/// What it did is calls in a row, from its beginning to its end, one for each time at which lines were handed on. So from the k-th time on a
+/// crash leaves the world after all forms of at least k of them.
 fn kept_account<D: Disk, M: MacroFunctions, I: Read>(
     alloc: Global,
     store: &mut Store<D, M>,
     reader: &mut I,
 ) -> Option<(Ended, Vec<u8>)>
-    ensures calls { IfSome result (λ kept. (world : WorldState) → store.old.world ≡ Some world
-        → IsHonest (D.state store.old.disk) → (calls : List (Call D))
-        × AreCalls M.Meaning.functions D.state (began_with store.old (I.remaining reader.old)) calls
-        × (disk_after store.old.disk calls ≡ store.new.disk)) }
-    ensures any_moment { IfSome result (λ kept. (world : WorldState) → store.old.world ≡ Some world
+    ensures { IfSome result (λ kept. (world : WorldState) → store.old.world ≡ Some world
         → IsHonest (D.state store.old.disk)
-        → (image : Image) → (D.state store.new.disk).left_since (D.state store.old.disk).moment image
-        → (calls : List (Call D)) × MeansCalls M.Meaning.functions world calls 0 image) }
+        → HasDone M.Meaning.functions D.state store.old store.new (I.remaining reader.old) world) }
 {
     let wanted = Wanted {
         mode: Mode::Current,

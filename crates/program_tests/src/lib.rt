@@ -1,6 +1,5 @@
 //! Tests of the store, its log and its devices, through the public calls of the crates: what neither a run of the program nor a call by C can
-//! show. Then callers of the laws of form_eval, store_laws, message_laws, feeding_laws, wider_functions and whole_export, over any disk, any macro
-//! functions and any input, and of those of crc32c, and runs of them.
+//! show. Then callers of laws of most crates, over any disk, any macro functions and any input, and runs of them.
 //!
 //! They are a crate of their own, at the top, so that no library is proved again for the sake of its tests, and that the store is compiled
 //! for tests once.
@@ -31,9 +30,15 @@
 //! - `batches`: requests that are answered in batches, each of which ends with the bytes of its answers
 //! - `room`: requests that are refused, as there is no room for what they write
 //! - `fed_again`: a session over messages that are fed once more
+//! - `forgotten`: a world from which the symbols went that it does not need
+//! - `torn`: what a crash makes of a write without a sync
+//! - `crashed`: a store on a new disk in memory, which crashes; `stopped`: the disk of it
+//! - `closed`: a store that is closed and opened again
+//! - `answers`: the answer to a form, and its number where it is refused
+//! - `alike`: logs whose files hold the same bytes, and a look at files that nobody writes
 //! - `troubled_disks`: the disks of these, and what may go wrong in them
 //!
-//! Lemmas in `proofs`: `Keeping`.
+//! Lemmas in `proofs`: `Bytes`, `Keeping`, `SameAnswers`, `Taken`.
 //!
 //! Want of memory ends a test of the first four with an error, wherever it comes: an assertion that fails is an answer that has changed. What a
 //! run of the built program can show is in `checks/sessions`: answers, refusals and their places, words, commands, files; how it takes its input in
@@ -44,9 +49,17 @@
 #[cfg(test)]
 mod again;
 #[cfg(test)]
+mod alike;
+#[cfg(test)]
+mod answers;
+#[cfg(test)]
 mod asked;
 #[cfg(test)]
 mod batches;
+#[cfg(test)]
+mod closed;
+#[cfg(test)]
+mod crashed;
 #[cfg(test)]
 mod cuts;
 #[cfg(test)]
@@ -59,6 +72,8 @@ mod earlier;
 mod exports;
 #[cfg(test)]
 mod fed_again;
+#[cfg(test)]
+mod forgotten;
 #[cfg(test)]
 mod halves;
 #[cfg(test)]
@@ -84,6 +99,10 @@ mod rounds;
 #[cfg(test)]
 mod same;
 #[cfg(test)]
+mod stopped;
+#[cfg(test)]
 mod sums;
+#[cfg(test)]
+mod torn;
 #[cfg(test)]
 mod troubled_disks;

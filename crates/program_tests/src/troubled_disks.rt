@@ -6,6 +6,10 @@ use std::alloc::{AllocError, Global};
 /// A limit that no file of a test comes near.
 pub const AMPLE: u64 = 1 << 30;
 
+/// A half of version 2 whose world has the property 7.
+pub const HALF: &[u8] =
+    b"\xa5\0\x02\0\0\0\0\0\0\0\x01\0\0\0\x8a((\"COMMON-LISP-USER\" (\"COMMON-LISP\") NIL NIL NIL) (\"KEYWORD\" NIL NIL NIL NIL))\nNIL\n(\"COMMON-LISP-USER\" \"USER\" 10 ((\"USER\" \"UPCASE\" NIL)))\n\xa5\0\0\0\0\x14(SETF (GET 'A 'B) 7)\0";
+
 /// Why a test has nothing to look at.
 #[derive(Debug, PartialEq, Eq, Drop)]
 pub enum Trouble {

@@ -1,4 +1,4 @@
-use Rattle.std.proofs.Common.{◌≡◌, ℕ, List, Some, subst}
+use Rattle.std.proofs.Common.{Some, subst}
 use Rattle.std.specs.List.{flat_map}
 use Rattle.feeding_laws.specs.Feeding.{over}
 use Rattle.message_frames.specs.Frames.{frame_bytes}
@@ -14,3 +14,7 @@ returns-clause-again g c = λ last p first now frames known feeds told each has 
     (g.O.Write.contents c.args.output.now) (g.O.Write.contents c.serve_messages-ended.new.output) e) ends
     (subst (λ o. ServesMessages g.M.Meaning.Meaning.functions g.D.Disk.state c.args.store.now c.serve_messages-ended.new.store now o (g.I.Read.remaining c.serve_messages-ended.new.input)
     (g.O.Write.contents c.args.output.now) (g.O.Write.contents c.serve_messages-ended.new.output) c.serve_messages-ended.result) has (c.serve_messages-ended.ensures.serves now known)))
+
+pub returns-clause-twice : goal.returns-clause-twice
+returns-clause-twice g c = λ last p first middle now frames known before after told each has ends.
+    returns-clause-again g c last p first now frames known (c.feeding_on.ensures g.M.Meaning.Meaning.functions last first middle now frames before after) told each has ends

@@ -1,10 +1,10 @@
 use Rattle.std.proofs.Common.{◌≡◌, Some, IsSome, refl, sym, ap, subst, ◌∙◌}
 use Rattle.program_tests.specs.Keepers.{began_with, first_of}
-use Rattle.program_tests.proofs.Keeping.{at_any_moment, keeps_first, session_calls}
+use Rattle.program_tests.proofs.Keeping.{at_each_moment, keeps_first, session_calls}
 use Rattle.program_tests.proofs.keepers.kept_account.Goals as goal
 
-pub returns-in-Some-clause-calls : goal.returns-in-Some-clause-calls
-returns-in-Some-clause-calls g c = λ world known honest.
+pub returns-in-Some : goal.returns-in-Some
+returns-in-Some g c = λ world known honest.
     let functions = g.M.Meaning.Meaning.functions in
     let state = g.D.Disk.state in
     let start = c.args.store.now in
@@ -13,13 +13,9 @@ returns-in-Some-clause-calls g c = λ world known honest.
     let keeper = c.serve_wanted-ended.new.writer in
     let still = c.serve_wanted-ended.ensures.first in
     let same : first_of keeper ≡ first_of c.new-keeper.result = cc in
-    session_calls functions g.row.M.Denot state (began_with start input) store keeper
+    at_each_moment functions state start store input world known
+    (session_calls functions g.row.M.Denot state (began_with start input) store keeper
     (λ handings handed since. c.sessions.ensures.ended functions (began_with start input) handings store handed since honest
     (keeps_first functions state start world known (c.keeps_its_world.ensures world known honest)))
     (same ∙ ap first_of c.new-keeper.ensures) c.in-Some.ensures.1 c.is_kept.ensures
-    (c.serve_wanted-ended.ensures.under_way (subst (λ o. IsSome o) (sym known) refl))
-
-pub returns-in-Some-clause-any_moment : goal.returns-in-Some-clause-any_moment
-returns-in-Some-clause-any_moment g c = λ world known honest.
-    at_any_moment g.M.Meaning.Meaning.functions g.D.Disk.state c.args.store.now c.serve_wanted-ended.new.self (g.I.Read.remaining c.args.reader.now) world known
-    (returns-in-Some-clause-calls g c world known honest)
+    (c.serve_wanted-ended.ensures.under_way (subst (λ o. IsSome o) (sym known) refl)))
