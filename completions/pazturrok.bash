@@ -21,12 +21,12 @@ _pazturrok() {
         upgrade) words='--existing --help' ;;
         export) words='--existing --data --help' ;;
         dump) words='--existing --at --help' ;;
-        verify) words='--existing --help' ;;
-        show) words='--existing --package --indicator --like --forms --json --help --html' ;;
+        verify) words='--existing --json --help' ;;
+        show) words='--existing --package --indicator --like --forms --json --count --help --html' ;;
         info) words='--existing --files --json --help' ;;
         log) words='--existing --from --places --json --help' ;;
         backup) words='--existing --help' ;;
-        check) words='--store --help --run' kind=-f ;;
+        check) words='--store --json --help --run' kind=-f ;;
     esac
     if [ "$COMP_CWORD" -eq 1 ]; then
         words='run snapshot upgrade export dump verify show info log backup check help compile build install release uninstall --help --version'

@@ -128,6 +128,15 @@ pass_form() {
 # The numbers and the name of the line on a refusal.
 REFUSAL='s/^line \([0-9]*\), column \([0-9]*\): refused with \([0-9]*\) \([A-Z-]*\) in form \([0-9]*\), which began at line \([0-9]*\), column \([0-9]*\)$/\1 \2 \3 \4 \5 \6 \7/p'
 
+# The line on what that refusal is about, where the program tells it, without the place and the number before it.
+ABOUT='/ (help [0-9]*)$/ { s///; s/^line [0-9]*, column [0-9]*: [0-9]*: //; s/^after [0-9]* bytes: [0-9]*: //; p; }'
+
+# Tells that without the name of the refusal, which is told already.
+tell_about() {
+    about=$(sed -n "$ABOUT" "$room/told" | tail -n 1)
+    [ -z "$about" ] || tell "    about: ${about#"$1": }"
+}
+
 # The number of a text that ends within a form, and the first one of a form that was read.
 END_OF_FILE=1
 FIRST_OF_EVALUATION=30
@@ -147,6 +156,7 @@ check_run() {
             1,7)
                 tell_place "$@"
                 if [ "$3" -lt "$FIRST_OF_EVALUATION" ]; then pass_line "$@"; else pass_form "$6" "$7"; fi
+                tell_about "$4"
                 mv "$room/next" "$room/rest"
                 forms=$((forms + $5)) refused=$((refused + 1))
                 ;;

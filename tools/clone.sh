@@ -222,13 +222,12 @@ answer_from_texts() {
         *) command=$1 ;;
     esac
     case $command in
-        '' | help | -*) text_of PROGRAM_HELP && printf '\n%s\n' "$PAGES_HELP" && words_of_clone && exit ;;
+        '' | help | -*) write_help "$(text_of PROGRAM_HELP && printf '\n%s\n' "$PAGES_HELP" && words_of_clone)" ;;
     esac
     is_command "$command" || refuse "there is no command '$command'; those of the program are $(commands | paste -sd ' ' -)"
     texts_of=$command
     case " $* " in *' --messages '*) texts_of=messages ;; esac
-    help_of_command "$command" "$texts_of"
-    exit
+    write_help "$(help_of_command "$command" "$texts_of")"
 }
 
 # The words of `run` after DIR, as the texts of its help have them: [--strict] [--snapshot-every N], say. With --messages they are others.
@@ -283,10 +282,12 @@ words_of_clone() {
 
 # Carries out a word of a clone, and ends; what is a command of the program is started.
 carry_out() {
+    case $#,${1:-},${2:-} in
+        2,help,compile | 2,help,build | 2,help,install | 2,help,release | 2,help,uninstall) set -- "$2" --help ;;
+    esac
     case ${1:-},${2:-} in
         compile,-h | compile,--help | build,-h | build,--help | install,-h | install,--help | release,-h | release,--help)
-            sed -n '2,/^set -eu/ s/^# \{0,1\}//p' "$top/pazturrok"
-            exit
+            write_help "$(sed -n '2,/^set -eu/ s/^# \{0,1\}//p' "$top/pazturrok")"
             ;;
         compile,)
             compile_program
@@ -332,9 +333,8 @@ carry_out() {
     fi
     case $#,${1:-} in
         1,help | 1,--help | 1,-h)
-            tell_help "$@"
-            words_of_clone
-            exit
+            help=$(text_of_help "$@" && words_of_clone) || exit
+            write_help "$help"
             ;;
     esac
     start "$@"

@@ -51,8 +51,8 @@ put_all() {
 
 # The help of the program, or of a command of it, as an installed one gives it.
 help_of() {
-    # shellcheck disable=SC2034 # tell_help reads it
-    (is_clone='' && tell_help "$@" --help)
+    # shellcheck disable=SC2034 # text_of_help reads it
+    (is_clone='' && text_of_help "$@" --help)
 }
 
 # A text as it stands, for a manual page.
@@ -123,7 +123,7 @@ install_program() {
         [ "$other" = "${program##*/}" ] || rm -f "$prefix/libexec/pazturrok/$other"
     done
     put "$top/pazturrok" "$prefix/bin/pazturrok" 755
-    put_all "$prefix/libexec/pazturrok" "$top/tools/pages.awk" "$top/tools/check_run.sh" "$top/tools/show_html.sh" "$top/tools/world.html" "$top/tools/uninstall.sh"
+    put_all "$prefix/libexec/pazturrok" "$top/tools/pages.awk" "$top/tools/turns.sh" "$top/tools/check_run.sh" "$top/tools/show_html.sh" "$top/tools/world.html" "$top/tools/uninstall.sh"
     put_all "$prefix/share/pazturrok" "$top/lisp/operators.lisp"
     put "$room/manual" "$prefix/share/man/man1/pazturrok.1" 644
     put "$room/forms" "$prefix/share/man/man7/pazturrok-forms.7" 644
@@ -266,7 +266,7 @@ front_page() {
   bin/pazturrok run store      serves a store in the folder `store`; bin/pazturrok --help tells the rest
   sha256sum -c SHA256SUMS      tells whether each file is as it was packed
 
-It runs where it lies on x86-64 Linux with glibc. The command wants sh, sed, awk and readlink too, and the node and the client for Python want
+It runs where it lies on x86-64 Linux with glibc. The command wants sh, sed, awk, grep and the coreutils too, and the node and the client for Python want
 Python 3.9. ORIGIN in share/doc/pazturrok has what it was made from, and README.md there what it is. The units of systemd in lib/systemd/system, and lib/pkgconfig/pazturrok.pc, name /usr/local: copy bin, include, lib, libexec and
 share there, or change that name.
 END

@@ -20,15 +20,32 @@ BEGIN {
     FUNCTIONS = "An operator of the package PAZTURROK: run DIR --operators makes the plain names known to a store."
 }
 
+# Where a link leads, as the page that it is in is read: docs/ before its own folder and name.
+function page_of(target,    at) {
+    sub(/#.*/, "", target)
+    if (target == "")
+        return "docs/" this_folder "/" this_page
+    return "docs/" (sub(/^\.\.\//, "", target) ? target : this_folder "/" target)
+}
+
+# A link as text: a page by where it is, words with the page that has them, and code as it stands.
+function link_text(link,    text, target) {
+    text = target = link
+    sub(/\]\(.*/, "", text)
+    text = substr(text, 2)
+    sub(/^.*\]\(/, "", target)
+    target = page_of(substr(target, 1, length(target) - 1))
+    if (text ~ /\.md$/)
+        return target
+    return text ~ /`/ ? text : "\"" text "\" in " target
+}
+
 # A cell without the marks of a page.
 function plain(cell) {
     gsub(/\001/, "|", cell)
+    while (match(cell, /\[[^]]*\]\([^)]*\)/))
+        cell = substr(cell, 1, RSTART - 1) link_text(substr(cell, RSTART, RLENGTH)) substr(cell, RSTART + RLENGTH)
     gsub(/`|\*\*/, "", cell)
-    while (match(cell, /\[[^]]*\]\([^)]*\)/)) {
-        link = substr(cell, RSTART, RLENGTH)
-        sub(/\]\(.*/, "", link)
-        cell = substr(cell, 1, RSTART - 1) substr(link, 2) substr(cell, RSTART + RLENGTH)
-    }
     gsub(/^ +| +$/, "", cell)
     return cell
 }
@@ -73,6 +90,12 @@ function escaped(text) {
     gsub(/'/, "\\(aq", text)
     gsub(/\^/, "\\(ha", text)
     return text
+}
+
+FNR == 1 {
+    count = split(FILENAME, path, "/")
+    this_page = path[count]
+    this_folder = path[count - 1]
 }
 
 !/^\|/ {
@@ -215,7 +238,7 @@ function tell_operator(    at, found, text, of_functions) {
                 tell("Refused with: " refusals[at], 2)
             text = text " " forms[at]
         }
-    if (!found && best != 1 && best != 3)
+    if (!found && !(best && asked ~ /^\*.*\*$/))
         return 0
     if (found) {
         print ""

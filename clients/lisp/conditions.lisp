@@ -41,15 +41,16 @@ text that was sent, whole, and INDEX the place of the form in the list that was 
   ((number :initarg :number :reader refused-number)
    (name :initarg :name :reader refused-name)
    (reason :initarg :reason :initform nil :reader refused-reason)
-   (place :initarg :place :initform nil :reader refused-place))
+   (place :initarg :place :initform nil :reader refused-place)
+   (hint :initform nil :accessor refused-hint))
   (:report (lambda (condition stream)
              (format stream "refused: ~D ~A~@[ (~A)~]~@[~A~]~@[~%~A~]"
                      (refused-number condition) (refused-name condition) (refused-reason condition) (told-form condition)
-                     (and (not (refused-reason condition)) (refused-place condition)))))
+                     (or (refused-hint condition) (and (not (refused-reason condition)) (refused-place condition))))))
   (:documentation
    "The store refused the form, which changed nothing. REASON is what stands behind the number, as the operator that is
 not known, where the program tells it, or NIL. The store goes on: after 1 to 25 the session has ended, PLACE is what
-standard error says of it, and the next form opens the store again."))
+standard error says of it, and the next form opens the store again. HINT is what the client knows to do about it, or NIL."))
 
 (defun shown (object)
   "The beginning of how an object is printed."

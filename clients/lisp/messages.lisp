@@ -8,6 +8,7 @@
   words
   naming
   (program nil)                                 ; NIL while none runs
+  (owner (process-number) :type integer)        ; the process that it is open in
   (closed-p nil)
   (last 0 :type unsigned-byte))                 ; the number of the last message
 
@@ -30,6 +31,18 @@
              (format stream "message ~D was carried out, and its answer was lost~@[~A~]"
                      (lost-answer-number condition) (told-form condition))))
   (:documentation "The message was carried out, once; its answer was lost, and it is not sent again."))
+
+(defmethod leave-to-parent ((feed feed))
+  (unless (= (feed-owner feed) (process-number))
+    (setf (feed-owner feed) (process-number))
+    (leave-in-child feed)))
+
+(defgeneric leave-in-child (feed)
+  (:documentation "Lets go of what is the parent's alone, without a word to it. The library sees a fork by itself.")
+  (:method ((feed feed))
+    (when (program-p (feed-program feed))
+      (close-in-child (feed-program feed))
+      (setf (feed-program feed) nil))))
 
 ;;; Frames and answers
 

@@ -2,6 +2,10 @@
 
 (in-package "PAZTURROK-CLIENT")
 
+(defun new-prefix ()
+  "What the names of a feed begin with, and those of no other: what is sent under one of them is carried out once, whoever sends it."
+  (format nil "~(~36R~)" (random (ash 1 120) (make-random-state t))))
+
 (defstruct (node-feed (:include feed) (:constructor make-node-feed (words naming time-limit patience)) (:copier nil))
   "Nodes, HOST:PORT or `unix:` and the path of a socket, of which one is asked after the other. Its words are they."
   time-limit
@@ -9,7 +13,7 @@
   (at 0 :type unsigned-byte)
   (socket nil)
   (stream nil)
-  (prefix (format nil "~(~36R~)" (random (ash 1 120) (make-random-state t))))
+  (prefix (new-prefix))
   (count 0 :type unsigned-byte))
 
 (defmethod print-object ((feed node-feed) stream)
@@ -70,6 +74,12 @@
   (when (node-feed-socket feed) (ignore-errors (sb-bsd-sockets:socket-close (node-feed-socket feed))))
   (setf (node-feed-socket feed) nil (node-feed-stream feed) nil)
   (values nil nil))
+
+(defmethod leave-in-child ((feed node-feed))
+  "A child has names and a connection of its own: under the parent's names its forms would count as the parent's."
+  (leave feed)
+  (setf (node-feed-prefix feed) (new-prefix)
+        (node-feed-count feed) 0))
 
 (defmethod ask-feed-naming ((feed node-feed))
   "The next connection asks."

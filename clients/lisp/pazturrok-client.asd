@@ -21,7 +21,7 @@
 
 (defsystem "pazturrok-client/tests"
   :description "Checks of the client, which need the program: PAZTURROK_PROGRAM is its path."
-  :depends-on ("pazturrok-client")
+  :depends-on ("pazturrok-client" (:feature :sbcl (:require "sb-posix")))
   ;; checks/lisp of the repository; ECL takes no "../" here.
   :pathname #.(merge-pathnames "checks/lisp/" (uiop:pathname-parent-directory-pathname
                                                (uiop:pathname-parent-directory-pathname *load-truename*)))
@@ -32,6 +32,7 @@
                (:file "store")
                (:file "messages")
                (:file "nodes")
+               (:file "forks")
                (:file "properties")
                (:file "hostile")
                (:file "errors"))

@@ -70,7 +70,7 @@
   (let* ((text (make-string 65536))
          (end (ignore-errors (file-position (program-errors program) 0) (read-sequence text (program-errors program))))
          (told (and end (string-right-trim '(#\Newline) (subseq text 0 end))))
-         (lines (and told (string/= told "") (remove-if #'line-of-reason (uiop:split-string told :separator '(#\Newline))))))
+         (lines (and told (string/= told "") (remove-if #'of-refusals-p (uiop:split-string told :separator '(#\Newline))))))
     (and lines (format nil "~{~A~^~%~}" lines))))
 
 ;;; What standard error says of a form that was refused: where the form begins, and what stands behind the number.
@@ -82,16 +82,21 @@
       (parse-integer text :start start :junk-allowed t))))
 
 (defun line-of-reason (text)
-  "The line in which a refused form begins, and what stands behind its number; or NIL of a text that says no such thing."
+  "The line in which a refused form begins, and what stands behind its number; or NIL of a text that says no such thing. Of a form whose line the
+program does not know it is 0."
   (let ((line nil) (place (if (eql (mismatch "pazturrok: " text) 11) 11 0)))
-    (loop for word in '("line " ", column " ": ")
+    (loop for word in (if (eql (mismatch "after " text :start2 place) 6) '("after " " bytes: ") '("line " ", column " ": "))
           do (multiple-value-bind (number end) (number-after word text place)
                (unless number (return-from line-of-reason nil))
-               (setf line (or line number)
+               (setf line (or line (if (string= word "after ") 0 number))
                      place end)))
     (when (eql (mismatch ": " text :start2 place) 2)
       (let ((help (search " (help " text :from-end t :start2 place)))
         (values line (subseq text (+ 2 place) (and help (char= (char text (1- (length text))) #\)) help)))))))
+
+(defun of-refusals-p (text)
+  "Whether a line of standard error is of forms that were refused."
+  (or (line-of-reason text) (search " refusals were told; of the next ones there is no line here" text)))
 
 (defun heard-reasons (program)
   "What standard error has gained since it was heard last of forms that were refused: lines, each with what stands behind the number."
@@ -116,10 +121,18 @@
 (defgeneric end (link)
   (:documentation "Ends a program, or closes a store of the library. Gives the status, and what was written to standard error."))
 
+(defun close-pipes (program)
+  (ignore-errors (close (program-to program) :abort t))
+  (ignore-errors (close (program-from program) :abort t)))
+
+(defun close-in-child (program)
+  "Closes what a child of a fork has of the pipes. The program is no child of this process, and goes on."
+  (close-pipes program)
+  (close (program-errors program)))
+
 (defmethod end ((program program))
   "Both pipes are closed first: so it does not wait for anybody to read what it may still have to say."
-  (ignore-errors (close (program-to program) :abort t))
-  (ignore-errors (close (program-from program) :abort t))
+  (close-pipes program)
   (wait-for-end program *end-limit*)
   ;; On ECL a program that is stopped is not alive to UIOP; and one that has ended cannot be killed there.
   (when (or #+ecl t (uiop:process-alive-p (program-process program))) (kill program))

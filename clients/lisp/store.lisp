@@ -10,6 +10,7 @@
   time-limit
   opening-limit
   (program nil)
+  (owner (process-number) :type integer)        ; the process that the program is a child of
   (state :closed :type (member :good :broken :ended :closed))
   (homes '() :type list)                        ; packages that the store is known to have
   (round-trips 0 :type unsigned-byte))
@@ -33,6 +34,15 @@
 (defun store-process (store)
   "The process of the program, as UIOP has it, or NIL."
   (and (program-p (store-program store)) (program-process (store-program store))))
+
+(defmethod leave-to-parent ((store store))
+  "A program answers its parent alone, so a child has no store until it opens it again."
+  (unless (= (store-owner store) (process-number))
+    (setf (store-owner store) (process-number))
+    (when (program-p (store-program store))
+      (close-in-child (store-program store))
+      (setf (store-program store) nil)
+      (unless (eq (store-state store) :closed) (setf (store-state store) :broken)))))
 
 ;;; Texts to and fro
 
@@ -212,8 +222,9 @@ seconds at most for the program, and then kills it."
   (alone (store) (close-program store)))
 
 (defun close-program (store)
-  (when (store-program store)
-    (values (end-session store :closed))))
+  (if (store-program store)
+      (values (end-session store :closed))
+      (progn (setf (store-state store) :closed) nil)))
 
 (defun reopen-store (store)
   "Ends the program if it still runs, and opens the store again."
@@ -257,12 +268,17 @@ BODY was read, if the options have none."
     (some (lambda (operator) (search operator letters :test #'char-equal))
           '("IN-PACKAGE" "USE-PACKAGE" "IMPORT" "EXPORT"))))
 
+(defun without-name (reason name)
+  "What is told of a refusal, without the name before it: the program tells a part of the form behind the name."
+  (let ((start (length (concatenate 'string name ": "))))
+    (if (eql (mismatch (concatenate 'string name ": ") reason) start) (subseq reason start) reason)))
+
 (defun outcome (store answer &optional reason place)
   "The value that an answer tells; or the condition that the form was refused, or answered with nonsense."
   (handler-case
       (multiple-value-bind (number name) (refusal-of answer)
         (if number
-            (make-condition 'refused :number number :name name :reason reason :place place)
+            (make-condition 'refused :number number :name name :reason (and reason (without-name reason name)) :place place)
             (let ((naming (store-naming store)))
               (parse-answer answer (lambda (prefix name)
                                      (symbol-of (home-named prefix name naming) name naming))

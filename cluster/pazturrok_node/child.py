@@ -48,7 +48,8 @@ class Child:
         """Starts the program: why it ended, where it ends before it has told its position."""
         pipe, (answers, its_end) = asyncio.subprocess.PIPE, os.pipe()
         try:
-            process = await asyncio.create_subprocess_exec(*words, stdin=pipe, stdout=its_end, stderr=pipe)
+            # what a terminal sends to all of its programs, as by Ctrl-C, is for the node, which ends the store
+            process = await asyncio.create_subprocess_exec(*words, stdin=pipe, stdout=its_end, stderr=pipe, start_new_session=True)
         except BaseException:
             os.close(answers)
             raise

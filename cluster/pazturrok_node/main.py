@@ -186,9 +186,14 @@ async def serve(asked: argparse.Namespace, stop: asyncio.Task[bool], node: Node,
     """Serves clients until the end is asked for, or the store or the name is refused."""
     giver = Giver(asked.name, asked.program, asked.order[1], node)
     clients = Clients(node, appender, giver, min(asked.most_clients, descriptors()))
-    servers = [await listen(asked.listen, clients, context_for_clients(asked))]
-    if asked.monitor:
-        servers.append(await listen_to_monitors(asked.monitor, Monitor(asked.name, node, clients)))
+    try:
+        servers = [await listen(asked.listen, clients, context_for_clients(asked))]
+        if asked.monitor:
+            servers.append(await listen_to_monitors(asked.monitor, Monitor(asked.name, node, clients)))
+    except OSError:
+        for work in works:
+            work.close()
+        raise
     ready = asyncio.ensure_future(tell_ready(asked, node))
     tasks = [stop, *(asyncio.ensure_future(one) for one in (node.run(), appender.run(), *works))]
     done, others = await asyncio.wait(tasks, return_when=asyncio.FIRST_COMPLETED)

@@ -6,6 +6,12 @@ import contextlib
 from collections.abc import Iterator, Sequence
 from typing import Any
 
+WAY_TO_FUNCTIONS = "open it once by `pazturrok run DIR --operators`, or as a Store with options=['--operators']"
+"""How a store gets the package of the functions that compare and compute."""
+
+WAY_TO_FUNCTIONS_OF_NODES = "send the forms of lisp/operators.lisp to a node, once (docs/run/machines.md)"
+"""The same of the store of nodes: one that another program wrote to is refused by its node."""
+
 SHOWN = 100
 """So many characters of a form a message has at most; the error has the whole."""
 
@@ -55,10 +61,14 @@ class RefusedError(StoreError):
 
     `reason` is what stands behind the number, as the operator that is not known, where the program tells it.
     The store goes on: after 1 to 25 the session has ended, `place` is what standard error says of it, and
-    the next form opens the store again.
+    the next form opens the store again. `hint` is what the client knows to do about it, if anything.
     """
 
+    hint: str | None = None
+
     def __init__(self, number: int, name: str, place: str | None = None, reason: str | None = None) -> None:
+        # the program tells a part of the form behind the name
+        reason = reason.removeprefix(f"{name}: ") if reason else None
         super().__init__(f"{number} {name}" + (f" ({reason})" if reason else ""))
         self.number = number
         self.name = name
@@ -66,7 +76,7 @@ class RefusedError(StoreError):
         self.reason = reason
 
     def _lines(self) -> str | None:
-        return None if self.reason else self.place
+        return self.hint or (None if self.reason else self.place)
 
 
 class UnsendableError(StoreError):

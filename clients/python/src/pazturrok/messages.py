@@ -112,12 +112,17 @@ class MessageStore(Shared, Properties):
     def _begin(self, unicode: bool) -> None:
         """Opens the store for the first time."""
         self._unicode = unicode
-        Shared.__init__(self)
         self._program: Program | None = None
         self._is_closed = False
+        Shared.__init__(self)
         self._last = 0
         self._naming = Naming(unicode)
         self._open()
+
+    def _leave_to_parent(self) -> None:
+        program, self._program = self._program, None
+        if program:
+            program.leave_to_parent()
 
     @property
     def position(self) -> int:

@@ -16,6 +16,7 @@ from types import TracebackType
 from .alone import Shared, alone
 from .answers import refusal_of
 from .errors import (
+    WAY_TO_FUNCTIONS_OF_NODES,
     ClosedStoreError,
     LostAnswerError,
     MalformedAnswerError,
@@ -26,7 +27,7 @@ from .errors import (
 )
 from .messages import FrameSplitter, question, text_of
 from .naming import NAMING_QUESTION, Naming, until_naming
-from .properties import Name, Properties, put_form, set_form, take_form
+from .properties import Name, Properties, put_form, set_form, take_form, telling_way
 from .store import Form, Outcome, changes_naming, texts_of, value_of
 from .values import NIL, Value
 
@@ -130,6 +131,8 @@ class NodeStore(Shared, Properties):
     `nodes` are HOST:PORT, or `unix:` and the path of a socket; `context` is for TLS. A call raises NoNodeError where no node
     answers within `time_limit` seconds; `patience` is how many seconds one of them may say nothing. Without
     `unicode` texts are ASCII alone.
+
+    After a fork the child has a connection and names of its own, so both may go on.
     """
 
     def __init__(
@@ -143,14 +146,23 @@ class NodeStore(Shared, Properties):
     ) -> None:
         if not nodes:
             raise ValueError("no nodes")
-        super().__init__()
         self._nodes, self._context = [checked_node(node) for node in nodes], context
         self._time_limit, self._patience = time_limit, patience
         self._naming, self._unicode = Naming(unicode), unicode
         self._connection: Connection | None = None
         self._is_closed = False
-        self._at = self._count = 0
-        self._prefix = uuid.uuid4().hex
+        self._at = 0
+        self._begin_names()
+        super().__init__()
+
+    def _begin_names(self) -> None:
+        """Names that no other store gives: what is sent under one of them is carried out once, whoever sends it."""
+        self._prefix, self._count = uuid.uuid4().hex, 0
+
+    def _leave_to_parent(self) -> None:
+        self._begin_names()
+        with contextlib.suppress(OSError):  # the other stores of this process have their turn too
+            self._leave()
 
     @property
     def node(self) -> str:
@@ -203,7 +215,9 @@ class NodeStore(Shared, Properties):
 
         NIL stands for no property. The store has to have the package PAZTURROK, as `run DIR --operators` makes it.
         """
-        return self.do(set_form(symbol, indicator, old, new), name=name) != NIL
+        form = set_form(symbol, indicator, old, new)
+        with telling_way(form, WAY_TO_FUNCTIONS_OF_NODES):
+            return self.do(form, name=name) != NIL
 
     def take(
         self, symbol: Name, indicator: Name, default: Value | None = None, *, name: str | None = None
@@ -212,7 +226,9 @@ class NodeStore(Shared, Properties):
 
         Where the list is empty it gives the default, or NIL. The store has to have the package PAZTURROK.
         """
-        return self.do(take_form(symbol, indicator, default), name=name)
+        form = take_form(symbol, indicator, default)
+        with telling_way(form, WAY_TO_FUNCTIONS_OF_NODES):
+            return self.do(form, name=name)
 
     def _put_form(self, form: list[Value]) -> Value:
         return self.do(form)

@@ -21,7 +21,10 @@ END_LIMIT = 10.0
 
 PIECE = 65536
 
-REFUSED = re.compile(r"(?:pazturrok: )?line ([0-9]+), column [0-9]+: [0-9]+: (.*?)(?: \(help [0-9]+\))?")
+REFUSED = re.compile(
+    r"(?:pazturrok: )?(?:line ([0-9]+), column [0-9]+|after [0-9]+ bytes): [0-9]+: (.*?)(?: \(help [0-9]+\))?"
+    r"|[0-9]+ refusals were told; of the next ones there is no line here"
+)
 """A line of standard error on a form that was refused: where the form begins, and what stands behind the number."""
 
 
@@ -46,7 +49,12 @@ class Program:
             raise NoProgramError(words[0], f"no file takes what it tells: {error}") from error
         try:
             self.process = subprocess.Popen(
-                words, bufsize=0, stdin=subprocess.PIPE, stdout=subprocess.PIPE, stderr=self._errors
+                words,
+                bufsize=0,
+                stdin=subprocess.PIPE,
+                stdout=subprocess.PIPE,
+                stderr=self._errors,
+                env={"PAZTURROK_REASONS": "told", **os.environ},
             )
         except OSError as error:
             self._errors.close()
@@ -120,7 +128,7 @@ class Program:
                 break
             self._heard += end
             for line in data[:end].decode("utf-8", "replace").splitlines():
-                if told := REFUSED.fullmatch(line):
+                if (told := REFUSED.fullmatch(line)) and told[1]:
                     self._reasons[int(told[1])] = told[2]
         return self._reasons.pop(self._begins[place], None)
 
@@ -129,14 +137,23 @@ class Program:
         status, text = self.end()
         return StoppedError(status, "\n".join(line for line in text.splitlines() if not REFUSED.fullmatch(line)))
 
+    def leave_to_parent(self) -> None:
+        """Closes what a child of a fork has of the pipes, so that the program ends where the parent closes them."""
+        self._close_pipes()
+        self._errors.close()
+        self.process.returncode = 0  # it is no child of this process, which cannot wait for it
+
+    def _close_pipes(self) -> None:
+        for pipe in (self._to, self._from):
+            with contextlib.suppress(OSError):
+                pipe.close()
+
     def end(self, limit: float | None = None) -> tuple[int, str]:
         """Ends the program, and gives its status and what it wrote to standard error, the end of it where it is long.
 
         Both pipes are closed first: so it does not wait for anybody to read what it may still have to say.
         """
-        for pipe in (self._to, self._from):
-            with contextlib.suppress(OSError):
-                pipe.close()
+        self._close_pipes()
         try:
             status = self.process.wait(END_LIMIT if limit is None else limit)
         except subprocess.TimeoutExpired:

@@ -2,18 +2,23 @@
 
 from __future__ import annotations
 
+import contextlib
+from collections.abc import Iterator
 from typing import Union
 
-from .errors import MalformedAnswerError
-from .printer import printed
-from .values import NIL, Symbol, Value, quote
+from .errors import WAY_TO_FUNCTIONS, MalformedAnswerError, RefusedError
+from .printer import packages_of, printed
+from .values import FUNCTIONS, NIL, Symbol, Value, quote
 
 Name = Union[Symbol, str]
 """A symbol, or the name of one in COMMON-LISP-USER, as it is printed."""
 
 GET, SETF, SYMBOL_PLIST = Symbol("GET"), Symbol("SETF"), Symbol("SYMBOL-PLIST")
 IF, LIST, PROGN, T = Symbol("IF"), Symbol("LIST"), Symbol("PROGN"), Symbol("T")
-CAR, CDR, EQUAL = Symbol("CAR", "PAZTURROK"), Symbol("CDR", "PAZTURROK"), Symbol("EQUAL", "PAZTURROK")
+CAR, CDR, EQUAL = Symbol("CAR", FUNCTIONS), Symbol("CDR", FUNCTIONS), Symbol("EQUAL", FUNCTIONS)
+
+NO_PACKAGE = 11
+"""The refusal of a text that names a package which the store does not have."""
 
 
 def put_form(symbol: Name, indicator: Name, value: Value) -> list[Value]:
@@ -32,6 +37,17 @@ def take_form(symbol: Name, indicator: Name, default: Value | None) -> list[Valu
     place = place_of(symbol, indicator)
     taken: list[Value] = [CAR, [LIST, [CAR, place], [SETF, place, [CDR, place]]]]
     return [IF, place, taken, quote(NIL if default is None else default)]
+
+
+@contextlib.contextmanager
+def telling_way(form: list[Value], way: str = WAY_TO_FUNCTIONS) -> Iterator[None]:
+    """Within it a form is sent that takes functions of PAZTURROK. Where a store lacks them its error says how it gets them."""
+    try:
+        yield
+    except RefusedError as error:
+        if error.number == NO_PACKAGE and set(packages_of(form)) == {FUNCTIONS}:
+            error.hint = f"the store has no package {FUNCTIONS!r}: {way}"
+        raise
 
 
 class Properties:
@@ -56,7 +72,9 @@ class Properties:
     def compare_and_set(self, symbol: Name, indicator: Name, old: Value, new: Value) -> bool:
         """Sets the property of a symbol where it is EQUAL to the old value, and tells whether it did; NIL stands for none.
         The store has to have the package PAZTURROK, as `run DIR --operators` makes it."""
-        return self._put_form(set_form(symbol, indicator, old, new)) != NIL
+        form = set_form(symbol, indicator, old, new)
+        with telling_way(form):
+            return self._put_form(form) != NIL
 
     def take(self, symbol: Name, indicator: Name, default: Value | None = None) -> Value:
         """Takes the first item away from the list that is the property of a symbol, and gives it.
@@ -64,7 +82,9 @@ class Properties:
         Where the list is empty it gives the default, or NIL. The store has to have the package PAZTURROK, as
         `run DIR --operators` makes it.
         """
-        return self._put_form(take_form(symbol, indicator, default))
+        form = take_form(symbol, indicator, default)
+        with telling_way(form):
+            return self._put_form(form)
 
     def plist(self, symbol: Name) -> list[tuple[Value, Value]]:
         """The indicators of a symbol, each with its property."""

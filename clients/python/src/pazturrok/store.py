@@ -13,6 +13,7 @@ from typing import Protocol, Union
 from .alone import Shared, alone
 from .answers import parse_answer, refusal_of
 from .errors import (
+    WAY_TO_FUNCTIONS,
     BrokenStoreError,
     ClosedStoreError,
     MalformedAnswerError,
@@ -27,7 +28,7 @@ from .printer import FORM_LIMIT, check_characters, packages_of, printed, string_
 from .program import Program
 from .properties import Properties
 from .texts import is_one_form, without_texts
-from .values import LISP, OPERATORS, Symbol, Value
+from .values import FUNCTIONS, LISP, OPERATORS, Symbol, Value
 
 Form = Union[str, "list[Value]"]
 Outcome = Union[Value, StoreError]
@@ -69,6 +70,8 @@ class Store(Shared, Properties):
     `time_limit` is how many seconds an answer may take, `opening_time_limit` how many the opening, None for
     any time. `options` are further words of the command line, as ("--snapshot-every", "1000"). Without
     `unicode` texts are ASCII alone.
+
+    After a fork the child has no store: its calls raise BrokenStoreError.
     """
 
     def __init__(
@@ -82,6 +85,9 @@ class Store(Shared, Properties):
         unicode: bool = True,
     ) -> None:
         own = ["--rescue", "--group"]
+        unanswered = {"--quiet", "--messages", "--help"}.intersection(options)
+        if unanswered:
+            raise ValueError(f"{min(unanswered)} of options: a store reads the answer to each form")
         further = [word for word in options if word not in own]
         self._folder = os.fspath(folder)
         self._words = [os.fspath(program), "run", self._folder, *own, *further]
@@ -91,14 +97,20 @@ class Store(Shared, Properties):
         self._unicode = unicode
         self._time_limit = time_limit
         self._opening_time_limit = opening_time_limit
-        Shared.__init__(self)
         self._state = State.CLOSED
         self._program: Link | None = None
         self._round_trips = 0
+        Shared.__init__(self)
         self._open()
 
     def _start(self) -> Link:
         return Program(self._words)
+
+    def _leave_to_parent(self) -> None:
+        if isinstance(self._program, Program):
+            self._program.leave_to_parent()
+            self._program = None
+            self._state = State.CLOSED if self._state is State.CLOSED else State.BROKEN
 
     @property
     def state(self) -> State:
@@ -233,7 +245,8 @@ class Store(Shared, Properties):
             self._make_ready()
             answer = self._answer(f"(IMPORT NIL {string_text(package)})", seconds)
             if refusal_of(answer):
-                raise UnsendableError(form, f"the store has no package {package!r}")
+                way = f": {WAY_TO_FUNCTIONS}" if package == FUNCTIONS else ""
+                raise UnsendableError(form, f"the store has no package {package!r}{way}")
             self._packages.add(package)
 
     def _make_ready(self) -> Link:

@@ -18,6 +18,8 @@ from typing import Union
 USER = "COMMON-LISP-USER"
 LISP = "COMMON-LISP"
 KEYWORD = "KEYWORD"
+FUNCTIONS = "PAZTURROK"
+"""The package of the functions that compare and compute, which a store has once it was opened with them."""
 
 OPERATORS = frozenset(
     """
