@@ -11,7 +11,9 @@ HEAD = """# The commands
 
 Every command of the program with its options, in the words of its help. `checks/docs --write` makes this page from the sources of the command line (`crates/command_words`). What to do with them is in [operating.md](operating.md), which status a command ends with [there too](operating.md#the-exit-status).
 
-An option that is not given is off, but for `--snapshot-ratio`, which is 10 then. **`--existing`** is an option of every command but `check`: the command refuses a folder that holds no store, and makes nothing. A command that only looks makes nothing in any case. `--help` after a command has its help with an example; `--version` tells the version of the program and of the files that it writes. `./pazturrok help GET` tells what the operator `GET` does, with an example, and `./pazturrok help 31` what the number 31 of a refusal means and what to do; so of each [operator](../use/operators.md) and each [number](../use/refusals.md). `PAZTURROK_MEMORY` is the one variable of the environment ([Memory](operating.md#memory)); there is no file of settings.
+An option that is not given is off, but for `--snapshot-ratio`, which is 10 then. **`--existing`** is an option of every command but `check`: the command refuses a folder that holds no store, and makes nothing. `show`, `info`, `log` and `backup` take it too, and nothing changes by it: a command that only looks makes nothing in any case.
+
+`--help` after a command has its help with an example; `--version` tells the version of the program and of the files that it writes. `./pazturrok help GET` tells what the operator `GET` does, with an example, and `./pazturrok help 31` what the number 31 of a refusal means and what to do; so of each [operator](../use/operators.md) and each [number](../use/refusals.md). Two variables of the environment count: `PAZTURROK_MEMORY` ([Memory](operating.md#memory)) and `PAZTURROK_REASONS` ([what a refusal is about](../use/refusals.md#what-a-refusal-is-about)). There is no file of settings.
 """
 
 
@@ -35,6 +37,8 @@ APPLE PRICE 7
 APRICOT PRICE 1/2
 $ ./pazturrok show store --like 'a*t'
 APRICOT PRICE 1/2
+$ ./pazturrok show store --like 'ap*' --count
+properties 3 symbols 2
 $ ./pazturrok show store APPLE --json
 {"symbol":"APPLE","home":"COMMON-LISP-USER"}
 {"symbol":"APPLE","indicator":"PRICE","value":"7"}
@@ -42,6 +46,8 @@ $ ./pazturrok show store APPLE --json
 $ ./pazturrok log store --json --from 2
 {"generation":1,"record":2,"mode":"current","form":"(SETF (GET 'APPLE 'NAME) \\"red\\")"}
 {"generation":1,"record":3,"mode":"current","form":"(SETF (GET 'APRICOT 'PRICE) 1/2)"}
+$ ./pazturrok verify store --json
+{"half":"A","generation":1,"records":3}
 $ ./pazturrok info store --files | head -4
 half A
 version 2
@@ -53,15 +59,17 @@ A reader that goes before the end, as `head` here, is no fault of a look: its st
 
 ## JSON
 
-With `--json` the commands `show`, `log` and `info` write objects of JSON (RFC 8259), each in a line, with these members in this order:
+With `--json` the commands `show`, `log`, `info`, `verify` and `check` write objects of JSON (RFC 8259), each in a line, with these members in this order:
 
 | Command | Members |
 |---|---|
-| `show` | `symbol`, `indicator` and `value`: the three texts of a line, each as a string. With SYMBOL an object with `symbol` and `home` comes first. |
+| `show` | `symbol`, `indicator` and `value`: the three texts of a line, each as a string. With SYMBOL an object with `symbol` and `home` comes first. With `--count` one object with the numbers `properties` and `symbols` |
 | `log` | `generation`, `record`, `mode`, which is `"current"` or `"rescue"`, and `form`, the text as a string |
 | `info` | one object: `half`, which is `"A"` or `"B"`, and the names of the other lines, each with its number. With `--files` those of the world are not there, and an age that is not known never is |
+| `verify` | one object: `half`, `generation` and `records`, and `position`, if there is one |
+| `check` | for each form that cannot be read `name` and `number` of its refusal, `form`, its number from 1 on, `line` and `column` of the refusal, and `start-line` and `start-column`, where the form began. The last object has `forms` and `unreadable` |
 
-A value is the text that Lisp prints, in a string: `7` is `"7"`, and the text `"a"` is `"\\"a\\""`. So each integer is exact. The numbers of `info` and `log` are numbers, and from 2^53 on strings of digits, as many readers keep no more than 53 bits. A control character, and a byte over 126, is written by its number, as `\\u000A`. Nothing else is escaped but the quotation mark and the backslash.
+A value is the text that Lisp prints, in a string: `7` is `"7"`, and the text `"a"` is `"\\"a\\""`. So each integer is exact. Every other number is a number of JSON, and from 2^53 on a string of its digits, as many readers keep no more than 53 bits. A control character, and a byte over 126, is written by its number, as `\\u000A`. Nothing else is escaped but the quotation mark and the backslash.
 
 Text for Prometheus, once a minute, from files alone:
 
@@ -101,16 +109,30 @@ def commands(code):
         yield usage.removeprefix("./pazturrok "), does[usage]
 
 
-def rows_of_script(command):
-    """The rows of the options of a command that the script carries out, and not the program."""
+def options_of_script(command):
+    """The options of a command that the script carries out, and not the program: each with what it does, and how."""
     of_name = dict(re.findall('^([A-Z]+)_DOES="([^"]*)"', read(SCRIPT), re.M))
-    if command == "run":
-        for option, does in (("--operators", of_name["OPERATORS"]), ("--wait SECONDS", of_name["WAIT"])):
-            yield f"| `{option}` | {does}. The script `./pazturrok` carries this option out, and then starts the program |"
-    if command == "show":
-        yield f"| `--html FILE` | {of_name['HTML']}. The script `./pazturrok` carries this option out, by looks of the program |"
-    if command == "check":
-        yield f"| `--run` | {of_name['RUN']}. The script `./pazturrok` carries this option out, by sessions of the program |"
+    return {
+        "run": {
+            "--operators": (of_name["OPERATORS"], "and then starts the program"),
+            "--wait SECONDS": (of_name["WAIT"], "and then starts the program"),
+        },
+        "show": {"--html FILE": (of_name["HTML"], "by looks of the program")},
+        "check": {"--run": (of_name["RUN"], "by sessions of the program")},
+    }.get(command, {})
+
+
+def line_of(usage):
+    """How a command is called, with the options that its own line leaves out."""
+    command = usage.split(" ")[0]
+    left_out = [] if command == "check" or "--existing" in usage else ["--existing"]
+    return " ".join([usage, *(f"[{it}]" for it in [*left_out, *options_of_script(command)])])
+
+
+def rows_of_script(command):
+    """The rows of those options."""
+    for option, (does, how) in options_of_script(command).items():
+        yield f"| `{option}` | {does}. The script `./pazturrok` carries this option out, {how} |"
 
 
 def rows(usage, known):
@@ -130,7 +152,7 @@ def page():
     for usage, does in commands(code):
         name = usage.split(" ")[0] + (" --messages" if " --messages" in usage else "")
         table = "\n".join(rows(usage, known))
-        parts.append(f"## {name}\n\n{does}.\n\n    ./pazturrok {usage}\n")
+        parts.append(f"## {name}\n\n{does}.\n\n    ./pazturrok {line_of(usage)}\n")
         if table:
             parts.append(f"| Option | What it does |\n|---|---|\n{table}\n")
     parts.append(TAIL)

@@ -34,7 +34,7 @@ def scripts_of_block(block):
     for first, rest in re.findall(r"^\$ (.*)\n((?:(?!\$ ).*\n)*)", block, flags=re.M):
         here = re.fullmatch(r"\./pazturrok run \S+(.*?) <<'END'", first)
         fed = re.fullmatch(r"\./pazturrok run \S+(.*?) < (lisp/\S+)", first)
-        look = re.fullmatch(r"\./pazturrok (show|info|log) \S+(.*?)( \| head -\d+)?", first)
+        look = re.fullmatch(r"\./pazturrok (show|info|log|verify) \S+(.*?)( \| head -\d+)?", first)
         echo = re.fullmatch(r"echo (['\"])(.*)\1 \| \./pazturrok run \S+(.*)", first)
         if here and "kill" not in block:
             forms, _, answers = rest.partition("END\n")

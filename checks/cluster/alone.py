@@ -326,7 +326,8 @@ def refused_words(folder, program):
         faults = []
         for status, words, *order in cases:
             told = subprocess.run([sys.executable, NODE, *order, "--program", program], capture_output=True, text=True, timeout=LONG)
-            faults += [] if told.returncode == status and words in told.stderr else [f"{order}: {told.returncode} {told.stderr[-200:]}"]
+            is_told = words in told.stderr and "RuntimeWarning" not in told.stderr
+            faults += [] if told.returncode == status and is_told else [f"{order}: {told.returncode} {told.stderr[-200:]}"]
         with open(plain, encoding="ascii") as file:
             faults += [] if file.read() == "not a socket\n" else ["a file was taken away"]
         return faults + ([] if value(node) == "0" else ["the first node does not go on"])
@@ -355,8 +356,28 @@ def strangers(folder, program):
         node.end()
 
 
+def interrupted(folder, program):
+    """A signal to all processes of a terminal, as by Ctrl-C, is for the node alone: it ends its store, and tells of no fault."""
+    node = begun(folder, program)
+    one = node.nodes[0]
+    try:
+        one.finish()
+        one.words = ["setsid", *one.words]
+        one.start()
+        Client(node.places).request(b"do add", ADD)
+        faults = ["the store is of the terminal of its node"] if os.getpgid(node.store_process(0)) == one.child.pid else []
+        os.killpg(one.child.pid, signal.SIGINT)
+        status, text = one.child.wait(LONG), one.told()
+        faults += [] if status == 0 and "ERROR" not in text else [f"Ctrl-C: status {status}, {text[-300:]}"]
+        one.start()
+        return faults + ([] if value(node) == "1" else ["what was answered before Ctrl-C is gone"])
+    finally:
+        node.end()
+
+
 LONG_ONES = ("alone by port", "alone kills")
 PARTS = {
     "alone": blows, "alone kills": kills, "alone by port": blows_by_port, "alone thirty": thirty, "alone small": small, "alone torn": torn,
     "alone put back": put_back, "alone old": old, "alone words": refused_words, "alone strangers": strangers,
+    "alone interrupted": interrupted,
 }  # fmt: skip

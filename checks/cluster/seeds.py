@@ -4,14 +4,17 @@ import base64
 import contextlib
 import json
 import os
+import re
 import shutil
 import socket
 import subprocess
 import threading
 import time
 
-from cluster import LONG, Client, free_ports
-from refusals import ADD, LOOK, begun, refused, value
+from cluster import HERE, LONG, Alone, Client, Cluster, free_ports
+from refusals import ADD, begun, refused, value
+
+OPERATORS = os.path.join(HERE, "..", "..", "lisp", "operators.lisp")
 
 
 def trim_away(cluster):
@@ -219,5 +222,39 @@ def put(cluster, key, told):
     cluster.call("/v3/kv/put", {"key": key, "value": value_of})
 
 
-LONG_ONES = ("taken as told", "versions")
-PARTS = {"taken": taken, "taken as told": as_told, "way back": way_back, "versions": versions}
+def from_one(folder, program):
+    """A store that a node without etcd has served comes to several machines, with what was answered; and the operators by a client, after that."""
+    os.mkdir(os.path.join(folder, "one"))
+    one = Alone(os.path.join(folder, "one"), program)
+    client = Client(one.places)
+    client.request(b"do first", b"(SETF (GET 'COUNTER 'KY) 0)")
+    for number in range(5):
+        client.request(b"do add-%d" % number, ADD)
+    one.nodes[0].finish()
+    cluster = Cluster(folder, program, members=1, nodes=0)
+    try:
+        first = new_node(cluster)
+        shutil.copytree(one.store(0), cluster.store(first), ignore=shutil.ignore_patterns("journal"))
+        faults = refused(cluster, first, "etcd has no log of this name")
+        status, told = cluster.order("begin", cluster.store(first))
+        faults += [] if status == 0 else [f"begin: {status} {told}"]
+        for place in (first, new_node(cluster), new_node(cluster)):
+            cluster.nodes[place].start()
+        seen = [value(cluster, place) for place in range(3)]
+        faults += [] if seen == ["5", "5", "5"] else [f"the counters are {seen}"]
+        return faults + (told_operators(cluster) if os.path.basename(program) != "fake" else [])
+    finally:
+        cluster.end()
+
+
+def told_operators(cluster):
+    """The forms of lisp/operators.lisp, sent to one node, are known to all."""
+    with open(OPERATORS, encoding="ascii") as file:
+        forms = re.split(r"\n(?=\()", re.sub(r"(?m)^;.*\n", "", file.read()).strip())
+    answers = [Client(cluster.places[1:]).request(b"do", form.encode())[1] for form in forms]
+    seen = [Client([place]).request(b"read", b"(+ (GET 'COUNTER 'KY) 2)")[1] for place in cluster.places]
+    return [] if answers == ['"PAZTURROK"', "T", "T"] and seen == ["7"] * 3 else [f"the operators: {answers}, {seen}"]
+
+
+LONG_ONES = ("taken as told", "versions", "from one")
+PARTS = {"taken": taken, "taken as told": as_told, "way back": way_back, "versions": versions, "from one": from_one}

@@ -34,7 +34,7 @@ def answered(step, player, folder):
     status, out, err = step.answer(player, folder, environment)
     if status == UNSPLIT:
         raise Unplayable
-    if status == 1 and not err:
+    if not err and (status == 1 or played.REFUSED.search(wanted)):
         found = re.search(rb"standard error: (.*)", wanted, re.DOTALL)
         err = found[1] if found else b""
     return played.text_of(status, out, err)

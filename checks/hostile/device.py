@@ -1,7 +1,7 @@
 """Each call to the system failing, short, torn, interrupted, or the last one of the process."""
 import collections
 
-from hostile.store import check, courses, library, logged
+from hostile.store import check, courses, has_messages, library, logged
 from lib.room import DEVICE, INPUT, OUTPUT
 from lib.wanted import want
 
@@ -53,6 +53,11 @@ def run_with(room, one, loaded, number, mode):
     return got, words[1]
 
 
+def tells_refusals(one):
+    """Whether standard error tells of a refusal: of one that ends a session, or of a form."""
+    return one.ample.status == 1 or not has_messages(one.session) and b"\n! " in b"\n" + one.ample.out
+
+
 def disturbed(room, one, loaded, number, mode, kinds, hits):
     """Whether the call of this number was reached."""
     got, hit = run_with(room, one, loaded, number, mode)
@@ -62,8 +67,8 @@ def disturbed(room, one, loaded, number, mode, kinds, hits):
         want(got == one.ample, where, "no call was disturbed, and yet", got)
         return False
     is_as_ever = got == one.ample
-    if hit == "W" and one.ample.status == 1 and got == one.ample._replace(err=got.err):
-        # the line on the place of a refusal may be lost, as the refusal itself is on standard output
+    if hit == "W" and tells_refusals(one) and got == one.ample._replace(err=got.err):
+        # the line of standard error on a refusal may be lost, as the refusal itself is on standard output
         return True
     if mode in ("x", "y", "h"):
         want(got.status == 99, where, "the process was ended, and yet", got)

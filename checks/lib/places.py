@@ -20,6 +20,9 @@ SESSIONS = os.path.join(CHECKS, "sessions")
 MEMORY = "/dev/shm" if os.access("/dev/shm", os.W_OK | os.X_OK) else None
 """A folder in memory for what is thrown away, where there is one."""
 
+# Each program that a check starts tells on standard error why a form was refused, as one that the script starts.
+os.environ.setdefault("PAZTURROK_REASONS", "told")
+
 PATIENCE = 600
 """Only a program that hangs is waited for so many seconds."""
 

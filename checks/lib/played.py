@@ -19,6 +19,10 @@ from typing import IO, Any, Union
 from lib.places import MEMORY, PATIENCE, SESSIONS
 
 
+# A line of standard error on a form that was refused in a session which goes on.
+REFUSED = re.compile(rb"^(?:standard error: )?(?:line \d+, column \d+|after \d+ bytes): \d+: .* \(help \d+\)\n", re.M)
+
+
 def bytes_of(text: str) -> bytes:
     """The bytes of a text, in which %XX is one byte."""
     return re.sub(rb"%([0-9A-Fa-f]{2})", lambda found: bytes([int(found[1], 16)]), text.encode())
@@ -62,8 +66,17 @@ class Run:
     def answer(
         self, program: str, folder: str, environment: dict[str, str] | None = None, by_file: bool = False
     ) -> tuple[int, bytes, bytes]:
-        """The status of the run, and what it wrote to standard output and standard error. Its input comes by a pipe, in
-        pieces as it happens, or by a file, in the same ones each time."""
+        """The status of the run, and what it wrote to standard output and standard error, of which the lines on forms that were
+        refused are left out if it is wanted without them."""
+        status, output, faults = self.whole_answer(program, folder, environment, by_file)
+        tells = REFUSED.search(joined(self.wanted))
+        return status, output, faults if tells else REFUSED.sub(b"", faults)
+
+    def whole_answer(
+        self, program: str, folder: str, environment: dict[str, str] | None = None, by_file: bool = False
+    ) -> tuple[int, bytes, bytes]:
+        """The same with all that it wrote to standard error. Its input comes by a pipe, in pieces as it happens, or by a file,
+        in the same ones each time."""
         words = [program] + [re.sub(r"^DIR(?=/|$)", folder, word) if word != "''" else "" for word in self.words]
         with contextlib.ExitStack() as held:
             if self.lacks == "#":

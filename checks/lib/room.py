@@ -11,6 +11,7 @@ from collections.abc import Callable, Sequence
 from typing import NamedTuple
 
 from lib.places import MEMORY, PATIENCE, bytes_of
+from lib.played import REFUSED
 from lib.wanted import Deviation
 
 NO_MEMORY = b"! 90 NO-MEMORY\n"
@@ -41,7 +42,8 @@ PLACE = re.compile(
 
 def without_cause(faults: bytes) -> bytes:
     """What was told of a fault without the line with its cause, and of a refusal without its lines, which want of
-    memory may hide."""
+    memory may hide; nor the lines on forms that were refused in a session which goes on."""
+    faults = REFUSED.sub(b"", faults)
     if faults.startswith(DEVICE) and faults.count(b"\n") == 2:
         return DEVICE
     place = PLACE.fullmatch(faults)

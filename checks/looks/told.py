@@ -1,4 +1,4 @@
-"""What looks tell of a small store: a symbol and its home, names like a pattern, JSON that says the same as the lines,
+"""What looks tell of a small store: a symbol and its home, names like a pattern, counts, JSON that says the same as the lines,
 the figures of the files alone, and nothing more once the reader of the output has gone."""
 import itertools
 import json
@@ -77,7 +77,12 @@ def symbols(looks: Looks) -> None:
         status, out, err = looks.look("show", name)
         is_told = err.startswith("error: there is no such symbol") and err.count("\n") == 1
         looks.check(f"show {name!r}", (status, out, is_told), (2, "", True))
-    looks.check("a symbol of another package", looks.look("show", "APPLE", "--package", "P")[0], 2)
+    looks.check("a symbol of a package", looks.told("show", "APPLE", "--package", "P"), looks.told("show", "P::APPLE"))
+    looks.check("as it is printed", looks.told("show", "P::APPLE", "--package", "P"), looks.told("show", "P::APPLE"))
+    looks.check("its name with a space", looks.told("show", "foo bar", "--package", "COMMON-LISP-USER"), looks.told("show", "|foo bar|"))
+    looks.check("counted", looks.told("show", "APPLE", "--package", "P", "--count"), ["properties 1 symbols 1"])
+    for words in (("P::APPLE", "COMMON-LISP-USER"), ("C8", "P"), ("apple", "P")):
+        looks.check(f"{words} are of another package", looks.look("show", words[0], "--package", words[1])[0], 2)
     priced = looks.told("show", "APPLE", "--indicator", "PRICE")
     looks.check("one of its properties", priced, ["home COMMON-LISP-USER", "APPLE PRICE 7"])
 
@@ -104,9 +109,24 @@ def patterns(looks: Looks) -> None:
             pattern = "".join(letters)
             test = re.compile(".*".join(map(re.escape, pattern.split("*"))), re.IGNORECASE)
             like = [test.fullmatch(name) is not None for name in NAMES]
-            wanted = sum(count for count, is_like in zip(COUNTS, like) if is_like)
-            looks.check(f"how many are like {pattern!r}", len(looks.told("show", "--like", pattern, "--json")), wanted)
-    looks.check("a pattern of many stars", looks.told("show", "--like", "*a*p" * 5000 + "*e"), [])
+            counts = f"properties {sum(n for n, is_like in zip(COUNTS, like) if is_like)} symbols {sum(like)}"
+            looks.check(f"how many are like {pattern!r}", looks.told("show", "--count", "--like", pattern), [counts])
+    looks.check("a pattern of many stars", looks.told("show", "--count", "--like", "*a*p" * 5000 + "*e"), ["properties 0 symbols 0"])
+
+
+def counts(looks: Looks) -> None:
+    """A count says how many lines there are, and how many symbols in them."""
+    for words in ([], ["--like", "c*"], ["--package", "P"], ["--indicator", "PRICE"], ["--like", "*p*", "--indicator", "NOTE"]):
+        symbols = [it["symbol"] for it in (json.loads(line) for line in looks.told("show", "--json", *words))]
+        wanted = {"properties": len(symbols), "symbols": len(set(symbols))}
+        looks.check(f"show --count {words}", looks.told("show", "--count", *words), ["properties {properties} symbols {symbols}".format(**wanted)])
+        looks.check(f"show --count --json {words}", json.loads(looks.told("show", "--count", "--json", *words)[0]), wanted)
+    for name, _, count in SYMBOLS:
+        looks.check(f"show {name} --count", looks.told("show", name, "--count"), [f"properties {count} symbols 1"])
+    for words in (["NOPE"], ["--indicator", "NOPE"], ["--package", "NOPE"]):
+        looks.check(f"show --count {words}", looks.look("show", "--count", *words), looks.look("show", *words))
+    status, out, err = looks.look("show", "--forms", "--count")
+    looks.check("forms and a count", (status, out, "'--forms' cannot be used with '--count'" in err), (2, "", True))
 
 
 def all_objects(looks: Looks) -> List[Dict[str, str]]:
@@ -147,7 +167,42 @@ def figures(looks: Looks) -> None:
     looks.check("info --files --json", ageless(both), {name: whole[name] for name in ageless(of_files)})
 
 
-UNREAD = (["show"], ["log"], ["info"], ["show", "--json"], ["dump", "--existing"], ["verify", "--existing"],
+def verified(looks: Looks) -> None:
+    """The line of `verify`, as an object, with the position once there is one."""
+    for _ in range(2):
+        words = " ".join(looks.told("verify", "--existing")).split(" ")
+        wanted = {name: value if name == "half" else int(value) for name, value in zip(words[::2], words[1::2])}
+        lines = looks.told("verify", "--json")
+        looks.check("verify --json", [list(json.loads(line).items()) for line in lines], [list(wanted.items())])
+        looks.check("verify --existing --json", looks.told("verify", "--existing", "--json"), lines)
+        session = [looks.program, "run", looks.store, "--messages"]
+        subprocess.run(session, input=b"do 7 20\n(SETF (GET 'M 'B) 8)\n", stdout=subprocess.DEVNULL, check=True)
+    looks.check("with a position", json.loads(lines[0]).get("position"), 7)
+    missing = os.path.join(looks.store, "missing")
+    done = subprocess.run([looks.program, "verify", missing, "--json"], capture_output=True, text=True, check=False)
+    looks.check("no store", (done.returncode, done.stdout, done.stderr[:4]), (3, "", "! 60"))
+    looks.check("nothing is made", os.path.exists(missing), False)
+
+
+TEXTS = (b"", b"1 2 (", b"1 ) 2\n#z\n\n  (a\n b:c:d)\n3", b"(1 . ", b"(1\n2))\n)")
+
+
+def unreadable(looks: Looks) -> None:
+    """The lines of `check`, as objects."""
+    for text in TEXTS:
+        lines, objects_of = (subprocess.run([looks.program, "check", *words], input=text, capture_output=True, check=False)
+                             for words in ([], ["--json"]))
+        looks.check(f"status of {text!r}", (objects_of.returncode, objects_of.stderr), (lines.returncode, b""))
+        *refused, counts_of = lines.stdout.decode().splitlines()
+        *told, last = [json.loads(line) for line in objects_of.stdout.splitlines()]
+        as_lines = ["line {line}, column {column}: refused with {number} {name} in form {form}, which began at line {start-line}, "
+                    "column {start-column}".format(**it) for it in told]
+        looks.check(f"check --json of {text!r}", as_lines, refused)
+        looks.check(f"numbers of {text!r}", {type(it[name]) for it in told for name in it if name != "name"} <= {int}, True)
+        looks.check(f"counts of {text!r}", "forms {forms} unreadable {unreadable}".format(**last), counts_of)
+
+
+UNREAD = (["show"], ["log"], ["info"], ["show", "--json"], ["dump", "--existing"], ["verify", "--existing"], ["verify", "--json"],
           ["export", "--existing"])
 
 
@@ -166,7 +221,7 @@ def unread(looks: Looks) -> None:
     looks.check("an output that takes nothing", (done.returncode, done.stderr), (3, b"! 68 OUTPUT\n"))
 
 
-PARTS: List[Callable[[Looks], None]] = [symbols, patterns, objects, figures, unread]
+PARTS: List[Callable[[Looks], None]] = [symbols, patterns, counts, objects, figures, verified, unreadable, unread]
 
 
 def check_all(program: str, room: str) -> Tuple[int, List[str]]:

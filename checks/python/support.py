@@ -4,21 +4,31 @@ from __future__ import annotations
 
 import contextlib
 import os
+import subprocess
+import sys
 import tempfile
 import unittest
 from collections.abc import Iterator
 from typing import Any
 
 import pazturrok.program
-from lib.places import CHECKS, PATIENCE
-from pazturrok import Store
+from lib.places import CHECKS, PATIENCE, TOP
+from pazturrok import RefusedError, Store
 
 PROGRAM = os.environ.get("PAZTURROK_PROGRAM", "pazturrok")
 FAKE = os.path.join(CHECKS, "lisp", "fake")
+NODE = os.path.join(TOP, "cluster", "pazturrok-node")
+OPERATORS = os.path.join(TOP, "lisp", "operators.lisp")
 
 LONG = float(PATIENCE)
 """As many seconds as nothing takes, on a slow machine either."""
 pazturrok.program.END_LIMIT = LONG
+
+
+def said(error: BaseException) -> str:
+    """What an error says, without what the program tells of a refusal beside its number: not each program does."""
+    reason = getattr(error, "reason", None)
+    return str(error).replace(f" ({reason})", "", 1) if isinstance(error, RefusedError) and reason else str(error)
 
 
 class StoreTest(unittest.TestCase):
@@ -34,6 +44,23 @@ class StoreTest(unittest.TestCase):
         store = Store(os.path.join(self.folder, name), PROGRAM, **options)
         self.addCleanup(store.close)
         return store
+
+    def make_with_operators(self, name: str) -> None:
+        """Makes a store of this name in the folder, which knows the operators."""
+        with open(OPERATORS, "rb") as file:
+            subprocess.run([PROGRAM, "run", os.path.join(self.folder, name), "--quiet"], stdin=file, check=True, capture_output=True)
+
+    @contextlib.contextmanager
+    def node(self) -> Iterator[str]:
+        """The place of a node of one machine, over a store that knows the operators."""
+        self.make_with_operators("of a node")
+        place = f"unix:{self.folder}/socket"
+        words = [NODE, os.path.join(self.folder, "of a node"), "--alone", "--listen", place, "--program", PROGRAM]
+        with subprocess.Popen([sys.executable, "-B", *words], stderr=subprocess.DEVNULL) as node:
+            try:
+                yield place
+            finally:
+                node.terminate()
 
     @contextlib.contextmanager
     def answering(self, *answers: str, fault: str | None = None, told: dict[int, str] = {}, **options: Any) -> Iterator[Store]:

@@ -29,13 +29,13 @@ class WhichForm(StoreTest):
         store = self.store()
         with self.assertRaises(RefusedError) as raised:
             store.execute("(FROB A)")
-        self.assertEqual((("(FROB A)", None), "31 UNKNOWN-OPERATOR: (FROB A)"), (which(raised.exception), str(raised.exception)))
+        self.assertEqual((("(FROB A)", None), "31 UNKNOWN-OPERATOR (no operator FROB): (FROB A)"), (which(raised.exception), str(raised.exception)))
         with self.assertRaises(RefusedError) as raised:
             store.execute([Symbol("FROB"), 1])
         self.assertEqual(("(FROB 1)", None), which(raised.exception))
         with self.assertRaises(RefusedError) as raised:
             store.execute_all(["1", "(FROB\n  A)", "(FROB)"])
-        self.assertEqual((("(FROB\n  A)", 1), "31 UNKNOWN-OPERATOR: forms[1] is (FROB A)"), (which(raised.exception), str(raised.exception)))
+        self.assertEqual((("(FROB\n  A)", 1), "31 UNKNOWN-OPERATOR (no operator FROB): forms[1] is (FROB A)"), (which(raised.exception), str(raised.exception)))
 
     def test_a_long_form_is_cut_in_the_message_alone(self) -> None:
         store, form = self.store(), "(FROB " + "A " * 5000 + ")"
@@ -43,7 +43,7 @@ class WhichForm(StoreTest):
             store.execute(form)
         self.assertEqual(form, raised.exception.form)
         self.assertTrue(str(raised.exception).endswith(" A .."))
-        self.assertLess(len(str(raised.exception)), 140)
+        self.assertLess(len(str(raised.exception)), 160)
 
     def test_refused_forms_among_many(self) -> None:
         store = self.store()
@@ -77,16 +77,17 @@ class WhichForm(StoreTest):
         self.assertEqual(("(LIST 1)", None), which(raised.exception))
 
     def test_what_the_program_tells_of_a_refusal(self) -> None:
-        told = {1: "line 2, column 1: 31: no operator FOO (help 31)\n", 3: "pazturrok: line 5, column 1: 12: no package \"NO\"\n"}
-        with self.answering("! 31 UNKNOWN-OPERATOR\n", "7\n", "! 12 NO\n", told=told) as store:
+        told = {1: "line 2, column 1: 31: no operator FOO (help 31)\n", 3: "pazturrok: line 4, column 1: 33: ARGUMENT-KIND: (INCF \"one\") (help 33)\n",
+                4: "after 70 bytes: 31: no operator FOO (help 31)\n100 refusals were told; of the next ones there is no line here\n"}
+        with self.answering("! 31 UNKNOWN-OPERATOR\n", "7\n", "! 33 ARGUMENT-KIND\n", "! 31 UNKNOWN-OPERATOR\n", told=told, fault="! 60 DEVICE\n") as store:
             # the question of the opening is the first line
-            outcomes = store.execute_all(["(FOO)", "7"], raise_on_refusal=False)
+            outcomes = store.execute_all(["(FOO)", "7", '(LIST (INCF "one"))', "(FOO)"], raise_on_refusal=False)
             self.assertEqual("31 UNKNOWN-OPERATOR (no operator FOO): forms[0] is (FOO)", str(outcomes[0]))
-            self.assertEqual("no operator FOO", getattr(outcomes[0], "reason", None))
-            store._program._begins = [5]  # type: ignore[union-attr]
-            with self.assertRaises(RefusedError) as raised:
-                store.execute("'NO::X")
-            self.assertEqual('no package "NO"', raised.exception.reason)
+            self.assertEqual(["no operator FOO", '(INCF "one")', None], [outcome.reason for outcome in outcomes if isinstance(outcome, RefusedError)])
+            self.assertEqual('33 ARGUMENT-KIND ((INCF "one")): forms[2] is (LIST (INCF "one"))', str(outcomes[2]))
+            with self.assertRaises(StoppedError) as raised:
+                store.execute("8")
+            self.assertEqual("! 60 DEVICE", raised.exception.fault)
 
 
 class Messages(StoreTest):

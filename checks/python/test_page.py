@@ -6,21 +6,17 @@ import ast
 import contextlib
 import os
 import re
-import subprocess
-import sys
 import textwrap
 import unittest
-from collections.abc import Callable, Iterator
+from collections.abc import Callable
 from typing import Any
 
 import pazturrok
-from lib.places import CHECKS, TOP
+from lib.places import TOP
 from pazturrok import StoreError
-from support import PROGRAM, StoreTest
+from support import PROGRAM, StoreTest, said
 
 PAGE = os.path.join(TOP, "clients", "python", "README.md")
-NODE = os.path.join(CHECKS, "..", "cluster", "pazturrok-node")
-OPERATORS = os.path.join(TOP, "lisp", "operators.lisp")
 LEFT_OUT = ("EmbeddedStore", "EmbeddedMessageStore", "ssl.", "asyncio", "unittest")
 """Blocks with these want the library, certificates or a program round them."""
 
@@ -60,7 +56,10 @@ def is_as_wanted(value: Any, wanted: Any) -> bool:
 
 
 class Watched(ast.NodeTransformer):
-    """Has the value of each expression that stands for itself looked at."""
+    """Has the value of each expression that stands for itself looked at, but for those within a function."""
+
+    def visit_FunctionDef(self, node: ast.FunctionDef) -> ast.FunctionDef:  # pylint: disable=invalid-name
+        return node
 
     def visit_Expr(self, node: ast.Expr) -> ast.Expr:  # pylint: disable=invalid-name
         taken = ast.Lambda(ast.arguments([], [], None, [], [], None, []), node.value)
@@ -75,19 +74,7 @@ class Page(StoreTest):
         os.chdir(self.folder)
         self.addCleanup(os.chdir, before)
         self.compared = 0
-        for folder in ("store", "of a node"):
-            with open(OPERATORS, "rb") as file:
-                subprocess.run([PROGRAM, "run", folder, "--quiet"], stdin=file, check=True, capture_output=True)
-
-    @contextlib.contextmanager
-    def node(self) -> Iterator[str]:
-        place = f"unix:{self.folder}/socket"
-        words = [sys.executable, "-B", NODE, "of a node", "--alone", "--listen", place, "--program", PROGRAM]
-        with subprocess.Popen(words, stderr=subprocess.DEVNULL) as node:
-            try:
-                yield place
-            finally:
-                node.terminate()
+        self.make_with_operators("store")
 
     def look_at(self, lines: list[str], names: dict[str, Any]) -> Callable[[int, Callable[[], Any]], None]:
         """What looks at the value of the expression that ends in a line: it has to be that of the comment."""
@@ -99,7 +86,7 @@ class Page(StoreTest):
             except StoreError as error:
                 if not after.startswith("# "):
                     raise
-                self.assertEqual(after[2:], f"{type(error).__name__}: {error}")
+                self.assertEqual(after[2:].replace(f" ({getattr(error, 'reason', None)})", ""), f"{type(error).__name__}: {said(error)}")
                 self.compared += 1
                 return
             if "print(" in line:

@@ -9,7 +9,7 @@ import time
 from fractions import Fraction
 from typing import Union
 
-from pazturrok import MessageStore, NodeStore, Store, StoreError, Symbol, keyword, quote
+from pazturrok import MessageStore, NodeStore, RefusedError, Store, StoreError, Symbol, keyword, quote
 from support import LONG, PROGRAM, StoreTest
 
 NODE = os.path.join(os.path.dirname(os.path.abspath(__file__)), "..", "..", "cluster", "pazturrok-node")
@@ -38,8 +38,14 @@ class Calls(StoreTest):
         self.assertEqual([(Symbol("PRICE"), 7), (keyword("OTHER"), (1, "two"))], store.plist("APPLE"))
         with self.assertRaises(StoreError):
             store.put("APPLE", Symbol("X", "NO-PACKAGE"), 1)
-        with self.assertRaises(StoreError):
-            store.compare_and_set("APPLE", "PRICE", 7, 8)
+        for call in (lambda: store.compare_and_set("APPLE", "PRICE", 7, 8), lambda: store.take("APPLE", "PRICE")):
+            way = "send the forms of" if isinstance(store, NodeStore) else "open it once by `pazturrok run DIR --operators`"
+            with self.assertRaisesRegex(StoreError, f"the store has no package 'PAZTURROK': {way}"):
+                call()
+        if not isinstance(store, Store):
+            with self.assertRaises(RefusedError) as refused:
+                store.compare_and_set("APPLE", "PRICE", 7, Symbol("X", "NO-PACKAGE"))
+            self.assertEqual((11, None), (refused.exception.number, refused.exception.hint))
         store._put_form([Symbol("MAKE-PACKAGE"), "PAZTURROK"])
         self.assertTrue(store.compare_and_set("APPLE", "PRICE", 7, 8))
         self.assertFalse(store.compare_and_set("APPLE", "PRICE", 7, 9))

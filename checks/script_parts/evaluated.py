@@ -34,6 +34,16 @@ forms 11 refused 7
 """.replace(b"%20", b" ")
 
 
+# What begins the line on what a refusal is about, and the first of these lines.
+ABOUT = b"    about: "
+OF_FORMS = [ABOUT + b"no operator FROB", ABOUT + b"(GET (QUOTE A))", ABOUT + b"no operator FROB"]
+
+
+def without_about(out: bytes) -> bytes:
+    """The output without what the refusals are about."""
+    return b"".join(line for line in out.splitlines(keepends=True) if not line.startswith(ABOUT))
+
+
 def over_a_store(script: str, room: str, file: str) -> None:
     """The forms see the store, and nothing of it changes, also while it is served."""
     store = os.path.join(room, "carried out")
@@ -41,8 +51,8 @@ def over_a_store(script: str, room: str, file: str) -> None:
     before = called(script, "dump", store, "--existing")
     with open(file, "wb") as text:
         text.write(b"(SETF (GET 'P::X 'A) (GET 'A 'B)) (INCF (GET 'A 'B) 'X)")
-    told = called(script, "check", "--run", file, "--store", store)
-    check("over a store", told, (1, b"line 1, column 35: refused with 33 ARGUMENT-KIND in form 2, which began at line 1, column 35\n"
+    status, out, err = called(script, "check", "--run", file, "--store", store)
+    check("over a store", (status, without_about(out), err), (1, b"line 1, column 35: refused with 33 ARGUMENT-KIND in form 2, which began at line 1, column 35\n"
                                  b"    (INCF (GET 'A 'B) 'X)\nforms 2 refused 1\n", b""))
     check("the store", called(script, "dump", store, "--existing"), before)
     check("over nothing", called(script, "check", "--run", file)[1].splitlines()[0],
@@ -50,13 +60,16 @@ def over_a_store(script: str, room: str, file: str) -> None:
     check("no store", (called(script, "check", file, "--run", f"--store={room}/none")[0], os.path.exists(f"{room}/none")), (3, False))
 
 
-def before_a_reader_that_goes(script: str, *words: str) -> None:
-    """Who reads the output goes before the first line: nothing is told of that, and nothing is left."""
+def before_a_reader_that_goes(script: str, *words: str) -> bytes:
+    """Who reads the output goes before the first line: nothing is told of that, and nothing is left. What the status is told as."""
     rooms = "/dev/shm/pazturrok-check.*"
     before = set(glob.glob(rooms))
-    told = subprocess.run(["sh", "-c", '"$0" "$@" | true', script, *words], stderr=subprocess.PIPE, check=False).stderr
-    lines = [line for line in told.splitlines() if b"compiled, not proved" not in line]
-    check(f"{words[0]} before a reader that goes", (lines, set(glob.glob(rooms)) - before), ([], set()))
+    # the reader has gone once the other end of a pipe that it has is closed
+    shell = 'mkfifo "$0.gone"; { cat "$0.gone"; rm "$0.gone"; "$0" "$@"; echo "status $?" >&2; } | { exec <&-; : >"$0.gone"; }'
+    told = subprocess.run(["sh", "-c", shell, script, *words], stderr=subprocess.PIPE, check=False).stderr
+    *lines, status = [line for line in told.splitlines() if b"compiled, not proved" not in line]
+    check(f"{words} before a reader that goes", (lines, set(glob.glob(rooms)) - before), ([], set()))
+    return status
 
 
 def check_all(script: str, room: str) -> None:
@@ -64,14 +77,19 @@ def check_all(script: str, room: str) -> None:
     file = os.path.join(room, "forms to carry out")
     with open(file, "wb") as text:
         text.write(FORMS)
-    check("each refusal", called(script, "check", "--run", file), (1, TOLD, b""))
+    status, out, err = called(script, "check", "--run", file)
+    check("each refusal", (status, without_about(out), err), (1, TOLD, b""))
+    about = [line for line in out.splitlines() if line.startswith(ABOUT)]
+    check("what they are about", about[:3], OF_FORMS)
     before_a_reader_that_goes(script, "check", "--run", file)
-    before_a_reader_that_goes(script, "help", "31")
-    check("from standard input", called(script, "check", "--run", stdin=FORMS), (1, TOLD, b""))
+    helps = (["help", "31"], ["help", "GET"], ["help"], ["--help"], ["help", "run"], ["run", "--help"])
+    check("the statuses of help before a reader that goes", [before_a_reader_that_goes(script, *words) for words in helps], [b"status 0"] * len(helps))
+    status, out, err = called(script, "check", "--run", stdin=FORMS)
+    check("from standard input", (status, without_about(out), err), (1, TOLD, b""))
     check("no refusal", called(script, "check", "-", "--run", stdin=b"(MAKE-PACKAGE \"P\")\n(GET 'P::X 'Y) 7"), (0, b"forms 3 refused 0\n", b""))
     check("no form", called(script, "check", "--run"), (0, b"forms 0 refused 0\n", b""))
     many = b"(FROB)" * 9 + b"\n" + b"(LIST 1) " * 2_000 + b"(FROB)"
-    check("many forms", called(script, "check", "--run", stdin=many)[1].splitlines()[-3:],
+    check("many forms", without_about(called(script, "check", "--run", stdin=many)[1]).splitlines()[-3:],
           [b"line 2, column 18001: refused with 31 UNKNOWN-OPERATOR in form 2010, which began at line 2, column 18001", b"    (FROB)", b"forms 2010 refused 10"])
     over_a_store(script, room, file)
     check("a file that is not there", called(script, "check", "--run", file + " not")[:2], (3, b""))

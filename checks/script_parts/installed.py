@@ -1,12 +1,14 @@
 """An installed program, with all or without, what takes it away again, and a release."""
 import hashlib
 import os
+import pty
 import re
 import shutil
 import subprocess
 import tarfile
+import time
 
-from calls import PLAIN, called, check, command, is_refused, write
+from calls import PLAIN, PROGRAM, called, check, command, is_refused, write
 
 
 def completed(text, *words):
@@ -32,7 +34,7 @@ def check_proved(script, room):
         is_refused("words", script, *words, says="takes")
     prefix = os.path.join(room, "prefix")
     done = called(script, "install", prefix)
-    check("install", (done[0], done[1].count(prefix.encode()), done[2]), (0, 12, b"pazturrok: installing the proved program of commit 0123abc\n"))
+    check("install", (done[0], done[1].count(prefix.encode()), done[2]), (0, 13, b"pazturrok: installing the proved program of commit 0123abc\n"))
     check_replaced(script, prefix)
     moved = os.path.join(room, "moved")
     os.rename(prefix, moved)
@@ -49,7 +51,9 @@ def check_proved(script, room):
     check("its help has how it is taken away", b"\nuninstall PREFIX takes away" in called(there, "--help")[1], True)
     helps = [called(there, *words)[1].decode() for words in (["--help"], ["help"], ["run", "--help"], ["help", "show"])]
     check("its help has its name", [("./pazturrok" in text, "pazturrok " in text) for text in helps], [(False, True)] * 4)
+    check("its help of uninstall", called(there, "help", "uninstall"), called(there, "uninstall", "--help"))
     check("its help with wrong words", called(there, "run", "--bogus", "--help")[0], 2)
+    check_named(there, room)
     page = os.path.join(moved, "share", "man", "man1", "pazturrok.1")
     manual, usage = text_of(page), helps[2].splitlines()[0]
     check("the manual page has the help", (usage.replace("-", "\\-") in manual, manual.count(".SS ") > 5, ".SS run \\-\\-messages\n" in manual), (True, True, True))
@@ -61,6 +65,50 @@ def check_proved(script, room):
         check(f"a manual page is well formed: {name}", (linted.returncode, linted.stderr), (0, b""))
 
 
+# Words that the program refuses.
+WRONG = ([], ["frob"], ["run"], ["run", "--bogus"], ["run", "a", "b"], ["run", "a", "--snapshot-every", "x"], ["run", "a", "--operators", "--bogus"], ["backup", "a"],
+         ["show"], ["check", "a", "b"], ["dump", "a", "--at"], ["help", "frob"], ["run", "--bogus", "--help"])
+
+
+def check_named(there, room):
+    """An installed one has its own name in what it says of wrong words, which are tried on no folder, and tells what hints mean by another."""
+    for words in WRONG:
+        status, out, err = called(there, *words)
+        of_program = [word for word in words if word != "--operators"]
+        wanted = subprocess.run([PROGRAM, *of_program], stdin=subprocess.DEVNULL, capture_output=True, check=False).stderr
+        check(f"wrong words: {words}", (status, out, err), (2, b"", wanted.replace(b"./pazturrok", b"pazturrok")))
+    check("what is made by them", [os.path.exists(name) for name in ("a", "b")], [False, False])
+    done = subprocess.run([there, "run", "5", "--snapshot-every", "5"], cwd=room, input=b"(LIST 1)", capture_output=True, check=False)
+    check("a folder that is a number", (done.returncode, done.stdout, done.stderr), (0, b"(1)\n", b""))
+    check_right_words(there, room)
+    folder = os.path.join(room, "at a terminal")
+    check("no store", called(there, "info", folder), (3, b"", b"! 60 DEVICE\nthere is no store in this folder\n"))
+    for words, says in (([], True), (["--quiet"], False)):
+        master, slave = pty.openpty()
+        running = subprocess.Popen([there, "run", folder, *words], stdin=slave, stdout=subprocess.DEVNULL, stderr=slave)
+        os.write(master, b"\x04")
+        running.wait()
+        os.close(slave)
+        text = os.read(master, 65536)
+        os.close(master)
+        check(f"at a terminal {words}", text.startswith(b"pazturrok: this is the command that the hints call ./pazturrok\r\n"), says)
+
+
+def check_right_words(there, room):
+    """An installed one does what the program does."""
+    store, file = os.path.join(room, "of right words"), os.path.join(room, "forms of right words")
+    write(file, "(LIST 1) 1.5\n")
+    called(there, "run", store, stdin=b"(SETF (GET 'A 'B) 7)")
+    for words in (["dump", store], ["dump", "--at", "1", store], ["log", "--from", "1", store], ["show", "--package", "COMMON-LISP-USER", store],
+                  ["show", "--like", "a", "--indicator", "b", store], ["show", "--package=CL", store], ["log", "--", store], ["verify", store, "--existing"], ["show", store], ["show", store, "A"], ["show", store, "NONE"], ["log", store], ["log", store, "--from", "9"],
+                  ["log", store, "--from", "7.1"], ["export", store], ["check", file], ["check", file, "--store", store], ["check", "--store", store, file],
+                  ["check", file + " not"], ["dump", store + " not", "--existing"], ["backup", store + " not", store + " copy"]):
+        done = subprocess.run([PROGRAM, *words], stdin=subprocess.DEVNULL, capture_output=True, check=False)
+        check(f"right words: {words}", called(there, *words), (done.returncode, done.stdout, done.stderr))
+    check("snapshots", [called(there, word, store)[::2] for word in ("snapshot", "upgrade")], [(0, b"")] * 2)
+    check("a backup", (called(there, "backup", store, store + " copy"), called(there, "dump", store + " copy")[1]), ((0, b"", b""), called(there, "dump", store)[1]))
+
+
 def check_replaced(script, prefix):
     """A proved program that is installed stays, unless that of the clone is proved too and is that of its sources, or it is to be replaced."""
     clone, there = os.path.dirname(script), os.path.join(prefix, "libexec", "pazturrok", "store_program")
@@ -70,7 +118,8 @@ def check_replaced(script, prefix):
     length = os.path.getsize(source)
     with open(source, "a", encoding="utf-8") as file:
         file.write("// changed\n")
-    later = os.stat(built).st_mtime + 100
+    # later than what the check wrote of the program's sources, however long it took
+    later = time.time() + 100
     os.utime(source, (later, later))
     is_refused("one of other sources", script, "install", prefix, says="is of other sources than those of the clone: ./pazturrok build makes one")
     status, _, err = called(script, "install", prefix, "--replace")

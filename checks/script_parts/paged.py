@@ -66,6 +66,14 @@ def check_increment(script: str) -> None:
     check("with its package", told(script, OWN_INCREMENT), told(script, "INCF"))
 
 
+def check_links(script: str, numbers: List[str]) -> None:
+    """Where the page has a link, the help has the page that it leads to, by its place."""
+    texts = [" ".join(told(script, number)[1].decode().split()) for number in numbers]
+    links = {link for text in texts for link in re.findall(r"[\w./-]+\.md", text)}
+    check("links", (sorted(link for link in links if not os.path.isfile(os.path.join(TOP, link))), len(links) > 3), ([], True))
+    check("a part of a page", 'do as "Damaged files" in docs/run/operating.md has it. Nothing was written' in texts[numbers.index("62")], True)
+
+
 def check_all(script: str) -> None:
     """Checks all of it."""
     check_functions(script)
@@ -84,6 +92,8 @@ def check_all(script: str) -> None:
         status, out, err = told(script, number)
         check(f"help of {number}", (status, out.decode().split("\n", 1)[0], err), (0, f"{number} {name}", b""))
     check("what to do", [b"  What to do: " in told(script, number)[1] for number in ("60", "64", "90")], [True] * 3)
-    is_refused("no operator", script, "help", "FROB", says="no operator and no command 'FROB'")
+    check_links(script, [number for number, _ in numbers])
+    for word in ("FROB", "T", "NIL"):
+        is_refused("no operator", script, "help", word, says=f"no operator and no command '{word}'")
     is_refused("no number", script, "help", "999", says="no refusal has the number 999")
     check("a command", told(script, "show")[1].startswith(b"Shows properties"), True)

@@ -63,19 +63,18 @@ CONTROL_D = "\x04"
 WELCOME = "Type a form and Enter; help tells more, Ctrl-D ends. For editing lines: rlwrap ./pazturrok run DIR\n"
 HELP = """(SETF (GET 'APPLE 'PRICE) 7) sets a property, (GET 'APPLE 'PRICE) gives it, (SYMBOL-PLIST 'APPLE) gives all of a symbol.
 An answer that begins with ! is a refusal: ./pazturrok help 31 tells of the number 31, ./pazturrok help GET of the operator GET;
-docs/use/operators.md has all operators.
+./pazturrok help has all commands, docs/use/operators.md all operators.
 Ctrl-D at the beginning of a line ends. Each answer is in the store by then.
 """
 LEAVING = "Ctrl-D at the beginning of a line ends.\n"
-UNKNOWN_OPERATOR = """The current package finds no operator of this name: docs/use/operators.md has all. + and the other functions are known after
-./pazturrok run DIR --operators. If none is found any more, the package does not use COMMON-LISP, and
-(COMMON-LISP:IN-PACKAGE "CL-USER") leads back.
-"""
-BESIDE = "Beside this session: ./pazturrok %s\n"
 CUT = """A terminal hands on 4,095 bytes of a line, and dropped the rest of this one. The form is open: Ctrl-C ends the session without it.
 Write it in shorter lines, or send it from a file: ./pazturrok run DIR < FILE
 """
 UNANSWERED = "Nothing was answered: a form is open, or the readtable makes comments of what is typed; --rescue reads under the standard one.\n"
+BESIDE = "Beside this session: ./pazturrok %s\n"
+WITHOUT_STANDARD = ': this package does not use COMMON-LISP; (COMMON-LISP:IN-PACKAGE "CL-USER") leads back'
+QUOTED = "NOT-A-FORM: %s; quoted it is a value: '%s"
+TOLD = "line %d, column %d: %d: %s (help %d)\n"
 REFUSED = "line %d, column %d: refused with %s in form %d, which began at line %d, column %d\n"
 DROPPED = "The rest of the line was dropped, and a new session begins.\n"
 passed = failed = 0
@@ -227,7 +226,7 @@ with tempfile.TemporaryDirectory() as room:
     it.step("its end", " 2)\n", "(1 2)\n", "> ")
     it.step("two forms", "(LIST 1) (LIST 2\n", "(1)\n", ". ")
     it.step("the end of the second", ")\n", "(2)\n", "> ")
-    it.step("refused by evaluation", "(FROB)\n", "! 31 UNKNOWN-OPERATOR\n", UNKNOWN_OPERATOR + "> ")
+    it.step("refused by evaluation", "(FROB)\n", "! 31 UNKNOWN-OPERATOR\n", TOLD % (9, 1, 31, "no operator FROB", 31) + "> ")
     it.step("refused by the reader", "10.5 (SETF (GET 'A 'B) 8)\n", "! 7 FLOAT-TOKEN\n", REFUSED % (10, 5, "7 FLOAT-TOKEN", 7, 10, 1) + DROPPED + "> ")
     it.step("the next session", "(GET 'A 'B)\n", "7\n", "> ")
     it.step("a paste", "(SETF (GET 'A 'B) 9)\n) (SETF (GET 'A 'B) 10)\n(GET 'A 'B)\n", "9\n! 4 STRAY-CLOSE\n9\n",
@@ -243,7 +242,7 @@ with tempfile.TemporaryDirectory() as room:
 
     it = Terminal("run", store, "--strict")
     it.step("a strict session", "(GET 'A 'B)\n(FROB) (SETF (GET 'A 'B) 8)\n(GET 'A 'B)\n", "9\n! 31 UNKNOWN-OPERATOR\n9\n",
-            WELCOME + "> > " + REFUSED % (2, 1, "31 UNKNOWN-OPERATOR", 2, 2, 1) + DROPPED + "> > ")
+            WELCOME + "> > " + TOLD % (2, 1, 31, "no operator FROB", 31) + REFUSED % (2, 1, "31 UNKNOWN-OPERATOR", 2, 2, 1) + DROPPED + "> > ")
     it.end("its end", CONTROL_D, "", "\n", 0)
 
     it = Terminal("run", store, "--existing", "--group")
@@ -260,13 +259,20 @@ with tempfile.TemporaryDirectory() as room:
     it.end("the end inside a form", CONTROL_D, "! 1 END-OF-FILE\n", "\n" + UNANSWERED + REFUSED % (2, 1, "1 END-OF-FILE", 1, 1, 1), 1)
 
     it = Terminal("run", store)
-    it.step("a word for help", "help\n", "! 30 NOT-A-FORM\n", WELCOME + "> " + HELP + "> ")
-    it.step("a word to leave", " 12\nexit\n", "12\n! 30 NOT-A-FORM\n", "> " + LEAVING + "> ")
-    it.step("help of an operator", "help GET\n", "! 30 NOT-A-FORM\n" * 2, BESIDE % "help GET" + "> ")
-    it.step("help of a number", "help 31\n", "! 30 NOT-A-FORM\n31\n", BESIDE % "help 31" + "> ")
+    it.step("a word for help", "help\n", "! 30 NOT-A-FORM\n",
+            WELCOME + "> " + TOLD % (1, 1, 30, QUOTED % ("HELP", "HELP"), 30) + HELP + "> ")
+    it.step("a word to leave", " 12\nexit\n", "12\n! 30 NOT-A-FORM\n", "> " + TOLD % (3, 1, 30, QUOTED % ("EXIT", "EXIT"), 30) + LEAVING + "> ")
+    it.step("a form for help", "(help)\n", "! 31 UNKNOWN-OPERATOR\n", TOLD % (4, 1, 31, "no operator HELP", 31) + HELP + "> ")
+    it.step("a question mark", "?\n", "! 30 NOT-A-FORM\n", TOLD % (5, 1, 30, QUOTED % ("?", "?"), 30) + HELP + "> ")
+    it.step("a form to leave", "(QUIT)\n", "! 31 UNKNOWN-OPERATOR\n", TOLD % (6, 1, 31, "no operator QUIT", 31) + LEAVING + "> ")
+    it.step("help of an operator", "help GET\n", "! 30 NOT-A-FORM\n" * 2,
+            TOLD % (7, 1, 30, QUOTED % ("HELP", "HELP"), 30) + TOLD % (7, 6, 30, QUOTED % ("GET", "GET"), 30) + BESIDE % "help GET" + "> ")
+    it.step("help of a number", "help 31\n", "! 30 NOT-A-FORM\n31\n", TOLD % (8, 1, 30, QUOTED % ("HELP", "HELP"), 30) + BESIDE % "help 31" + "> ")
+    it.step("an operator of PAZTURROK", "(+ 1 2)\n", "! 31 UNKNOWN-OPERATOR\n",
+            TOLD % (9, 1, 31, "no operator |+|: ./pazturrok run DIR --operators makes it known", 31) + "> ")
     it.step("a package without operators", '(MAKE-PACKAGE "BOOK")\n(IN-PACKAGE "BOOK")\n', '"BOOK"\n"BOOK"\n', "> > ")
-    it.step("its first form", "(LIST 1)\n", "! 31 UNKNOWN-OPERATOR\n", UNKNOWN_OPERATOR + "> ")
-    it.step("its second form", "(LIST 1)\n", "! 31 UNKNOWN-OPERATOR\n", "> ")
+    it.step("its first form", "(LIST 1)\n", "! 31 UNKNOWN-OPERATOR\n",
+            TOLD % (12, 1, 31, "no operator LIST" + WITHOUT_STANDARD, 31) + "> ")
     it.step("the way back", '(COMMON-LISP:IN-PACKAGE "CL-USER")\n', '"COMMON-LISP-USER"\n', "> ")
     it.step("a readtable in which each form is a comment", "(SET-SYNTAX-FROM-CHAR #\\( #\\;)\n", "T\n", "> ")
     it.step("forms that are comments", "(LIST 1)\n" * 4, "", ". . . " + UNANSWERED + ". ")
@@ -292,7 +298,7 @@ with tempfile.TemporaryDirectory() as room:
     it.end("its end", CONTROL_D, "", "\n", 0)
 
     it = Terminal("run", store, "--quiet")
-    it.step("refusals alone", "(GET 'A 'B)\n(FROB)\n(GET 'A 'B)\n", "! 31 UNKNOWN-OPERATOR\n", WELCOME + "> > " + UNKNOWN_OPERATOR + "> > ")
+    it.step("refusals alone", "(GET 'A 'B)\n(FROB)\n(GET 'A 'B)\n", "! 31 UNKNOWN-OPERATOR\n", WELCOME + "> > " + TOLD % (2, 1, 31, "no operator FROB", 31) + "> > ")
     it.step("a refusal by the reader", ")\n", "! 4 STRAY-CLOSE\n", REFUSED % (4, 1, "4 STRAY-CLOSE", 4, 4, 1) + DROPPED + "> ")
     it.end("and their count", CONTROL_D, "", "\nanswers 4 refusals 2\n", 0)
 
@@ -305,6 +311,11 @@ with tempfile.TemporaryDirectory() as room:
     piped = subprocess.run([program, "run", store], input=b"(GET 'A 'B)\n) 5\n", capture_output=True)
     told = REFUSED % (2, 1, "4 STRAY-CLOSE", 2, 2, 1)
     check("a pipe", (piped.stdout, piped.stderr, piped.returncode), (b"9\n! 4 STRAY-CLOSE\n", told.encode(), 1))
+
+    # why a form is refused is told through a pipe where somebody asks for it, and not else
+    for asked, told in ("", ""), ("told", TOLD % (1, 1, 31, "no operator FROB", 31)):
+        piped = subprocess.run([program, "run", store], input=b"(FROB)\n", capture_output=True, env={**os.environ, "PAZTURROK_REASONS": asked})
+        check(f"a refused form, asked: {asked}", (piped.stdout, piped.stderr), (b"! 31 UNKNOWN-OPERATOR\n", told.encode()))
 
     # control characters of a word do not reach the terminal
     told = subprocess.run([program, "run", store, "--\x1b[31mred\x9b"], capture_output=True)
