@@ -12,6 +12,7 @@ import types
 
 from cluster import LONG, Client
 from refusals import ADD, begun, stuck_at, value
+from watched import until
 
 sys.path.append(os.path.join(os.path.dirname(os.path.abspath(__file__)), "..", "..", "cluster"))
 
@@ -86,6 +87,8 @@ def anew(folder, program):
     try:
         number, told = Client(cluster.places).request(b"do again", ADD)
         trimmed(cluster, 0, revision(cluster, number))
+        # the key of a trim comes before the deletes that it is for
+        until(lambda: "again" not in cluster.keys("log/"))
         later, answer = Client(cluster.places).request(b"do again", ADD)
         return [] if (told, answer) == ("6", "7") and later > number else [f"answers to one name: {number} {told}, {later} {answer}"]
     finally:
