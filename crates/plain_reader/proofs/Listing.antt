@@ -1,18 +1,18 @@
 -- What the calls that read lists and quoted objects take, from what those in them do.
-use Rattle.std.proofs.Common.{◌≡◌, ℕ, suc, ◌-◌, ◌<◌, ◌≤◌, Bool, true, false, List, [], ◌∷◌, ◌++◌, length, take, drop, get_or, Option, Some, None, Result, Ok, Err, IfOk, IfSome, sym, subst, arith}
+use Rattle.std.proofs.Common.{◌≡◌, ℕ, suc, ◌-◌, ◌<◌, ◌≤◌, Bool, true, false, List, [], ◌∷◌, ◌++◌, length, take, drop, get_or, Option, Some, None, IfSome, sym, ap, subst, ◌∙◌, arith}
 use Rattle.std.specs.Prelude.{codes}
-use Rattle.std.specs.declared.alloc.AllocError.{AllocError}
 use Rattle.std.proofs.lemmas.Bool.{ne_eqb}
-use Rattle.lisp_object.specs.Object.{Object}
+use Rattle.lisp_object.specs.Object.{Object, symbol, list_of}
 use Rattle.std_macros.specs.Values.{headed}
 use Rattle.lisp_reading.specs.declared.found.Found.TheVariants.{One as one}
 use Rattle.lisp_reading.specs.Plans.{gives}
 use Rattle.lisp_reading.specs.Setting.{Setting}
 use Rattle.lisp_reading.specs.Reading.{is_whitespace, attempt}
 use Rattle.plain_reader.specs.Coming.{ComesTo}
-use Rattle.plain_reader.specs.Plain.{setting, Takes, Gathers, Closes, items_from}
+use Rattle.plain_reader.specs.Plain.{setting, Gathers, Closes, TakesList, Puts, items_from}
+use Rattle.plain_reader.specs.Direct.{TakesObject}
 use Rattle.plain_reader.specs.declared.context.Context.{Context}
-use Rattle.plain_reader.specs.declared.objects.Taken.{Taken}
+use Rattle.plain_reader.specs.declared.objects.ClosedList.{ClosedList}
 use Rattle.plain_reader.proofs.Calls.{list_taken, quote_taken}
 use Rattle.plain_reader.proofs.Coming.{onward}
 use Rattle.plain_reader.proofs.Fronts.{rest_is}
@@ -34,32 +34,56 @@ object_at setting room xs ys (c ∷ cs) rest token x some other closes e comes =
     subst (λ ys. ComesTo setting (items_from setting room xs) (c ∷ cs) (items_from setting room ys) rest) (sym e)
     (object_items setting room xs c cs rest token x closes (ne_eqb c 41 other) comes)
 
-pub list_closes : (with : Context) (room : ℕ) (text rest : List ℕ) (xs : List Object) (result : Result (Option Taken) AllocError) → 0 < room
-    → Gathers with (room - 1) [] text xs rest → IfOk result (λ found. IfSome found (Closes with (room - 1) xs rest))
-    → IfOk result (λ found. IfSome found (Takes with room (40 ∷ text)))
-list_closes with room text rest xs (Err e) some gathers closes = tt
-list_closes with room text rest xs (Ok None) some gathers closes = tt
-list_closes with room text rest xs (Ok (Some t)) some gathers closes = λ functions.
+pub list_closes : (with : Context) (room : ℕ) (text rest : List ℕ) (xs : List Object) (result : Option ClosedList) → 0 < room
+    → Gathers with (room - 1) [] text xs rest → ((setting : Setting) (room : ℕ) → IfSome result (λ g. Closes setting room xs rest g.rest.now))
+    → IfSome result (λ g. g.items ≡ xs) → IfSome result (λ g. TakesList with room text g.items g.rest.now)
+list_closes with room text rest xs None some gathers closes items = tt
+list_closes with room text rest xs (Some g) some gathers closes items = λ functions.
     let here = setting with functions in
     let more : suc (room - 1) ≡ room = omega arith in
-    subst (λ n. ComesTo here (attempt here n) (40 ∷ text) (gives (one t.token t.object)) t.rest.now) more
-    (subst (λ (b : Bool). ComesTo here (attempt here (suc (room - 1))) (40 ∷ text) (gives (one b t.object)) t.rest.now) (sym (closes functions).1)
-    (subst (λ (x : Object). ComesTo here (attempt here (suc (room - 1))) (40 ∷ text) (gives (one false x)) t.rest.now) (sym (closes functions).2)
-    (list_taken here (room - 1) text t.rest.now xs with.sound with.lists
-    (onward here (items_from here (room - 1) []) (items_from here (room - 1) xs) (gives (xs, true)) text rest t.rest.now (gathers functions) (closes functions).0))))
+    subst (λ n. ComesTo here (attempt here n) (40 ∷ text) (gives (one false (list_of g.items))) g.rest.now) more
+    (subst (λ (ys : List Object). ComesTo here (attempt here (suc (room - 1))) (40 ∷ text) (gives (one false (list_of ys))) g.rest.now) (sym items)
+    (list_taken here (room - 1) text g.rest.now xs with.sound with.lists
+    (onward here (items_from here (room - 1) []) (items_from here (room - 1) xs) (gives (xs, true)) text rest g.rest.now (gathers functions) (closes here (room - 1)))))
 
-pub shorter_still : (text rest : List ℕ) (result : Result (Option Taken) AllocError) → length rest ≤ length text
-    → IfOk result (λ found. IfSome found (λ t. length t.rest.now < length rest)) → IfOk result (λ found. IfSome found (λ t. length t.rest.now < length text))
-shorter_still text rest (Err e) within shorter = tt
-shorter_still text rest (Ok None) within shorter = tt
-shorter_still text rest (Ok (Some t)) within shorter = omega (arith, shorter)
+pub shorter_still : (text rest : List ℕ) (result : Option ClosedList) → length rest ≤ length text
+    → IfSome result (λ g. length g.rest.now < length rest) → IfSome result (λ g. length g.rest.now < length text)
+shorter_still text rest None within shorter = tt
+shorter_still text rest (Some g) within shorter = omega (arith, shorter)
 
-pub quote_at : (with : Context) (room : ℕ) (text : List ℕ) (t : Taken) (x : Object) (functions : _) → 0 < room → with.quotes ≡ true
-    → x ≡ headed (codes "QUOTE") t.object → Takes with (room - 1) text t
-    → ComesTo (setting with functions) (attempt (setting with functions) room) (39 ∷ text) (gives (one t.token x)) t.rest.now
-quote_at with room text t x functions some quotes e takes =
+-- what an attempt takes is put to the items of a list
+pub put_object : (with : Context) (room : ℕ) (xs ys : List Object) (text rest : List ℕ) → 1 ≤ length text → (get_or text 0 0 ≡ 41 → ⊥)
+    → is_whitespace with.readtable.now 41 ≡ false → Puts with room xs text ys rest → Gathers with room xs text ys rest
+put_object with room xs ys text rest some other closes puts = λ functions.
+    object_at (setting with functions) room xs ys text rest puts.token puts.object some other closes puts.items (puts.takes functions)
+
+pub quote_at : (with : Context) (room : ℕ) (text rest : List ℕ) (token : Bool) (x : Object) (functions : _) → 0 < room → with.quotes ≡ true
+    → ((functions : _) → ComesTo (setting with functions) (attempt (setting with functions) (room - 1)) text (gives (one token x)) rest)
+    → ComesTo (setting with functions) (attempt (setting with functions) room) (39 ∷ text) (gives (one token (headed (codes "QUOTE") x))) rest
+quote_at with room text rest token x functions some quotes takes =
     let here = setting with functions in
     let more : suc (room - 1) ≡ room = omega arith in
-    subst (λ n. ComesTo here (attempt here n) (39 ∷ text) (gives (one t.token x)) t.rest.now) more
-    (subst (λ (x : Object). ComesTo here (attempt here (suc (room - 1))) (39 ∷ text) (gives (one t.token x)) t.rest.now) (sym e)
-    (quote_taken here (room - 1) text t.rest.now t.token t.object with.sound (with.quoting quotes) (takes functions)))
+    subst (λ n. ComesTo here (attempt here n) (39 ∷ text) (gives (one token (headed (codes "QUOTE") x))) rest) more
+    (quote_taken here (room - 1) text rest token x with.sound (with.quoting quotes) (takes functions))
+
+-- an object that is read behind a quote is put to the items with its quote
+pub put_quote : (with : Context) (room : ℕ) (xs ys both : List Object) (x : Object) (text rest : List ℕ) → 0 < room → with.quotes ≡ true
+    → Puts with (room - 1) (symbol (codes "COMMON-LISP") (codes "QUOTE") ∷ []) text both rest → x ≡ list_of both → ys ≡ xs ++ x ∷ []
+    → Puts with room xs (39 ∷ text) ys rest
+put_quote with room xs ys both x text rest some quotes puts is items = record {
+  token = puts.token;
+  object = headed (codes "QUOTE") puts.object;
+  items = subst (λ (x : Object). ys ≡ xs ++ x ∷ []) (is ∙ ap list_of puts.items) items;
+  takes = λ functions. quote_at with room text rest puts.token puts.object functions some quotes puts.takes;
+}
+
+-- an object that alone is put to no items is what an attempt takes
+pub only_put : (with : Context) (room : ℕ) (text rest : List ℕ) (xs ys : List Object) (x : Object) → xs ≡ [] → ys ≡ x ∷ [] → Puts with room xs text ys rest
+    → (token : Bool) × TakesObject with room text token x rest
+only_put with room text rest xs ys x none is puts =
+    let same : x ≡ puts.object = ap (λ (l : List Object). get_or l 0 x) (sym is ∙ puts.items ∙ ap (λ (l : List Object). l ++ puts.object ∷ []) none) in (
+      puts.token,
+      λ functions.
+          subst (λ (y : Object). ComesTo (setting with functions) (attempt (setting with functions) room) text (gives (one puts.token y)) rest) (sym same)
+          (puts.takes functions),
+    )

@@ -1,8 +1,9 @@
 -- A token that is a word is a name.
-use Rattle.std.proofs.Common.{◌≡◌, ℕ, ◌+◌, ◌-◌, ◌*◌, ◌^◌, ◌<◌, ◌≤◌, pos, length, take, get_or, lit≤, add-one, length-append, Bool, true, false, not, ◌||◌, List, [], ◌∷◌, ◌++◌, map, None, Some, Ok, Err, refl, sym, ap, ◌∙◌, arith}
+use Rattle.std.proofs.Common.{◌≡◌, ℕ, ◌+◌, ◌-◌, ◌*◌, ◌^◌, ◌<◌, ◌≤◌, pos, length, take, get_or, lit≤, add-one, length-append, Bool, true, false, not, ◌||◌, List, [], ◌∷◌, ◌++◌, map, None, Some, Result, Ok, Err, IfOk, refl, sym, ap, ◌∙◌, arith}
 use Rattle.std.specs.Prelude.{◌==◌, if◌then◌else◌, nat_lt, nat_le}
 use Rattle.std.specs.List.{list_all, list_any, slice_split}
 use Rattle.std.specs.Char.{digit_value}
+use Rattle.std.specs.declared.alloc.AllocError.{AllocError}
 use Rattle.std.proofs.lemmas.Bool.{and_parts, and_from, not-true, ltb-true, lt-ltb, le-ltb, leb-true, ne_eqb}
 use Rattle.std.proofs.lemmas.Bool.Decides.{nat_tests}
 use Rattle.std.proofs.lemmas.List.{take_all, take_more}
@@ -53,6 +54,26 @@ upper_by c false e h = h
 
 upper_beyond : (c : ℕ) → 58 ≤ c → 58 ≤ upper_case c
 upper_beyond c h = upper_by c (is_lower_case c) refl h
+
+-- where there is no lower-case letter, nothing becomes upper-case
+same_upper : (c : ℕ) → is_lower_case c ≡ false → upper_case c ≡ c
+same_upper c e = ap (λ b. if b then c - 32 else c) e
+
+neither : (b d : Bool) → (b || d) ≡ false → (b ≡ false) × (d ≡ false)
+neither false false e = (refl, refl)
+neither false true e = absurd cc
+neither true d e = absurd cc
+
+pub no_lower : (cs : List ℕ) → list_any is_lower_case cs ≡ false → map upper_case cs ≡ cs
+no_lower [] e = refl
+no_lower (c ∷ cs) e =
+    let both : (is_lower_case c ≡ false) × (list_any is_lower_case cs ≡ false) = neither (is_lower_case c) (list_any is_lower_case cs) e in
+    λ i. same_upper c both.0 i ∷ no_lower cs both.1 i
+
+pub same_name : (bytes : List ℕ) (result : Result (List ℕ) AllocError) → list_any is_lower_case bytes ≡ false → IfOk result (λ b. b ≡ bytes)
+    → IfOk result (λ b. b ≡ map upper_case bytes)
+same_name bytes (Err e) none is = tt
+same_name bytes (Ok b) none is = is ∙ sym (no_lower bytes none)
 
 -- ---- marks of plain characters
 

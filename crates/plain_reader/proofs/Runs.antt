@@ -1,13 +1,15 @@
 -- A token without escapes: where it ends, and what reading it gives.
 use Rattle.std.proofs.Common.{◌≡◌, ℕ, ◌+◌, ◌-◌, ◌<◌, ◌≤◌, Bool, true, false, List, [], ◌∷◌, ◌++◌, length, map, take, drop, Result, Ok, Err, IsTrue, refl, sym, ap, subst, ◌∙◌, arith, length-append, append_assoc, length-take-le, get_or}
-use Rattle.std.specs.Prelude.{nat_le, nat_lt, not, if◌then◌else◌}
+use Rattle.std.specs.Prelude.{◌==◌, ◌||◌, nat_le, nat_lt, not, if◌then◌else◌}
 use Rattle.std.specs.List.{list_all}
 use Rattle.std.proofs.lemmas.Bool.{le-leb, and_parts, and_from, not-true}
 use Rattle.std.proofs.lemmas.List.Folds.{list_all_more}
 use Rattle.lisp_object.specs.Ascii.{is_ascii}
 use Rattle.std.proofs.lemmas.List.{take-append-drop, at_drop_more}
 use Rattle.lisp_object.specs.Object.{Object}
-use Rattle.readtable_core.specs.Characters.{has_invalid_trait}
+use Rattle.readtable_core.specs.Characters.{has_invalid_trait, is_digit, is_invalid, is_lower_case, is_upper_case}
+use Rattle.readtable_core.specs.declared.characters.Traits.{Traits}
+use Rattle.readtable_core.specs.declared.characters.Traits.TheVariants.{Invalid as InvalidTrait, PackageMarker, PlusSign, MinusSign, RatioMarker, Dot, Digit, Letter, Alphabetic}
 use Rattle.readtable_core.specs.Tables.{Table, entry_at}
 use Rattle.readtable_core.specs.declared.characters.Syntax.{Syntax}
 use Rattle.readtable_core.specs.declared.characters.Syntax.TheVariants.{Constituent, Invalid}
@@ -158,3 +160,25 @@ marks_ascii [] e = refl
 marks_ascii (b ∷ bs) e =
     let both : (is_ascii b ≡ true) × (list_all is_ascii bs ≡ true) = and_parts (is_ascii b) (list_all is_ascii bs) e in
     and_from (is_ascii b) (are_ascii (marks_of bs)) both.0 (marks_ascii bs both.1)
+
+-- ---- which bytes are refused
+
+-- the other traits are not refused
+others : (b0 b1 b2 b3 b4 b5 b6 : Bool) → is_invalid (if b0 then PackageMarker else (if b1 then PlusSign else (if b2 then MinusSign else (if b3 then RatioMarker else (if b4 then Dot else (if b5 then Digit else (if b6 then Letter else Alphabetic))))))) ≡ false
+others true _ _ _ _ _ _ = refl
+others false true _ _ _ _ _ = refl
+others false false true _ _ _ _ = refl
+others false false false true _ _ _ = refl
+others false false false false true _ _ = refl
+others false false false false false true _ = refl
+others false false false false false false true = refl
+others false false false false false false false = refl
+
+pub refused_by : (c : ℕ) (b : Bool) → (nat_le c 32 || nat_le 127 c) ≡ b → b ≡ has_invalid_trait c
+refused_by c b is = by b is where
+  rest : Traits
+  rest = if c == 58 then PackageMarker else (if c == 43 then PlusSign else (if c == 45 then MinusSign else (if c == 47 then RatioMarker else (if c == 46 then Dot else (if is_digit c then Digit else (if is_upper_case c || is_lower_case c then Letter else Alphabetic))))))
+
+  by : (b : Bool) → (nat_le c 32 || nat_le 127 c) ≡ b → b ≡ has_invalid_trait c
+  by true is = sym (ap (λ b. is_invalid (if b then InvalidTrait else rest)) is)
+  by false is = sym (ap (λ b. is_invalid (if b then InvalidTrait else rest)) is ∙ others (c == 58) (c == 43) (c == 45) (c == 47) (c == 46) (is_digit c) (is_upper_case c || is_lower_case c))

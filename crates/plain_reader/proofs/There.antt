@@ -2,8 +2,9 @@
 --     symbol_there, found_there      a symbol that is present in its home, and one that a name stands for
 --     list_there, headed_there      lists of such objects, and quoted ones
 --     more_there      one more such object
---     still_same, still_list, still_more      after a call that changes nothing, after one that closes a list, after two calls
-use Rattle.std.proofs.Common.{◌≡◌, Bool, true, false, cond, Option, None, Some, Result, Ok, Err, IfOk, IfSome, List, [], ◌∷◌, ◌++◌, codes, bytes_eq, refl, sym, ap, ◌∙◌}
+--     still_list, still_more      after a call that closes a list, after two calls
+--     one_put, list_put, quoted_put      an object, a list and a quoted object that are put to items
+use Rattle.std.proofs.Common.{◌≡◌, Bool, true, false, cond, Option, None, Some, Result, Ok, Err, IfSome, List, [], ◌∷◌, ◌++◌, codes, bytes_eq, refl, sym, ap, subst, ◌∙◌}
 use Rattle.std.specs.Prelude.{◌&&◌}
 use Rattle.std.specs.List.{list_all}
 use Rattle.std.specs.Option.{option_map, option_map_or}
@@ -21,10 +22,9 @@ use Rattle.package_table.proofs.FirstNames.{lisp_present, nil_present}
 use Rattle.package_table.proofs.Frames.{equal_itself}
 use Rattle.package_table.proofs.Names.{same_some, none_some}
 use Rattle.package_table.proofs.Keeping.{present_at_home}
-use Rattle.std.specs.declared.alloc.AllocError.{AllocError}
 use Rattle.std_macros.specs.Values.{headed}
 use Rattle.plain_reader.specs.declared.context.Context.{Context}
-use Rattle.plain_reader.specs.declared.objects.Taken.{Taken}
+use Rattle.plain_reader.specs.declared.objects.ClosedList.{ClosedList}
 use Rattle.plain_reader.specs.Plain.{AreThere, AllAreThere, IfStill}
 
 -- both of two tests
@@ -80,12 +80,47 @@ headed_there t x sound there =
 pub more_there : (t : Table) (xs : List Object) (x : Object) → list_all (are_there t) xs ≡ true → are_there t x ≡ true → list_all (are_there t) (xs ++ x ∷ []) ≡ true
 more_there t xs x all there = list_all-append (are_there t) xs (x ∷ []) ∙ both (list_all (are_there t) xs) (are_there t x && true) all (both (are_there t x) true there refl)
 
-pub still_list : (with : Context) (xs : List Object) (before after : Bool) (result : Result (Option Taken) AllocError)
-    → IfOk result (λ found. IfSome found (λ t. AllAreThere with xs → AreThere with t.object)) → IfStill before after (AllAreThere with xs)
-    → IfOk result (λ found. IfStill before after (IfSome found (λ t. AreThere with t.object)))
-still_list with xs before after (Err e) there still = tt
-still_list with xs before after (Ok None) there still = λ e. ((still e).0, tt)
-still_list with xs before after (Ok (Some t)) there still = λ e. ((still e).0, there (still e).1)
+pub still_list : (with : Context) (xs : List Object) (before after : Bool) (result : Option ClosedList)
+    → IfSome result (λ g. g.items ≡ xs) → IfStill before after (AllAreThere with xs) → IfStill before after (IfSome result (λ g. AllAreThere with g.items))
+still_list with xs before after None items still = λ e. ((still e).0, tt)
+still_list with xs before after (Some g) items still = λ e. ((still e).0, subst (λ (ys : List Object). AllAreThere with ys) (sym items) (still e).1)
+
+-- a quoted object is there, and it is put to items that are
+pub quoted_put : (with : Context) (xs ys pair_of : List Object) (x : Object) (before after : Bool) → IsSound with.packages.now.0 → x ≡ list_of pair_of → ys ≡ xs ++ x ∷ []
+    → IfStill before after (AllAreThere with (symbol common_lisp (codes "QUOTE") ∷ []) → AllAreThere with pair_of)
+    → IfStill before after (AllAreThere with xs → AllAreThere with ys)
+quoted_put with xs ys pair_of x before after sound is items still = λ e. (
+  (still e).0,
+  λ all.
+      let t = with.packages.now.0 in
+      let quote : AllAreThere with (symbol common_lisp (codes "QUOTE") ∷ []) = both (are_there t (symbol common_lisp (codes "QUOTE"))) true (quote_there t sound) refl in
+      subst (λ (zs : List Object). AllAreThere with zs) (sym items)
+      (more_there t xs x all (subst (λ (x : Object). are_there t x ≡ true) (sym is) (list_there t pair_of sound ((still e).1 quote)))),
+)
+
+-- one more object that is there is put to items
+pub one_put : (with : Context) (xs ys : List Object) (x : Object) (before after : Bool) → ys ≡ xs ++ x ∷ [] → IfStill before after (AreThere with x)
+    → IfStill before after (AllAreThere with xs → AllAreThere with ys)
+one_put with xs ys x before after items still = λ e. (
+  (still e).0,
+  λ all. subst (λ (zs : List Object). AllAreThere with zs) (sym items) (more_there with.packages.now.0 xs x all (still e).1),
+)
+
+-- a list of objects that are there is put to items
+pub list_put : (with : Context) (xs ys inner : List Object) (x : Object) (before after : Bool) → IsSound with.packages.now.0 → x ≡ list_of inner → ys ≡ xs ++ x ∷ []
+    → IfStill before after (AllAreThere with inner) → IfStill before after (AllAreThere with xs → AllAreThere with ys)
+list_put with xs ys inner x before after sound is items still =
+    one_put with xs ys x before after items
+    (λ e. ((still e).0, subst (λ (x : Object). are_there with.packages.now.0 x ≡ true) (sym is) (list_there with.packages.now.0 inner sound (still e).1)))
+
+-- an object that alone is put to no items is there
+pub only_there : (with : Context) (xs ys : List Object) (x : Object) (before after : Bool) → xs ≡ [] → ys ≡ x ∷ []
+    → IfStill before after (AllAreThere with xs → AllAreThere with ys) → IfStill before after (AreThere with x)
+only_there with xs ys x before after none is still = λ e. (
+  (still e).0,
+  (and_parts (are_there with.packages.now.0 x) true
+      (subst (λ (l : List Object). AllAreThere with l) is ((still e).1 (subst (λ (l : List Object). AllAreThere with l) (sym none) refl)))).0,
+)
 
 pub still_more : {a b c : Bool} {P Q : Type 0} → IfStill a b P → IfStill b c (P → Q) → IfStill a c Q
 still_more first then known =

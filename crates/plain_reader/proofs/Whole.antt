@@ -1,6 +1,6 @@
 -- A list at the beginning of a text is the form that the text begins with.
 use Rattle.std.proofs.Common.{◌≡◌, ℕ, suc, ◌+◌, ◌-◌, ◌≤◌, Bool, false, List, ◌++◌, length, Option, Some, IfSome, Ok, refl, sym, ap, subst, ◌∙◌, arith}
-use Rattle.lisp_object.specs.Object.{Object}
+use Rattle.lisp_object.specs.Object.{Object, list_of}
 use Rattle.lisp_reading.specs.declared.found.Found.TheVariants.{One as one}
 use Rattle.lisp_reading.specs.Plans.{gives, run}
 use Rattle.readtable_core.specs.Tables.{Table}
@@ -11,7 +11,7 @@ use Rattle.lisp_reading.specs.Setting.{Setting, setting_of}
 use Rattle.lisp_reading.specs.Reading.{attempt, form, outcome, reads_in, reads}
 use Rattle.plain_reader.specs.Coming.{ComesTo}
 use Rattle.plain_reader.specs.declared.forms.TakenForm.{TakenForm}
-use Rattle.plain_reader.specs.declared.objects.Taken.{Taken}
+use Rattle.plain_reader.specs.declared.objects.ClosedList.{ClosedList}
 use Rattle.plain_reader.specs.Direct.{object_of_direct}
 
 pub form_given : (setting : Setting) (text rest more : List ℕ) (token : Bool) (x : Object) (end : ℕ) → length text ≤ setting.limits.text → token ≡ false
@@ -29,20 +29,19 @@ form_given setting text rest more token x end fits is_false at comes =
     ∙ (λ i. form x 0 (next i) (after i))
 
 -- of what a list was read as, whatever the functions of users are
-pub form_taken : (limits : Limits) (table : Table) (base : ℕ) (packages : Packages) (current : Name) (text start more : List ℕ) (o : Option Taken) (t : Taken) (x : Object)
-    (functions : Functions) → length text ≤ limits.text → start ≡ text → o ≡ Some t → x ≡ t.object → IfSome o (λ t. t.token ≡ false)
-    → IfSome o (λ t. (functions : Functions) → let setting = setting_of limits table base packages current functions in
-    ComesTo setting (attempt setting limits.nesting) start (gives (one t.token t.object)) t.rest.now)
-    → reads (setting_of limits table base packages current functions) (text ++ more) ≡ form x 0 (length text - length t.rest.now) (length text - length t.rest.now)
-form_taken limits table base packages current text start more o t x functions fits whole is object token takes =
+pub form_taken : (limits : Limits) (table : Table) (base : ℕ) (packages : Packages) (current : Name) (text start more : List ℕ) (o : Option ClosedList) (g : ClosedList) (x : Object)
+    (functions : Functions) → length text ≤ limits.text → start ≡ text → o ≡ Some g → x ≡ list_of g.items
+    → IfSome o (λ g. (functions : Functions) → let setting = setting_of limits table base packages current functions in
+    ComesTo setting (attempt setting limits.nesting) start (gives (one false (list_of g.items))) g.rest.now)
+    → reads (setting_of limits table base packages current functions) (text ++ more) ≡ form x 0 (length text - length g.rest.now) (length text - length g.rest.now)
+form_taken limits table base packages current text start more o g x functions fits whole is object takes =
     let setting = setting_of limits table base packages current functions in
-    let plain : t.token ≡ false = subst (λ o. IfSome o (λ (t : Taken). t.token ≡ false)) is token in
-    let comes : ComesTo setting (attempt setting limits.nesting) start (gives (one t.token t.object)) t.rest.now =
-    subst (λ o. IfSome o (λ (t : Taken). (functions : Functions) → let setting = setting_of limits table base packages current functions in
-    ComesTo setting (attempt setting limits.nesting) start (gives (one t.token t.object)) t.rest.now)) is takes functions in
-    form_given setting text t.rest.now more t.token t.object (length text - length t.rest.now) fits plain refl
-    (subst (λ cs. ComesTo setting (attempt setting limits.nesting) cs (gives (one t.token t.object)) t.rest.now) whole comes)
-    ∙ ap (λ (x : Object). form x 0 (length text - length t.rest.now) (length text - length t.rest.now)) (sym object)
+    let comes : ComesTo setting (attempt setting limits.nesting) start (gives (one false (list_of g.items))) g.rest.now =
+    subst (λ o. IfSome o (λ (g : ClosedList). (functions : Functions) → let setting = setting_of limits table base packages current functions in
+    ComesTo setting (attempt setting limits.nesting) start (gives (one false (list_of g.items))) g.rest.now)) is takes functions in
+    form_given setting text g.rest.now more false (list_of g.items) (length text - length g.rest.now) fits refl refl
+    (subst (λ cs. ComesTo setting (attempt setting limits.nesting) cs (gives (one false (list_of g.items))) g.rest.now) whole comes)
+    ∙ ap (λ (x : Object). form x 0 (length text - length g.rest.now) (length text - length g.rest.now)) (sym object)
 
 -- of what was not made, whatever the functions of users are
 pub direct_taken : (limits : Limits) (table : Table) (base : ℕ) (packages : Packages) (current : Name) (text start more : List ℕ) (o : Option TakenForm) (t : TakenForm)

@@ -1,5 +1,5 @@
 -- What reading a plain form comes to.
-use Rattle.std.specs.Prelude.{ℕ, ◌≡◌, ◌<◌, Bool, List, true, false, length}
+use Rattle.std.specs.Prelude.{ℕ, ◌≡◌, ◌<◌, Bool, List, [], ◌∷◌, ◌++◌, true, false, length}
 use Rattle.std.specs.List.{list_all}
 use Rattle.lisp_object.specs.Object.{Object, list_of}
 use Rattle.package_table.specs.Symbols.{are_there}
@@ -32,11 +32,22 @@ Gathers with room xs text ys rest =
     (functions : Functions) → let setting = setting with functions in
     ComesTo setting (items_from setting room xs) text (items_from setting room ys) rest
 
--- a list of these items is closed at the front of the text, whatever the functions are
-abbrev pub Closes : Context → ℕ → List Object → List ℕ → Taken → Type 0
-Closes with room xs text t =
-    (functions : Functions) → ComesTo (setting with functions) (items_from (setting with functions) room xs) text (gives (xs, true)) t.rest.now
-    × (t.token ≡ false) × (t.object ≡ list_of xs)
+-- a list of these items is closed at the front of the text
+abbrev pub Closes : Setting → ℕ → List Object → List ℕ → List ℕ → Type 0
+Closes setting room xs text rest = ComesTo setting (items_from setting room xs) text (gives (xs, true)) rest
+
+-- a list whose opening parenthesis was before the text, where so many calls may be opened, has these items, whatever the functions are
+abbrev pub TakesList : Context → ℕ → List ℕ → List Object → List ℕ → Type 0
+TakesList with room text xs rest =
+    (functions : Functions) → let setting = setting with functions in
+    ComesTo setting (attempt setting room) (40 ∷ text) (gives (one false (list_of xs))) rest
+
+-- an object that an attempt takes from the text is put behind these items, whatever the functions are
+pub record Puts (with : Context) (room : ℕ) (xs : List Object) (text : List ℕ) (ys : List Object) (rest : List ℕ) : Type 0 where
+  pub token : Bool
+  pub object : Object
+  pub items : ys ≡ xs ++ object ∷ []
+  pub takes : (functions : Functions) → ComesTo (setting with functions) (attempt (setting with functions) room) text (gives (one token object)) rest
 
 -- less of the text is left
 abbrev pub LeavesLess : List ℕ → Taken → Type 0

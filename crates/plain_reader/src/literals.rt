@@ -8,9 +8,10 @@ ghost use Rattle.plain_reader.specs.SelfEvaluating.{is_self_evaluating};
 
 use crate::context::Context;
 use crate::direct::Literal;
-use crate::objects::{Taken, is_blank, object, string};
+use crate::objects::{Taken, is_blank, put, spells, string};
 use crate::tokens::token;
 use lisp_object::Datum;
+use lisp_reading::{HeldObject, HeldObjects};
 use std::alloc::AllocError;
 
 /// A literal, and the text after it.
@@ -67,15 +68,33 @@ fn quoted<'a>(
         return Ok(None);
     }
     with.packages.soundness();
-    match object(with, room - 1, known, text)? {
+    let mut items = HeldObjects::new(with.alloc);
+    match put(with, room - 1, known, &mut items, text)? {
         None => Ok(None),
-        Some(taken) => Ok(Some(ReadLiteral {
-            literal: Literal {
-                datum: taken.object.into_datum(),
-                is_quoted: true,
-            },
-            rest: taken.rest,
-        })),
+        Some(rest) => match only(items) {
+            None => Ok(None),
+            Some(object) => Ok(Some(ReadLiteral {
+                literal: Literal {
+                    datum: object.into_datum(),
+                    is_quoted: true,
+                },
+                rest,
+            })),
+        },
+    }
+}
+
+// The object, where there is one alone.
+fn only(items: HeldObjects) -> Option<HeldObject>
+    ensures { IfSome result (λ x. items ≡ x ∷ []) }
+{
+    let mut data = items.into_items().into_vec();
+    if data.len() != 1 {
+        return None;
+    }
+    match data.pop() {
+        None => None,
+        Some(datum) => Some(HeldObject::new(datum)),
     }
 }
 
@@ -131,7 +150,7 @@ fn atom<'a>(
         (λ t. length t.rest.now < length text.now)) }
 {
     match text {
-        [c, rest @ ..] if *c == b'"' && with.texts => string(with, rest),
+        [c, rest @ ..] if *c == b'"' && spells(with.readtable) => string(with, rest),
         _ => token(with, known, text),
     }
 }

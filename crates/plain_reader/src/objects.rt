@@ -1,16 +1,21 @@
 //! Lists, quoted objects and texts.
-ghost use Rattle.std.specs.Prelude.{◌≡◌, ◌<◌, ℕ, ◌∷◌, length, false, None, IfOk, IfSome, IsTrue};
+ghost use Rattle.std.specs.Prelude.{◌≡◌, ◌<◌, ℕ, ◌∷◌, [], codes, length, None, Some, IfOk, IfSome, IsTrue};
+ghost use Rattle.lisp_object.specs.Object.{symbol};
+ghost use Rattle.readtable_core.specs.Names.{std_string};
+ghost use Rattle.readtable_core.specs.Tables.{entry_at};
 ghost use Rattle.lisp_reading.specs.Gathering.{is_escape};
+ghost use Rattle.lisp_reading.specs.Setting.{Setting};
 ghost use Rattle.lisp_reading.specs.Reading.{is_whitespace};
-ghost use Rattle.plain_reader.specs.Plain.{Takes, Gathers, Closes, LeavesLess, AreThere, AllAreThere, IfStill};
+ghost use Rattle.plain_reader.specs.Plain.{Takes, TakesList, Puts, Gathers, Closes, LeavesLess, AreThere, AllAreThere, IfStill};
 ghost use Rattle.plain_reader.specs.Texts.{is_letter, IsText};
 
 use crate::context::Context;
-use crate::tokens::token;
+use crate::tokens::put_token;
 use lisp_object::Bytes;
 use lisp_reading::{HeldObject, HeldObjects};
+use readtable_core::standard_names::STD_STRING;
 use readtable_core::{Readtable, Syntax};
-use std::alloc::AllocError;
+use std::alloc::{AllocError, Global};
 
 /// An object that was read: whether a token ends it, and the text after it.
 #[derive(Drop)]
@@ -20,41 +25,82 @@ pub(crate) struct Taken<'a> {
     pub rest: &'a [u8],
 }
 
-/// An object at the front of the text, where `room` more calls may be opened. `known` becomes false where it has a symbol that
-/// is in no package, or may be in none.
+/// The items of a list, and the text after it.
+#[derive(Drop)]
+pub(crate) struct ClosedList<'a> {
+    pub items: HeldObjects,
+    pub rest: &'a [u8],
+}
+
+/// An object at the front of the text, where `room` more calls may be opened, is put to the items of a list: it is not handed up.
+/// Gives the text after it. `known` becomes false where it has a symbol that is in no package, or may be in none.
 #[cycle(objects)]
-pub(crate) fn object<'a>(
+pub(crate) fn put<'a>(
     with: &Context<'_>,
     room: u32,
     known: &mut bool,
+    items: &mut HeldObjects,
     text: &'a [u8],
-) -> Result<Option<Taken<'a>>, AllocError>
-    ensures takes { IfOk result (λ found. IfSome found (Takes with.now room text.now)) }
-    ensures known { IfOk result (λ found. IfStill known.old known.new
-        (IfSome found (λ t. AreThere with.now t.object))) }
-    ensures shorter { IfOk result (λ found. IfSome found (LeavesLess text.now)) }
+) -> Result<Option<&'a [u8]>, AllocError>
+    ensures puts { IfOk result (λ found. IfSome found
+        (λ rest. Puts with.now room items.old text.now items.new rest.now)) }
+    ensures same { IfOk result (λ found. found ≡ None → items.new ≡ items.old) }
+    ensures known { IfOk result (λ _. IfStill known.old known.new
+        (AllAreThere with.now items.old → AllAreThere with.now items.new)) }
+    ensures shorter { IfOk result
+        (λ found. IfSome found (λ rest. length rest.now < length text.now)) }
 {
     match text {
-        [c, rest @ ..] if *c == b'(' => list(with, room, known, rest),
-        [c, rest @ ..] if *c == b'\'' && with.quotes => quoted(with, room, known, rest),
-        [c, rest @ ..] if *c == b'"' && with.texts => string(with, rest),
-        _ => token(with, known, text),
+        [c, rest @ ..] if *c == b'(' => put_list(with, room, known, items, rest),
+        [c, rest @ ..] if *c == b'\'' && with.quotes => put_quoted(with, room, known, items, rest),
+        [c, rest @ ..] if *c == b'"' && spells(with.readtable) => put_string(with, items, rest),
+        _ => put_token(with, known, items, text),
     }
 }
 
-/// A list, whose opening parenthesis was before the text.
+// A list is put to the items, whose opening parenthesis was before the text.
 #[cycle(objects)]
+fn put_list<'a>(
+    with: &Context<'_>,
+    room: u32,
+    known: &mut bool,
+    items: &mut HeldObjects,
+    text: &'a [u8],
+) -> Result<Option<&'a [u8]>, AllocError>
+    ensures puts { IfOk result (λ found. IfSome found
+        (λ rest. Puts with.now room items.old (40 ∷ text.now) items.new rest.now)) }
+    ensures same { IfOk result (λ found. found ≡ None → items.new ≡ items.old) }
+    ensures known { IfOk result (λ _. IfStill known.old known.new
+        (AllAreThere with.now items.old → AllAreThere with.now items.new)) }
+    ensures shorter { IfOk result
+        (λ found. IfSome found (λ rest. length rest.now < length text.now)) }
+{
+    match list(with, room, known, text)? {
+        None => Ok(None),
+        Some(gathered) => {
+            with.packages.soundness();
+            let list = gathered.items.into_list(with.alloc)?;
+            items.push(list)?;
+            Ok(Some(gathered.rest))
+        }
+    }
+}
+
+/// The items of a list, whose opening parenthesis was before the text.
+#[cycle(objects)]
+#[inline(never)]
 pub(crate) fn list<'a>(
     with: &Context<'_>,
     room: u32,
     known: &mut bool,
     text: &'a [u8],
-) -> Result<Option<Taken<'a>>, AllocError>
-    ensures takes { IfOk result (λ found. IfSome found (Takes with.now room (40 ∷ text.now))) }
+) -> Result<Option<ClosedList<'a>>, AllocError>
+    ensures takes { IfOk result (λ found. IfSome found
+        (λ g. TakesList with.now room text.now g.items g.rest.now)) }
     ensures known { IfOk result (λ found. IfStill known.old known.new
-        (IfSome found (λ t. AreThere with.now t.object))) }
-    ensures token { IfOk result (λ found. IfSome found (λ t. t.token ≡ false)) }
-    ensures shorter { IfOk result (λ found. IfSome found (LeavesLess text.now)) }
+        (IfSome found (λ g. AllAreThere with.now g.items))) }
+    ensures shorter { IfOk result (λ found. IfSome found
+        (λ g. length g.rest.now < length text.now)) }
 {
     if room == 0 {
         return Ok(None);
@@ -64,11 +110,12 @@ pub(crate) fn list<'a>(
     while let Some(more) = item(with, room - 1, known, &mut items, rest)? {
         rest = more;
     }
-    close(with, room - 1, items, rest)
+    Ok(close(items, rest))
 }
 
 /// What comes next in a list: whitespace, or an object, which is put to the items. None where neither comes.
 #[cycle(objects)]
+#[inline(always)]
 fn item<'a>(
     with: &Context<'_>,
     room: u32,
@@ -88,74 +135,103 @@ fn item<'a>(
         [] => Ok(None),
         [c, ..] if *c == b')' => Ok(None),
         [c, rest @ ..] if is_blank(with.readtable, *c) => Ok(Some(rest)),
-        _ => match object(with, room, known, text)? {
+        _ => match put(with, room, known, items, text)? {
             None => Ok(None),
-            Some(taken) => {
-                items.push(taken.object)?;
-                Ok(Some(taken.rest))
-            }
+            Some(rest) => Ok(Some(rest)),
         },
     }
 }
 
 /// The list of these items, where its closing parenthesis is at the front of the text.
-fn close<'a>(
-    with: &Context<'_>,
-    room: u32,
-    items: HeldObjects,
-    text: &'a [u8],
-) -> Result<Option<Taken<'a>>, AllocError>
-    ensures closes { IfOk result (λ found. IfSome found (Closes with.now room items text.now)) }
-    ensures there { IfOk result (λ found. IfSome found
-        (λ t. AllAreThere with.now items → AreThere with.now t.object)) }
-    ensures token { IfOk result (λ found. IfSome found (λ t. t.token ≡ false)) }
-    ensures shorter { IfOk result (λ found. IfSome found (LeavesLess text.now)) }
+fn close<'a>(items: HeldObjects, text: &'a [u8]) -> Option<ClosedList<'a>>
+    ensures closes { (setting : Setting) (room : ℕ) → IfSome result
+        (λ g. Closes setting room items text.now g.rest.now) }
+    ensures items { IfSome result (λ g. g.items ≡ items) }
+    ensures shorter { IfSome result (λ g. length g.rest.now < length text.now) }
 {
-    with.packages.soundness();
     match text {
-        [c, rest @ ..] if *c == b')' => Ok(Some(Taken {
-            token: false,
-            object: items.into_list(with.alloc)?,
-            rest,
-        })),
-        _ => Ok(None),
+        [c, rest @ ..] if *c == b')' => Some(ClosedList { items, rest }),
+        _ => None,
     }
 }
 
-/// A quoted object, whose quote was before the text.
+// A quoted object is put to the items, whose quote was before the text.
 #[cycle(objects)]
-fn quoted<'a>(
+fn put_quoted<'a>(
     with: &Context<'_>,
     room: u32,
     known: &mut bool,
+    items: &mut HeldObjects,
     text: &'a [u8],
-) -> Result<Option<Taken<'a>>, AllocError>
+) -> Result<Option<&'a [u8]>, AllocError>
     requires { IsTrue with.now.quotes }
-    ensures takes { IfOk result (λ found. IfSome found (Takes with.now room (39 ∷ text.now))) }
-    ensures known { IfOk result (λ found. IfStill known.old known.new
-        (IfSome found (λ t. AreThere with.now t.object))) }
-    ensures shorter { IfOk result (λ found. IfSome found (LeavesLess text.now)) }
+    ensures puts { IfOk result (λ found. IfSome found
+        (λ rest. Puts with.now room items.old (39 ∷ text.now) items.new rest.now)) }
+    ensures same { IfOk result (λ found. found ≡ None → items.new ≡ items.old) }
+    ensures known { IfOk result (λ _. IfStill known.old known.new
+        (AllAreThere with.now items.old → AllAreThere with.now items.new)) }
+    ensures shorter { IfOk result
+        (λ found. IfSome found (λ rest. length rest.now < length text.now)) }
 {
     if room == 0 {
         return Ok(None);
     }
     with.packages.soundness();
-    match object(with, room - 1, known, text)? {
+    let mut both = quotation(with.alloc)?;
+    match put(with, room - 1, known, &mut both, text)? {
         None => Ok(None),
-        Some(taken) => Ok(Some(Taken {
-            token: taken.token,
-            object: taken.object.quoted(with.alloc)?,
-            rest: taken.rest,
-        })),
+        Some(rest) => {
+            let quoted = both.into_list(with.alloc)?;
+            items.push(quoted)?;
+            Ok(Some(rest))
+        }
+    }
+}
+
+// The items of a quoted object before it: the symbol QUOTE.
+#[inline(always)]
+fn quotation(alloc: Global) -> Result<HeldObjects, AllocError>
+    ensures { IfOk result (λ xs. xs ≡ symbol (codes "COMMON-LISP") (codes "QUOTE") ∷ []) }
+{
+    let mut items = HeldObjects::with_capacity(alloc, 2)?;
+    let name = Bytes::from_slice(alloc, b"QUOTE")?;
+    let quote = HeldObject::symbol(alloc, b"COMMON-LISP", name)?;
+    items.push(quote)?;
+    Ok(items)
+}
+
+// A text is put to the items, whose first double quote was before the text.
+#[inline(never)]
+fn put_string<'a>(
+    with: &Context<'_>,
+    items: &mut HeldObjects,
+    text: &'a [u8],
+) -> Result<Option<&'a [u8]>, AllocError>
+    requires { (entry_at with.now.readtable.now 34).function ≡ Some std_string }
+    ensures puts { (room : ℕ) → IfOk result (λ found. IfSome found
+        (λ rest. Puts with.now room items.old (34 ∷ text.now) items.new rest.now)) }
+    ensures same { IfOk result (λ found. found ≡ None → items.new ≡ items.old) }
+    ensures there { IfOk result
+        (λ _. AllAreThere with.now items.old → AllAreThere with.now items.new) }
+    ensures shorter { IfOk result
+        (λ found. IfSome found (λ rest. length rest.now < length text.now)) }
+{
+    match string(with, text)? {
+        None => Ok(None),
+        Some(taken) => {
+            items.push(taken.object)?;
+            Ok(Some(taken.rest))
+        }
     }
 }
 
 /// A text without escapes, whose first double quote was before it.
+#[inline(never)]
 pub(crate) fn string<'a>(
     with: &Context<'_>,
     text: &'a [u8],
 ) -> Result<Option<Taken<'a>>, AllocError>
-    requires { IsTrue with.now.texts }
+    requires { (entry_at with.now.readtable.now 34).function ≡ Some std_string }
     ensures takes { (room : ℕ)
         → IfOk result (λ found. IfSome found (Takes with.now room (34 ∷ text.now))) }
     ensures there { IfOk result (λ found. IfSome found (λ t. AreThere with.now t.object)) }
@@ -168,6 +244,23 @@ pub(crate) fn string<'a>(
             object: HeldObject::text(Bytes::from_slice(with.alloc, &text[..count])?),
             rest: &text[count + 1..],
         })),
+    }
+}
+
+/// Whether a double quote begins a text.
+pub(crate) fn spells(readtable: &Readtable) -> bool
+    ensures { IsTrue result → (entry_at readtable.now 34).function ≡ Some std_string }
+{
+    calls(readtable, b'"', STD_STRING)
+}
+
+/// Whether the function of the macro character `c` has this name.
+pub(crate) fn calls(readtable: &Readtable, c: u8, name: &[u8]) -> bool
+    ensures { IsTrue result → (entry_at readtable.now c).function ≡ Some name.now }
+{
+    match readtable.macro_of(c) {
+        Some(function) => function.as_bytes() == name,
+        None => false,
     }
 }
 

@@ -1,10 +1,9 @@
 //! Plain forms.
-ghost use Rattle.std.specs.Prelude.{◌≡◌, ◌≤◌, ◌<◌, ℕ, List, ◌++◌, length, true, Some, None, Ok, IfOk, IfSome, IsTrue};
+ghost use Rattle.std.specs.Prelude.{◌≡◌, ◌≤◌, ◌<◌, ℕ, List, ◌++◌, length, true, None, Ok, IfOk, IfSome, IsTrue};
 ghost use Rattle.std.specs.List.{list_all};
 ghost use Rattle.lisp_object.specs.Object.{IsSound};
 ghost use Rattle.lisp_object.specs.Datum.{object_of, is_proper};
 ghost use Rattle.readtable_core.specs.declared.table.Case.TheVariants.{Upcase};
-ghost use Rattle.readtable_core.specs.Tables.{entry_at};
 ghost use Rattle.package_table.specs.Table.{IsPackage};
 ghost use Rattle.package_table.specs.Symbols.{are_there};
 ghost use Rattle.user_macros.specs.Functions.{Functions};
@@ -15,11 +14,11 @@ ghost use Rattle.plain_reader.specs.Direct.{object_of_direct};
 use crate::context::Context;
 use crate::direct::DirectForm;
 use crate::forms::direct;
-use crate::objects::{is_blank, list};
+use crate::objects::{calls, is_blank, list};
 use lisp_object::Datum;
 use lisp_reading::Limits;
 use package_table::Packages;
-use readtable_core::standard_names::{STD_LIST, STD_QUOTE, STD_STRING};
+use readtable_core::standard_names::{STD_LIST, STD_QUOTE};
 use readtable_core::{Case, Readtable};
 use std::alloc::{AllocError, Global};
 
@@ -86,16 +85,19 @@ pub fn read_plain(
                 current_package: packages.package(current),
                 standard: base == 10 && is_upcase(readtable.case()),
                 quotes: calls(readtable, b'\'', STD_QUOTE),
-                texts: calls(readtable, b'"', STD_STRING),
             };
             let mut known = true;
             match list(&with, limits.nesting, &mut known, rest)? {
                 None => Ok(None),
-                Some(taken) => Ok(Some(PlainForm {
-                    datum: taken.object.into_datum(),
-                    end: bytes.len() - taken.rest.len(),
-                    known,
-                })),
+                Some(gathered) => {
+                    packages.soundness();
+                    let list = gathered.items.into_list(alloc)?;
+                    Ok(Some(PlainForm {
+                        datum: list.into_datum(),
+                        end: bytes.len() - gathered.rest.len(),
+                        known,
+                    }))
+                }
             }
         }
         _ => Ok(None),
@@ -162,7 +164,6 @@ pub fn read_direct(
                 current_package: packages.package(current),
                 standard: base == 10 && is_upcase(readtable.case()),
                 quotes: true,
-                texts: calls(readtable, b'"', STD_STRING),
             };
             let mut known = true;
             match direct(&with, limits.nesting, &mut known, rest)? {
@@ -175,16 +176,6 @@ pub fn read_direct(
             }
         }
         _ => Ok(None),
-    }
-}
-
-/// Whether the function of the macro character `c` has this name.
-fn calls(readtable: &Readtable, c: u8, name: &[u8]) -> bool
-    ensures { IsTrue result → (entry_at readtable.now c).function ≡ Some name.now }
-{
-    match readtable.macro_of(c) {
-        Some(function) => function.as_bytes() == name,
-        None => false,
     }
 }
 

@@ -1,17 +1,18 @@
 //! Tokens without escapes.
-ghost use Rattle.std.specs.Prelude.{◌≡◌, ◌≤◌, ◌<◌, ℕ, ◌∷◌, map, length, true, false, IfOk, IfSome, IsTrue};
+ghost use Rattle.std.specs.Prelude.{◌≡◌, ◌≤◌, ◌<◌, ℕ, ◌∷◌, map, length, true, false, None, IfOk, IfSome, IsTrue};
 ghost use Rattle.std.specs.List.{list_all};
 ghost use Rattle.lisp_object.specs.Ascii.{is_ascii};
+ghost use Rattle.readtable_core.specs.Characters.{has_invalid_trait};
 ghost use Rattle.token_scan.specs.Marks.{are_ascii};
 ghost use Rattle.token_scan.specs.Tokens.{typed, kind};
-ghost use Rattle.plain_reader.specs.Plain.{Takes, LeavesLess, AreThere, IfStill};
+ghost use Rattle.plain_reader.specs.Plain.{Takes, Puts, LeavesLess, AreThere, AllAreThere, IfStill};
 ghost use Rattle.plain_reader.specs.Tokens.{IsRun, IsToken, marks_of};
 
 use crate::context::Context;
 use crate::objects::Taken;
 use crate::words::{decimal, is_word, word};
-use lisp_reading::{HeldObject, TellError, Told, tell};
-use readtable_core::{Readtable, Syntax, traits_of};
+use lisp_reading::{HeldObject, HeldObjects, TellError, Told, tell};
+use readtable_core::{Readtable, Syntax};
 use smallvec::SmallVec;
 use std::alloc::{AllocError, Global};
 use token_scan::{Mark, Marks};
@@ -48,6 +49,39 @@ pub(crate) fn token<'a>(
     }
 }
 
+/// A token at the front of the text, without escapes, that is an object, is put to the items of a list. Gives the text after it.
+#[inline(always)]
+pub(crate) fn put_token<'a>(
+    with: &Context<'_>,
+    known: &mut bool,
+    items: &mut HeldObjects,
+    text: &'a [u8],
+) -> Result<Option<&'a [u8]>, AllocError>
+    ensures puts { (room : ℕ) → IfOk result (λ found. IfSome found
+        (λ rest. Puts with.now room items.old text.now items.new rest.now)) }
+    ensures same { IfOk result (λ found. found ≡ None → items.new ≡ items.old) }
+    ensures known { IfOk result (λ _. IfStill known.old known.new
+        (AllAreThere with.now items.old → AllAreThere with.now items.new)) }
+    ensures shorter { IfOk result
+        (λ found. IfSome found (λ rest. length rest.now < length text.now)) }
+{
+    let Some(count) = token_length(with.readtable, text) else {
+        return Ok(None);
+    };
+    if count == 0 || count > with.limits.token {
+        return Ok(None);
+    }
+    let bytes = &text[..count];
+    let rest = &text[count..];
+    match meaning(with, known, bytes)? {
+        None => Ok(None),
+        Some(object) => {
+            items.push(object)?;
+            Ok(Some(rest))
+        }
+    }
+}
+
 /// How many bytes at the front of the text a token has there; None where it has an escape, or nothing ends it.
 fn token_length(readtable: &Readtable, text: &[u8]) -> Option<usize>
     ensures run { IfSome result (IsRun readtable.now text.now) }
@@ -56,7 +90,7 @@ fn token_length(readtable: &Readtable, text: &[u8]) -> Option<usize>
     for (i, c) in text.iter().enumerate() {
         match kind(readtable, *c) {
             Syntax::Constituent => {
-                if traits_of(*c).is_invalid() {
+                if is_invalid(*c) {
                     return None;
                 }
             }
@@ -65,6 +99,14 @@ fn token_length(readtable: &Readtable, text: &[u8]) -> Option<usize>
         }
     }
     None
+}
+
+/// Whether it has the trait invalid.
+#[inline(always)]
+fn is_invalid(c: u8) -> bool
+    ensures { result ≡ has_invalid_trait c }
+{
+    c <= 32 || c >= 127
 }
 
 /// The syntax type of a byte, which is no character over 127.
@@ -80,6 +122,7 @@ fn kind(readtable: &Readtable, c: u8) -> Syntax
 }
 
 /// The object that a token of these bytes is.
+#[inline(always)]
 fn meaning(
     with: &Context<'_>,
     known: &mut bool,
@@ -103,6 +146,7 @@ fn meaning(
 }
 
 /// The same, over its marks.
+#[inline(never)]
 fn through_marks(
     with: &Context<'_>,
     known: &mut bool,

@@ -2,7 +2,7 @@
 ghost use Rattle.std.specs.Prelude.{◌≡◌, ◌+◌, ◌*◌, ◌^◌, ◌-◌, ◌<◌, ◌==◌, map, not, true, IfOk, IfSome, IsTrue};
 ghost use Rattle.std.specs.List.{list_all, list_any};
 ghost use Rattle.lisp_object.specs.Ascii.{is_ascii};
-ghost use Rattle.readtable_core.specs.Characters.{upper_case, is_digit};
+ghost use Rattle.readtable_core.specs.Characters.{is_lower_case, upper_case, is_digit};
 ghost use Rattle.token_meaning.specs.Numerals.{is_numeral, value};
 ghost use Rattle.plain_reader.specs.Tokens.{IsToken};
 ghost use Rattle.plain_reader.specs.Words.{is_word};
@@ -34,6 +34,7 @@ fn has_colon(bytes: &[u8]) -> bool
 }
 
 /// The symbol of such a token.
+#[inline(always)]
 pub(crate) fn word(
     with: &Context<'_>,
     known: &mut bool,
@@ -58,7 +59,28 @@ pub(crate) fn word(
     }
 }
 
+#[inline(always)]
 fn upcased(alloc: Global, bytes: &[u8]) -> Result<Bytes, AllocError>
+    ensures { IfOk result (λ name. name ≡ map upper_case bytes.now) }
+{
+    if has_lower(bytes) {
+        copied(alloc, bytes)
+    } else {
+        Bytes::from_slice(alloc, bytes)
+    }
+}
+
+// Whether a byte is a lower-case letter.
+#[inline(always)]
+fn has_lower(bytes: &[u8]) -> bool
+    ensures { result ≡ list_any is_lower_case bytes.now }
+{
+    bytes.iter().any(|c| c.is_ascii_lowercase())
+}
+
+// The same bytes with upper-case letters for lower-case ones.
+#[inline(never)]
+fn copied(alloc: Global, bytes: &[u8]) -> Result<Bytes, AllocError>
     ensures { IfOk result (λ name. name ≡ map upper_case bytes.now) }
 {
     if bytes.len() <= ON_STACK {

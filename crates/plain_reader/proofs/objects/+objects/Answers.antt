@@ -1,10 +1,14 @@
-use Rattle.std.proofs.Common.{◌≡◌, true, [], refl, sym, subst, ◌∙◌, ◌-◌, arith, IfSome, length, ◌<◌}
-use Rattle.std.specs.List.{list_all}
-use Rattle.package_table.specs.Symbols.{are_there}
-use Rattle.plain_reader.specs.Plain.{setting, Takes, Gathers, items_from, AreThere, AllAreThere, IfStill}
+use Rattle.std.proofs.Common.{false, [], ◌∷◌, List, refl, sym, subst, ◌∙◌, ◌-◌, arith, IfOk, IfSome, length, ◌<◌}
+use Rattle.lisp_object.specs.Object.{Object}
+use Rattle.lisp_reading.specs.declared.found.Found.TheVariants.{One as one}
+use Rattle.lisp_reading.specs.Plans.{gives}
+use Rattle.lisp_reading.specs.Reading.{attempt}
+use Rattle.plain_reader.specs.Coming.{ComesTo}
+use Rattle.plain_reader.specs.Plain.{setting, Puts, TakesList, Gathers, items_from, AllAreThere, IfStill}
 use Rattle.plain_reader.proofs.Coming.{here, onward}
-use Rattle.plain_reader.proofs.Listing.{blank_at, object_at, list_closes, shorter_still, quote_at}
-use Rattle.plain_reader.proofs.There.{more_there, headed_there, still_more, still_list}
+use Rattle.plain_reader.proofs.Fronts.{front}
+use Rattle.plain_reader.proofs.Listing.{blank_at, put_object, put_quote, list_closes, shorter_still}
+use Rattle.plain_reader.proofs.There.{list_put, quoted_put, still_more, still_list}
 use Rattle.plain_reader.proofs.objects.+objects.Goals as goal
 
 -- ---- what comes next in a list
@@ -14,24 +18,11 @@ item-returns-in-len1-up-2-clause-gathers t c = λ functions.
     blank_at (setting c.args.with.now functions) c.args.room c.args.items.now c.args.text.now c.in-len1-up.len_at_least c.if-c-eq41.false
     (sym c.is_blank.ensures ∙ c.if-is_blank.true)
 
-pub item-returns-in_ok-push-in-Some-clause-gathers :
-    goal.item-returns-in_ok-push-in-Some-clause-gathers
-item-returns-in_ok-push-in-Some-clause-gathers t c = λ functions.
-    object_at (setting c.args.with.now functions) c.args.room c.args.items.now c.push.new.self c.args.text.now c.in-Some.taken.rest.now c.in-Some.taken.token c.in-Some.taken.object
-    c.in-len1-up.len_at_least c.if-c-eq41.false c.args.with.now.closes c.in_ok-push-in-Some.ensures
-    (subst (λ o. IfSome o (Takes c.args.with.now c.args.room c.args.text.now)) c.in-Some.is c.in_ok-object-in_default.ensures.takes functions)
-
-pub item-returns-in_ok-push-in-Some-clause-known :
-    goal.item-returns-in_ok-push-in-Some-clause-known
-item-returns-in_ok-push-in-Some-clause-known t c = λ known.
-    let packages = c.args.with.now.packages.now.0 in
-    let now : IfStill c.args.known.now c.object.new.known (AreThere c.args.with.now c.in-Some.taken.object) =
-    subst (λ o. IfStill c.args.known.now c.object.new.known (IfSome o (λ t. AreThere c.args.with.now t.object))) c.in-Some.is c.in_ok-object-in_default.ensures.known in (
-      (now known).0,
-      λ all.
-          subst (λ xs. list_all (are_there packages) xs ≡ true) (sym c.in_ok-push-in-Some.ensures)
-          (more_there packages c.args.items.now c.in-Some.taken.object all (now known).1),
-    )
+pub item-returns-in-Some-clause-gathers : goal.item-returns-in-Some-clause-gathers
+item-returns-in-Some-clause-gathers t c =
+    put_object c.args.with.now c.args.room c.args.items.now c.put.new.items c.args.text.now c.in-Some.rest.now
+    c.in-len1-up.len_at_least c.if-c-eq41.false c.args.with.now.closes
+    (subst (λ o. IfSome o (λ rest. Puts c.args.with.now c.args.room c.args.items.now c.args.text.now c.put.new.items rest.now)) c.in-Some.is c.in_ok-put-in_default.ensures.puts)
 
 -- ---- lists
 
@@ -67,31 +58,52 @@ pub list-returns-clause-takes : goal.list-returns-clause-takes
 list-returns-clause-takes t c =
     list_closes c.args.with.now c.args.room c.args.text.now c.loop-items.rest.now c.item.new.items c.close.result c.loop-items.invariant.room
     (subst (λ xs. Gathers c.args.with.now (c.args.room - 1) [] c.args.text.now xs c.loop-items.rest.now) (sym (c.in_ok-more.ensures.same c.in_default.is)) c.loop-items.invariant.gathers)
-    c.close.ensures.closes
+    c.close.ensures.closes c.close.ensures.items
 
 pub list-returns-clause-known : goal.list-returns-clause-known
 list-returns-clause-known t c =
-    still_list c.args.with.now c.item.new.items _ _ c.close.result c.close.ensures.there (still_more c.loop-items.invariant.known c.in_ok-more.ensures.known)
+    still_list c.args.with.now c.item.new.items _ _ c.close.result c.close.ensures.items (still_more c.loop-items.invariant.known c.in_ok-more.ensures.known)
 
 pub list-returns-clause-shorter : goal.list-returns-clause-shorter
 list-returns-clause-shorter t c =
     shorter_still c.args.text.now c.loop-items.rest.now c.close.result c.loop-items.invariant.within c.close.ensures.shorter
 
--- ---- quoted objects
+-- ---- what is put to items
 
-pub quoted-returns-in_ok-quoted-in-Some-clause-takes :
-    goal.quoted-returns-in_ok-quoted-in-Some-clause-takes
-quoted-returns-in_ok-quoted-in-Some-clause-takes t c = λ functions.
-    quote_at c.args.with.now c.args.room c.args.text.now c.in-Some.taken c.in_ok-quoted-in-Some.field-0 functions (omega arith) c.requires c.in_ok-quoted-in-Some.ensures
-    (subst (λ o. IfSome o (Takes c.args.with.now (c.args.room - 1) c.args.text.now)) c.in-Some.is c.in_ok-object.ensures.takes)
+pub put_list-returns-in_ok-push-in-Some-clause-puts : goal.put_list-returns-in_ok-push-in-Some-clause-puts
+put_list-returns-in_ok-push-in-Some-clause-puts t c = record {
+  token = false;
+  object = c.in_ok-list-in-Some.list;
+  items = c.in_ok-push-in-Some.ensures;
+  takes = λ functions.
+      let setting = setting c.args.with.now functions in
+      subst (λ (x : Object). ComesTo setting (attempt setting c.args.room) (40 ∷ c.args.text.now) (gives (one false x)) c.in-Some.gathered.rest.now) (sym c.in_ok-list-in-Some.ensures)
+      (subst (λ o. IfSome o (λ g. TakesList c.args.with.now c.args.room c.args.text.now g.items g.rest.now)) c.in-Some.is c.in_ok-list.ensures.takes functions);
+}
 
-pub quoted-returns-in_ok-quoted-in-Some-clause-known :
-    goal.quoted-returns-in_ok-quoted-in-Some-clause-known
-quoted-returns-in_ok-quoted-in-Some-clause-known t c = λ known.
-    let packages = c.args.with.now.packages.now.0 in
-    let now : IfStill c.args.known.now c.object.new.known (AreThere c.args.with.now c.in-Some.taken.object) =
-    subst (λ o. IfStill c.args.known.now c.object.new.known (IfSome o (λ t. AreThere c.args.with.now t.object))) c.in-Some.is c.in_ok-object.ensures.known in (
-      (now known).0,
-      subst (λ x. are_there packages x ≡ true) (sym c.in_ok-quoted-in-Some.ensures)
-          (headed_there packages c.in-Some.taken.object c.soundness.ensures (now known).1),
-    )
+pub put_list-returns-in_ok-push-in-Some-clause-known : goal.put_list-returns-in_ok-push-in-Some-clause-known
+put_list-returns-in_ok-push-in-Some-clause-known t c =
+    list_put c.args.with.now c.args.items.now c.push.new.self c.in-Some.gathered.items c.in_ok-list-in-Some.list c.args.known.now c.list.new.known
+    c.soundness.ensures c.in_ok-list-in-Some.ensures c.in_ok-push-in-Some.ensures
+    (subst (λ o. IfStill c.args.known.now c.list.new.known (IfSome o (λ g. AllAreThere c.args.with.now g.items))) c.in-Some.is c.in_ok-list.ensures.known)
+
+pub put-returns-in-len1-up-3-clause-puts : goal.put-returns-in-len1-up-3-clause-puts
+put-returns-in-len1-up-3-clause-puts t c =
+    subst (λ cs. IfOk c.put_string.result (λ found. IfSome found (λ rest. Puts c.args.with.now c.args.room c.args.items.now cs c.put_string.new.items rest.now)))
+    (front 34 c.args.text.now c.in-len1-up.len_at_least c.if-c-eq34.true) (c.put_string.ensures.puts c.args.room)
+
+pub put-returns-in_default-clause-puts : goal.put-returns-in_default-clause-puts
+put-returns-in_default-clause-puts t c = c.put_token.ensures.puts c.args.room
+
+pub put_quoted-returns-clause-puts : goal.put_quoted-returns-clause-puts
+put_quoted-returns-clause-puts t c =
+    put_quote c.args.with.now c.args.room c.args.items.now c.push.new.self c.put.new.items c.in_ok-quoted-in-Some.quoted c.args.text.now c.in-Some.rest.now (omega arith) c.requires
+    (subst (λ (xs : List Object). Puts c.args.with.now (c.args.room - 1) xs c.args.text.now c.put.new.items c.in-Some.rest.now) c.in_ok-both.ensures
+    (subst (λ o. IfSome o (λ rest. Puts c.args.with.now (c.args.room - 1) c.in_ok-both.both c.args.text.now c.put.new.items rest.now)) c.in-Some.is c.in_ok-put.ensures.puts))
+    c.in_ok-quoted-in-Some.ensures c.in_ok-push-in-Some.ensures
+
+pub put_quoted-returns-clause-known : goal.put_quoted-returns-clause-known
+put_quoted-returns-clause-known t c =
+    quoted_put c.args.with.now c.args.items.now c.push.new.self c.put.new.items c.in_ok-quoted-in-Some.quoted c.args.known.now c.put.new.known
+    c.soundness.ensures c.in_ok-quoted-in-Some.ensures c.in_ok-push-in-Some.ensures
+    (subst (λ (xs : List Object). IfStill c.args.known.now c.put.new.known (AllAreThere c.args.with.now xs → AllAreThere c.args.with.now c.put.new.items)) c.in_ok-both.ensures c.in_ok-put.ensures.known)

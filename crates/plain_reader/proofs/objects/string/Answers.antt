@@ -25,4 +25,4 @@ returns-in_ok-from_slice-in-Some-clause-takes c = λ room functions.
     subst (λ x. ComesTo setting (attempt setting room) (34 ∷ text_at) (gives (one false x)) (take (length text_at - (count + 1)) (drop (count + 1) text_at)))
     (sym (c.text.ensures ∙ ap text c.in_ok-from_slice-in-Some.ensures))
     (subst (λ rest. ComesTo setting (attempt setting room) (34 ∷ text_at) (gives (one false (text (take count text_at)))) rest) (sym (rest_is (count + 1) text_at))
-    (string_taken setting room count text_at c.args.with.now.sound (c.args.with.now.spelling c.requires) c.in-Some.ensures))
+    (string_taken setting room count text_at c.args.with.now.sound c.requires c.in-Some.ensures))

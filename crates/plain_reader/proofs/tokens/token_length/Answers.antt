@@ -1,5 +1,4 @@
 use Rattle.std.proofs.Common.{sym, ap, ◌∙◌, inl, inr}
-use Rattle.readtable_core.specs.Characters.{is_invalid}
 use Rattle.token_scan.specs.Spelling.{ends_tokens}
 use Rattle.plain_reader.proofs.Runs.{parts_more, run_here}
 use Rattle.plain_reader.proofs.tokens.token_length.Goals as goal
@@ -15,4 +14,4 @@ returns-in-Whitespace-clause-run c =
 pub loop-i-preserved : goal.loop-i-preserved
 loop-i-preserved c =
     parts_more c.args.readtable.now c.args.text.now c.loop-i.i c.loop-i-test.true c.loop-i.invariant (sym c.in-Constituent.ensures)
-    (ap is_invalid (sym c.traits_of.ensures) ∙ sym c.if-is_invalid.ensures)
+    (sym c.if-is_invalid.ensures)
