@@ -58,6 +58,7 @@ impl Bytes {
     }
 
     /// A copy of `bytes`.
+    #[inline(always)]
     pub fn from_slice(alloc: Global, bytes: &[u8]) -> Result<Bytes, AllocError>
         ensures { IfOk result (λ b. b ≡ bytes.now) }
     {
@@ -67,6 +68,7 @@ impl Bytes {
         }
     }
 
+    #[inline(never)]
     fn long(vec: Vec<u8>) -> Result<Bytes, AllocError>
         ensures { IfOk result (λ b. b ≡ vec.items) }
     {
@@ -77,6 +79,7 @@ impl Bytes {
     }
 
     /// The bytes.
+    #[inline]
     pub fn as_slice(&self) -> &[u8]
         ensures { result.now ≡ self.now }
     {
@@ -97,6 +100,7 @@ impl Bytes {
 }
 
 // How bytes are kept that take no memory of their own, where these may be kept so.
+#[inline(always)]
 fn in_place(bytes: &[u8]) -> Option<Kept>
     ensures { IfSome result (λ kept. bytes_in kept ≡ bytes.now) }
 {

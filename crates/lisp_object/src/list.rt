@@ -11,6 +11,7 @@ use std::alloc::{AllocError, Global};
 impl Datum {
     /// The list of these items that ends in `tail`, or in NIL where there is none. Where there are no items it is the tail
     /// itself, or NIL. A tail that is a list is joined, so that proper parts give a proper list.
+    #[inline(always)]
     pub fn list(alloc: Global, items: Vec<Datum>, tail: Option<Datum>) -> Result<Datum, AllocError>
         ensures object { IfOk result
             (λ d. object_of d ≡ pairs (map object_of items.items) (option_map_or object_of tail nil)) }
@@ -42,6 +43,7 @@ impl Datum {
 }
 
 // The list of these items that ends in NIL.
+#[inline(always)]
 fn proper_list(alloc: Global, items: Items<Datum>) -> Result<Datum, AllocError>
     ensures object { IfOk result (λ d. object_of d ≡ pairs (map object_of items) nil) }
     ensures proper { IfOk result (λ d. list_all is_proper items ≡ true → is_proper d ≡ true) }
@@ -57,6 +59,7 @@ fn proper_list(alloc: Global, items: Items<Datum>) -> Result<Datum, AllocError>
 }
 
 // The items, and after them the items and the end of a tail that is a list.
+#[inline(never)]
 fn joined(alloc: Global, items: Items<Datum>, tail: Datum) -> Result<Datum, AllocError>
     requires some { 0 < length items }
     requires not_nil { tail ≢ Datum.Symbol (codes "COMMON-LISP") (codes "NIL") }

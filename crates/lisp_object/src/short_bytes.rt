@@ -22,6 +22,7 @@ impl Model for ShortBytes {
 
 impl ShortBytes {
     /// These bytes.
+    #[inline(always)]
     pub(crate) fn new(bytes: &[u8]) -> ShortBytes
         requires { length bytes.now ≤ 14 }
         ensures { result ≡ bytes.now }

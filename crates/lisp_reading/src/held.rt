@@ -86,6 +86,7 @@ impl HeldObject {
     }
 
     /// The list of QUOTE and this object.
+    #[inline]
     pub fn quoted(self, alloc: Global) -> Result<HeldObject, AllocError>
         ensures { IfOk result (λ x. x ≡ headed (codes "QUOTE") self) }
     {
@@ -126,6 +127,7 @@ impl HeldObject {
 }
 
 /// The symbol QUOTE.
+#[inline(always)]
 fn quote(alloc: Global) -> Result<HeldObject, AllocError>
     ensures { IfOk result (λ x. x ≡ symbol (codes "COMMON-LISP") (codes "QUOTE")) }
 {
@@ -174,6 +176,7 @@ impl HeldObjects {
     }
 
     /// No objects, and room for so many.
+    #[inline(always)]
     pub fn with_capacity(alloc: Global, capacity: usize) -> Result<HeldObjects, AllocError>
         ensures { IfOk result (λ xs. xs ≡ []) }
     {
@@ -201,6 +204,7 @@ impl HeldObjects {
     }
 
     /// The list of them.
+    #[inline(always)]
     pub fn into_list(self, alloc: Global) -> Result<HeldObject, AllocError>
         ensures { IfOk result (λ x. x ≡ list_of self) }
     {

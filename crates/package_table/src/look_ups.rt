@@ -15,6 +15,7 @@ use package_sets::{Inherited, PackageSets};
 const FEW_USES: usize = 4;
 
 /// The number of the symbol that a package has by a name: the one at home in it, and else the one that it imports.
+#[inline(always)]
 pub(crate) fn number_in(sets: &PackageSets, owner: u32, name: u32) -> Option<u32>
     ensures { result ≡ number_in sets.now owner name }
 {
@@ -92,6 +93,7 @@ fn inherited_by_name(sets: &PackageSets, owner: u32, name: u32) -> Option<u32>
 }
 
 /// The number of the symbol that a package finds by a name.
+#[inline(always)]
 pub(crate) fn found_number(sets: &PackageSets, owner: u32, name: u32) -> Option<u32>
     requires owner { owner < length sets.now.packages }
     requires name { name < length sets.now.names }

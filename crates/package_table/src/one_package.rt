@@ -50,6 +50,7 @@ impl<'a> OnePackage<'a> {
     ///
     /// # Errors
     /// `LockedPackage` for a new name in COMMON-LISP.
+    #[inline]
     pub fn resolve(&self, name: &[u8]) -> Result<Resolved<'a>, PackageError>
         ensures { Answers resolution_of result (resolution self.now.0 self.now.1 name.now) }
     {
