@@ -23,6 +23,7 @@
 //! - `earlier`: a store that is opened on files of a program that had neither macro functions nor operators of PAZTURROK
 //! - `sums`: the sum of a text, and that of the text once it is damaged
 //! - `keepers`: a session whose recipient keeps account of it, and what follows at each moment
+//! - `ledgers`: a session that goes out through a ledger, and what is there from the moment on at which its lines went out
 //! - `again`: the store that a history goes on with after a session
 //! - `rounds`: two rounds of messages, and the position after them
 //! - `once`: messages that are answered in one call, and what a crash leaves of them
@@ -78,6 +79,8 @@ mod forgotten;
 mod halves;
 #[cfg(test)]
 mod keepers;
+#[cfg(test)]
+mod ledgers;
 #[cfg(test)]
 mod lines;
 #[cfg(test)]

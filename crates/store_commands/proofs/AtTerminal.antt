@@ -96,14 +96,14 @@ module _ (functions : Functions) {D R : Type 0} (state : D → State) (macros : 
         taken = taken_at_end status status ended refl is;
         nameless = λ none. absurd (named none);
         unopened = λ number fault of. absurd (no_opening_at functions wanted state mid sessions.closed between begun there before (contents written) ended number
-            (end_at status status ended number refl is fault) last of);
-        fault = subst HasFaultNumber (sym is) (fault_of_session functions wanted state mid sessions.closed between begun there before (contents written) ended last);
+            (end_at status status ended number refl is fault) last.0 of);
+        fault = subst HasFaultNumber (sym is) (fault_of_session functions wanted state mid sessions.closed between begun there before (contents written) ended last.0);
         breaks_off = λ text had number known holds fault.
             let far = earlier_go functions wanted state others sessions.opened mid sessions.is_opened.world between (remaining input) begun (contents held) before earlier text had known holds in (
               far.0,
               far.1,
               broken_at functions wanted state mid sessions.closed between begun there before (contents written) ended number
-                  (end_at status status ended number refl is fault) last far.0 (had ++ far.1) far.2 far.3,
+                  (end_at status status ended number refl is fault) last.0 far.0 (had ++ far.1) far.2 far.3,
             );
       }
 

@@ -12,7 +12,7 @@ use Rattle.prevalence_store.specs.calls.Store.{StoreView}
 use Rattle.user_macros.specs.Functions.{Functions}
 use Rattle.diagnostics.specs.Refusals.{IsRefusalOf}
 use Rattle.prevalence_store.specs.calls.Serve.{ServesWanted}
-use Rattle.store_commands.specs.Sessions.{Drops, DropsByte, Earlier, EndsRefused, InTurn, IsOfLine}
+use Rattle.store_commands.specs.Sessions.{Drops, DropsByte, Earlier, EndsRefused, InTurn, IsOfLine, ServesOut}
 use Rattle.diagnostics.specs.declared.refusal.Refusal.{Refusal}
 
 -- where there is a refusal the session ended with it
@@ -60,9 +60,9 @@ module _ (functions : Functions) (wanted : Wanted) {D R : Type 0} (state : D →
   Row new has written ended =
       (others : List Ended) × (mid : StoreView D R) × (between : WorldState) × (begun : Option (List ℕ)) × (before : Option (List ℕ))
       × Earlier functions wanted state others old mid world between had begun held before
-      × ServesWanted functions state wanted mid new between begun has before written ended
+      × ServesOut functions wanted state mid new between begun has before written ended
 
-  pub first_turn : (new : StoreView D R) (has written : Option (List ℕ)) (ended : Ended) → ServesWanted functions state wanted old new world had has held written ended
+  pub first_turn : (new : StoreView D R) (has written : Option (List ℕ)) (ended : Ended) → ServesOut functions wanted state old new world had has held written ended
       → Row new has written ended
   first_turn new has written ended session = ([], old, world, had, held, (refl, refl, refl, refl), session)
 
@@ -79,16 +79,16 @@ module _ (functions : Functions) (wanted : Wanted) {D R : Type 0} (state : D →
 
   pub left_open : (mid : StoreView D R) (rest between : Option (List ℕ)) (ended : Ended) → EndsRefused ended → Row mid rest between ended → IsSome mid.world
   left_open mid rest between ended refused (others, start, first, begun, before, earlier, session) =
-      let left = left_by start mid first begun rest before between ended refused session in
+      let left = left_by start mid first begun rest before between ended refused session.0 in
       subst (λ (o : Option WorldState). IsSome o) (sym left.1) refl
 
   -- the next session begins in it, and with what the input has after some bytes more
   pub turn_after : (mid new : StoreView D R) (rest next_rest has between written : Option (List ℕ)) (ended next : Ended) → EndsRefused ended
       → Row mid rest between ended → Drops rest next_rest
-      → ((left : WorldState) → mid.world ≡ Some left → ServesWanted functions state wanted mid new left next_rest has between written next)
+      → ((left : WorldState) → mid.world ≡ Some left → ServesOut functions wanted state mid new left next_rest has between written next)
       → Row new has written next
   turn_after mid new rest next_rest has between written ended next refused (others, start, first, begun, before, earlier, session) dropped one_more =
-      let left = left_by start mid first begun rest before between ended refused session in (
+      let left = left_by start mid first begun rest before between ended refused session.0 in (
         ended ∷ others,
         mid,
         left.0,
@@ -137,6 +137,6 @@ module _ (functions : Functions) (wanted : Wanted) {D R : Type 0} (state : D →
       (text, [], rest ∙ known, said ∙ holds ∙ ap (λ l. Some l) (sym (append-nil bytes)))
   earlier_go (ended ∷ others) old new world left had has held written (mid, between, begun, there, before, earlier, refused, session, leaves, dropped) = λ text bytes known holds.
       let far = earlier_go others old mid world between had begun held before earlier text bytes known holds in
-      let more = session_goes mid new between begun there before written ended refused session far.0 (bytes ++ far.1) far.2 far.3 in
+      let more = session_goes mid new between begun there before written ended refused session.0 far.0 (bytes ++ far.1) far.2 far.3 in
       let last = dropped_to there has more.0 dropped.0 more.2 dropped.2 in
       (last.0, far.1 ++ more.1, last.1, more.3 ∙ ap (λ l. Some l) (append_assoc bytes far.1 more.1))

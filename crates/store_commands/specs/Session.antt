@@ -10,11 +10,13 @@ use Rattle.prevalence_store.specs.declared.outcome.Place.{Place}
 use Rattle.session_words.specs.declared.wanted.Wanted.{Wanted}
 use Rattle.prevalence_store.specs.meaning.Acceptance.{read_in}
 use Rattle.user_macros.specs.Functions.{Functions}
+use Rattle.prevalence_store.specs.calls.Account.{first_account}
 use Rattle.prevalence_store.specs.calls.Open.{IsOpened}
 use Rattle.prevalence_store.specs.meaning.Answers.{Progress, after_forms, last_line, refusal_line}
 use Rattle.prevalence_store.specs.calls.Serve.{IsPlace, IsUnaccepted, ServesWanted}
 use Rattle.prevalence_store.specs.calls.Store.{StoreView}
 use Rattle.diagnostics.specs.declared.refusal.Refusal.{Refusal}
+use Rattle.session_ledger.specs.Went.{Went}
 use Rattle.store_commands.specs.Status.{status_of_ended}
 use Rattle.store_commands.specs.declared.status.Status.{Status}
 use Rattle.store_commands.specs.declared.status.Status.TheVariants.{Done, Helped, FormRefused, Unanswered, WordsRefused, LeftOut, Fault}
@@ -32,6 +34,8 @@ pub record IsSession (functions : Functions) (wanted : Wanted) {D R : Type 0} (s
   pub is_opened : IsOpened functions state disk macros half_limit opened
   pub closed : StoreView D R
   pub serves : ServesWanted functions state wanted opened closed is_opened.world had has held written ended
+  -- what went out, and when: by then it was stored
+  pub went : Went functions state (first_account is_opened.world wanted.mode had opened.disk) closed held written
   pub disk_is : back ≡ closed.disk
 
 -- What a session writes where the macro functions mean this, and each form is read in this mode.

@@ -7,9 +7,11 @@ use Rattle.plist_state.specs.State.{WorldState}
 use Rattle.prevalence_store.specs.declared.outcome.Ended.{Ended}
 use Rattle.prevalence_store.specs.declared.outcome.Ended.TheVariants.{End, Store, Unaccepted, Unreadable}
 use Rattle.session_words.specs.declared.wanted.Wanted.{Wanted}
+use Rattle.prevalence_store.specs.calls.Account.{first_account}
 use Rattle.prevalence_store.specs.calls.Open.{IsOpened}
 use Rattle.prevalence_store.specs.calls.Serve.{ServesWanted}
 use Rattle.prevalence_store.specs.calls.Store.{StoreView}
+use Rattle.session_ledger.specs.Went.{Went}
 use Rattle.user_macros.specs.Functions.{Functions}
 use Rattle.store_commands.specs.Session.{half_limit}
 
@@ -34,6 +36,11 @@ DropsByte true byte there has = Consumes there has (byte ∷ [])
 DropsByte false byte there has = Consumes there has []
 
 module _ (functions : Functions) (wanted : Wanted) {D R : Type 0} (state : D → State) where
+  -- One of them: it served so, and this went out of it.
+  abbrev pub ServesOut : (old new : StoreView D R) → WorldState → (had has held written : Option (List ℕ)) → Ended → Type 0
+  ServesOut old new world had has held written ended =
+      ServesWanted functions state wanted old new world had has held written ended × Went functions state (first_account world wanted.mode had old.disk) new held written
+
   -- Sessions that refusals ended so, the last one first; each begins in the world and the store that the one before it left, and with
   -- what that left of the input, but for some bytes.
   abbrev pub Earlier : List Ended → (old new : StoreView D R) → (world left : WorldState) → (had has held written : Option (List ℕ)) → Type 0
@@ -41,7 +48,7 @@ module _ (functions : Functions) (wanted : Wanted) {D R : Type 0} (state : D →
   Earlier (ended ∷ others) old new world left had has held written =
       (mid : StoreView D R) × (between : WorldState) × (begun : Option (List ℕ)) × (there : Option (List ℕ)) × (before : Option (List ℕ))
       × Earlier others old mid world between had begun held before
-      × EndsRefused ended × ServesWanted functions state wanted mid new between begun there before written ended
+      × EndsRefused ended × ServesOut mid new between begun there before written ended
       × (new.world ≡ Some left) × Drops there has
 
   -- such sessions, and a last one that ended so
@@ -49,7 +56,7 @@ module _ (functions : Functions) (wanted : Wanted) {D R : Type 0} (state : D →
   InTurn old new world had has held written ended =
       (others : List Ended) × (mid : StoreView D R) × (between : WorldState) × (begun : Option (List ℕ)) × (there : Option (List ℕ)) × (before : Option (List ℕ))
       × Earlier others old mid world between had begun held before
-      × ServesWanted functions state wanted mid new between begun there before written ended
+      × ServesOut mid new between begun there before written ended
       × Drops there has
 
   -- The store that a disk holds was opened with these macro functions, it served sessions in a row, and it was closed: this is its

@@ -1,17 +1,23 @@
 //! What the opening of a store that has to exist says of an honest disk, and what sessions in a row say of each moment.
-ghost use Rattle.std.specs.Prelude.{◌≡◌, ℕ, List, Option, Some, true, Ok};
+ghost use Rattle.std.specs.Prelude.{◌≡◌, ◌≤◌, ℕ, List, Option, Some, true, Ok, length};
 ghost use Rattle.clap.specs.Words.{Text};
-ghost use Rattle.disk_trait.specs.Disk.{IsHonest};
+ghost use Rattle.disk_trait.specs.Disk.{Image, IsHonest};
 ghost use Rattle.plist_state.specs.State.{WorldState};
 ghost use Rattle.prevalence_store.specs.calls.Account.{Account, AreUnderWay, first_account};
 ghost use Rattle.prevalence_store.specs.calls.Store.{StoreView};
+ghost use Rattle.prevalence_store.specs.declared.outcome.Ended.{Ended};
+ghost use Rattle.session_ledger.specs.Went.{calls_in, disk_at};
 ghost use Rattle.session_words.specs.declared.mode.Mode.{Mode};
+ghost use Rattle.session_words.specs.declared.wanted.Wanted.{Wanted};
 ghost use Rattle.store_commands.specs.Accounts.{GoesOn};
 ghost use Rattle.store_commands.specs.Folders.{HoldsStore, OpensStore};
+ghost use Rattle.store_commands.specs.Session.{IsSession};
+ghost use Rattle.store_laws.specs.Batches.{MeansCalls};
 ghost use Rattle.user_macros.specs.Functions.{Functions};
 
 use crate::folders::Folders;
 use disk_trait::Disk;
+use session_ledger::what_went_out_is_there;
 
 /// The disk that is opened where a store has to exist: if it is honest, one of both files is an open half.
 pub fn existing_stores_are_open<R: Folders>()
@@ -30,3 +36,19 @@ pub fn sessions_go_on<D: Disk, R>()
         → store.world ≡ Some world
         → GoesOn functions D.state account (first_account world mode had store.disk) }
 {}
+
+/// A session of the program over an honest disk, from the opening of the store to its end: from the moment on at which lines went out for the
+/// k-th time, a crash leaves the world after all forms of at least k times, and of no time a part. At 0 that is from the beginning on.
+pub fn what_a_session_wrote_is_there<D: Disk, R>()
+    ensures { (functions : Functions) (wanted : Wanted) (disk back : D) (macros : R)
+        → (had has held written : Option (List ℕ)) (ended : Ended)
+        → IsHonest (D.state disk)
+        → (session : IsSession functions wanted D.state disk macros had has held written ended back)
+        → (k : ℕ) → k ≤ length session.went.out.sent → (image : Image)
+        → (D.state back).left_since (D.state (disk_at
+        (first_account session.is_opened.world wanted.mode had session.opened.disk) session.went.out.sent k)).moment image
+        → MeansCalls functions session.is_opened.world (calls_in functions D.state
+        (first_account session.is_opened.world wanted.mode had session.opened.disk) session.closed session.went) k image }
+{
+    what_went_out_is_there::<D, R>();
+}

@@ -6,6 +6,8 @@
 //! - `serve_on` serves forms over any disk, `snapshot_on` takes a snapshot, `upgrade_on` takes one of files of version 1, `export_on`
 //!   writes the forms that make the world, and `report_on` writes what is told of a store (modules `session`, `snapshot`, `upgrade`,
 //!   `export` and `report`). What the store is opened with is handed to them as an `Opening` (module `opening`).
+//! - What goes out of a session goes through a ledger (session_ledger), so it is known that it is stored by then:
+//!   `what_a_session_wrote_is_there` (module `laws`).
 //! - `sessions_on` serves sessions in a row (module `sessions`), and `terminal` has the input that asks for them, with its prompts.
 //! - `output` has the output of the program, which tells of forms that were refused: the place of each and the part for which it was, on a stream
 //!   of its own.
@@ -57,7 +59,7 @@ pub use diagnostics::{
 pub use export::export_on;
 pub use folders::{Folders, TellsCause, holds_store, open_folder};
 pub use half_line::write_half_line;
-pub use laws::{existing_stores_are_open, sessions_go_on};
+pub use laws::{existing_stores_are_open, sessions_go_on, what_a_session_wrote_is_there};
 pub use looking::Looking;
 pub use opening::{HALF_LIMIT, Opening};
 pub use output::SessionOutput;

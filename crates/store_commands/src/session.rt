@@ -10,6 +10,7 @@ use crate::opening::Opening;
 use crate::recipient::SessionRecipient;
 use disk_trait::Disk;
 use prevalence_store::{Ended, Unopened, Wanted};
+use session_ledger::serve_recorded;
 use std::io::Read;
 use user_macros::MacroFunctions;
 
@@ -48,7 +49,7 @@ where
 {
     let mut store = opening.open()?;
     output.begin(&store, input, wanted.mode);
-    let ended = store.serve_wanted(input, output, wanted);
+    let ended = serve_recorded(&mut store, input, output, wanted);
     let (disk, macros) = store.close();
     Ok((ended, disk, macros))
 }

@@ -14,6 +14,7 @@ use crate::terminal::Sessions;
 use diagnostics::Refusal;
 use disk_trait::Disk;
 use prevalence_store::{Ended, Store, Unopened, Wanted};
+use session_ledger::serve_recorded;
 use user_macros::MacroFunctions;
 
 /// Sessions in a row over the store that a disk holds, as `serve_on` has one: after each one that a refusal ended the input is
@@ -76,7 +77,7 @@ where
     ensures first { O.first output.new ≡ O.first output.old }
     ensures macros { store.new.macros ≡ store.old.macros }
 {
-    let mut ended = store.serve_wanted(input, output, wanted);
+    let mut ended = serve_recorded(store, input, output, wanted);
     'sessions: for _ in 0..u64::MAX {
         let Some(refusal) = Refusal::of(ended, input) else {
             break;
@@ -85,7 +86,7 @@ where
             break;
         }
         output.begin_again(store, input, wanted.mode);
-        ended = store.serve_wanted(input, output, wanted);
+        ended = serve_recorded(store, input, output, wanted);
     }
     ended
 }

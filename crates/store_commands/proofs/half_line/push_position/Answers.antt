@@ -1,4 +1,4 @@
-use Rattle.std.proofs.Common.{◌++◌, ◌∙◌, List, ℕ, Option, ap, sym}
+use Rattle.std.proofs.Common.{◌++◌, ◌∙◌, ℕ, Option, ap, sym}
 use Rattle.std.proofs.lemmas.Fmt.{contents_after_writes}
 use Rattle.store_commands.specs.Report.{position_line}
 use Rattle.store_commands.proofs.half_line.push_position.Goals as goal

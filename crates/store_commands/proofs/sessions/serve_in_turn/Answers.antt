@@ -1,38 +1,52 @@
-use Rattle.std.proofs.Common.{◌≡◌, ◌∙◌, ℕ, List, Option, subst}
+use Rattle.std.proofs.Common.{◌∙◌, ℕ, List, Option, subst}
+use Rattle.prevalence_store.specs.calls.Account.{first_account}
 use Rattle.prevalence_store.specs.calls.Serve.{ServesWanted}
+use Rattle.session_ledger.specs.Went.{Went}
 use Rattle.store_commands.proofs.Accounts.{known_world}
 use Rattle.store_commands.proofs.Turns.{ends_refused, first_turn, last_turn, left_open, no_more_turns, turn_after}
 use Rattle.store_commands.proofs.sessions.serve_in_turn.Goals as goal
 
-pub serve_wanted-ended-requires : goal.serve_wanted-ended-requires
-serve_wanted-ended-requires g c = record { begins = c.requires.begins }
+pub serve_recorded-ended-requires-clause-begins : goal.serve_recorded-ended-requires-clause-begins
+serve_recorded-ended-requires-clause-begins g c = c.requires.begins
 
 pub begin_again-requires : goal.begin_again-requires
 begin_again-requires g c = record { under_way = c.sessions.invariant.2 }
 
-pub serve_wanted-ended-requires-in-sessions : goal.serve_wanted-ended-requires-in-sessions
-serve_wanted-ended-requires-in-sessions g c = record { begins = c.begin_again.ensures.begins }
+pub serve_recorded-ended-requires-in-sessions-clause-is_open : goal.serve_recorded-ended-requires-in-sessions-clause-is_open
+serve_recorded-ended-requires-in-sessions-clause-is_open g c =
+    let refused = ends_refused c.sessions.ended c.of.result c.in-Some.refusal c.in-Some.is c.of.ensures in
+    let first = known_world c.args.store.now.world c.requires.is_open in
+    left_open _ _ _ _ first.0 _ _ _ _ _ c.sessions.ended refused (c.sessions.invariant.1 first.0 first.1)
+
+pub serve_recorded-ended-requires-in-sessions-clause-begins : goal.serve_recorded-ended-requires-in-sessions-clause-begins
+serve_recorded-ended-requires-in-sessions-clause-begins g c = c.begin_again.ensures.begins
 
 pub sessions-init : goal.sessions-init
 sessions-init g c = (
-  c.serve_wanted-ended.ensures.macros,
-  λ world known. first_turn _ _ _ _ world _ _ _ _ _ _ (c.serve_wanted-ended.ensures.serves world known),
-  c.serve_wanted-ended.ensures.under_way c.requires.is_open,
-  c.serve_wanted-ended.ensures.first,
+  c.serve_recorded-ended.ensures.macros,
+  λ world known. first_turn _ _ _ _ world _ _ _ _ _ _ (c.serve_recorded-ended.ensures.serves world known, c.serve_recorded-ended.ensures.went world known),
+  c.serve_recorded-ended.ensures.under_way,
+  c.serve_recorded-ended.ensures.first,
 )
 
 pub sessions-preserved : goal.sessions-preserved
 sessions-preserved g c =
+    let functions = g.M.Meaning.Meaning.functions in
     let refused = ends_refused c.sessions.ended c.of.result c.in-Some.refusal c.in-Some.is c.of.ensures in
-    let first = known_world c.args.store.now.world c.requires.is_open in (
-      c.serve_wanted-ended-in-sessions.ensures.macros ∙ c.sessions.invariant.0,
+    let had = g.I.Read.remaining c.next_session.new.self in
+    let new = c.serve_recorded-ended-in-sessions.new in
+    let written = g.O.Recipient.contents new.output in (
+      c.serve_recorded-ended-in-sessions.ensures.macros ∙ c.sessions.invariant.0,
       λ world known. turn_after _ _ _ _ world _ _ _ _ _ _ _ _ _ c.sessions.ended _ refused
           (c.sessions.invariant.1 world known) c.next_session.ensures.drops
-          (λ left there. subst (λ (held : Option (List ℕ)). ServesWanted g.M.Meaning.Meaning.functions g.D.Disk.state c.args.wanted c.sessions.store c.serve_wanted-ended-in-sessions.new.self left
-          (g.I.Read.remaining c.next_session.new.self) (g.I.Read.remaining c.serve_wanted-ended-in-sessions.new.reader) held (g.O.Recipient.contents c.serve_wanted-ended-in-sessions.new.writer)
-          c.serve_wanted-ended-in-sessions.result) c.begin_again.ensures.unwritten (c.serve_wanted-ended-in-sessions.ensures.serves left there)),
-      c.serve_wanted-ended-in-sessions.ensures.under_way (left_open _ _ _ _ first.0 _ _ _ _ _ c.sessions.ended refused (c.sessions.invariant.1 first.0 first.1)),
-      c.serve_wanted-ended-in-sessions.ensures.first ∙ c.begin_again.ensures.first ∙ c.sessions.invariant.3,
+          (λ left there. (
+            subst (λ (held : Option (List ℕ)). ServesWanted functions g.D.Disk.state c.args.wanted c.sessions.store new.store left had (g.I.Read.remaining new.input) held written c.serve_recorded-ended-in-sessions.result)
+                c.begin_again.ensures.unwritten (c.serve_recorded-ended-in-sessions.ensures.serves left there),
+            subst (λ (held : Option (List ℕ)). Went functions g.D.Disk.state (first_account left c.args.wanted.mode had c.sessions.store.disk) new.store held written)
+                c.begin_again.ensures.unwritten (c.serve_recorded-ended-in-sessions.ensures.went left there),
+          )),
+      c.serve_recorded-ended-in-sessions.ensures.under_way,
+      c.serve_recorded-ended-in-sessions.ensures.first ∙ c.begin_again.ensures.first ∙ c.sessions.invariant.3,
     )
 
 pub returns-then-not-next_session-clause-serves : goal.returns-then-not-next_session-clause-serves

@@ -1,4 +1,4 @@
-use Rattle.std.proofs.Common.{◌≡◌, ◌∙◌, ℕ, List, Option, Some, IsSome, refl, subst, sym}
+use Rattle.std.proofs.Common.{◌∙◌, ℕ, List, Option, IsSome, refl, subst, sym}
 use Rattle.prevalence_store.specs.calls.Account.{Account}
 use Rattle.plist_state.specs.State.{WorldState}
 use Rattle.store_commands.specs.Accounts.{BeginsAccount}

@@ -1,0 +1,4 @@
+-- what goes out of a session, one time more
+pub mod Sending
+-- steps of walks
+pub mod Walks

@@ -1,0 +1,4 @@
+-- what went out of a session
+pub mod Went
+-- how it is recorded
+pub mod Ledger
