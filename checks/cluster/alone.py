@@ -3,15 +3,15 @@ import contextlib
 import os
 import random
 import signal
-import socket
 import subprocess
 import sys
 import threading
 import time
 
 import linear
-from cluster import LONG, NODE, Alone, Client, connected
+from cluster import NODE, OWN, Alone, Client, connected, free_ports
 from refusals import ADD, LARGE, LOOK, NO_FRAMES, small_program
+from waits import LONG, Late, Worker, until
 
 PYTHON = os.path.join(os.path.dirname(os.path.abspath(__file__)), "..", "..", "clients", "python", "src")
 PROCESSES, FORMS = 30, 20
@@ -76,25 +76,21 @@ def blows(folder, program):
 
 def blows_by_port(folder, program):
     """The same at a port of this machine, with names that are kept for two seconds."""
-    with socket.socket() as one:
-        one.bind(("127.0.0.1", 0))
-        place = one.getsockname()
-    return judged(begun(folder, program, keep=30, place=place))
+    return judged(begun(folder, program, keep=30, place=(OWN, free_ports(1)[0])))
 
 
 def judged(node, seconds=12):
     ended, calls, chance = threading.Event(), [], random.Random(1)
-    workers = [threading.Thread(target=work, args=(node, place, ended, calls)) for place in range(8)]
+    workers = [Worker(work, node, place, ended, calls) for place in range(8)]
     try:
         for worker in workers:
             worker.start()
-        until = time.monotonic() + seconds
-        while time.monotonic() < until:
+        ends = time.monotonic() + seconds
+        while time.monotonic() < ends:
             time.sleep(chance.random())
             blow(node, chance)
         ended.set()
-        for worker in workers:
-            worker.join()
+        linear.all_called(workers, calls)
         fault = linear.fault_of(calls, int(value(node)))
         return [fault] if fault else []
     finally:
@@ -131,7 +127,7 @@ def kills(folder, program):
     """The node is killed at each place between a request and its answer, and its store at random: what clients saw is what one counter may
     have answered."""
     node, chance, ended, calls = begun(folder, program, options=("--snapshot-every", "200")), random.Random(2), threading.Event(), []
-    workers = [threading.Thread(target=work, args=(node, place, ended, calls)) for place in range(4)]
+    workers = [Worker(work, node, place, ended, calls) for place in range(4)]
     counts = dict.fromkeys(("the store at random", *KILLED_AT), 0)
     try:
         for worker in workers:
@@ -142,8 +138,7 @@ def kills(folder, program):
                 counts["the store at random"] += killed_stores(node, chance, 6)
             counts[place] += killed_node(node, place, chance.randrange(1, 40))
         ended.set()
-        for worker in workers:
-            worker.join()
+        linear.all_called(workers, calls)
         fault = linear.fault_of(calls, int(value(node)))
         print(f"cluster: {len(calls):,} requests while {', '.join(f'{place} {count}' for place, count in counts.items())} were killed", flush=True)
         return [fault] if fault else []
@@ -237,11 +232,12 @@ def torn(folder, program):
     try:
         client.request(b"do add", ADD)
         one.kill()
+        faults = []
         for rest in (b"do 3 torn 25 0123", b"do 3 torn 25 01234567\n(INCF (GET 'COUNTER 'KY))\n", b"\0" * 5000):
             with open(segments(node)[-1], "ab") as file:
                 file.write(rest)
             one.start()
-            faults = [] if value(node) == "1" else [f"after {rest[:20]!r} the counter is {value(node)}"]
+            faults += [] if value(node) == "1" else [f"after {rest[:20]!r} the counter is {value(node)}"]
             one.kill()
         one.start()
         number, text = client.request(b"do more", ADD)
@@ -291,10 +287,11 @@ def old(folder, program):
         for form, kept in ((ADD, "the journal"), (CLOSES, "the journal of a store that reads no colon")):
             client.request(b"do", form)
             first, deadline = segments(node)[0], time.monotonic() + LONG
-            while os.path.exists(first) and time.monotonic() < deadline:
+            while os.path.exists(first):
                 client.request(b"do", ADD)
                 time.sleep(0.2)
-            faults += [f"{kept} only grows"] if os.path.exists(first) else []
+                if time.monotonic() > deadline:
+                    raise Late(f"{kept} only grows")
         before = value(node)
         one.kill()
         one.start()
@@ -346,9 +343,7 @@ def strangers(folder, program):
         for number, one in enumerate(gone):
             one.sendall(b"do gone-%d %d\n%s\n" % (number, len(ADD), ADD))
             one.close()
-        deadline = time.monotonic() + LONG
-        while value(node) != "100" and time.monotonic() < deadline:
-            time.sleep(0.1)
+        until(lambda: int(value(node)) >= 100, "what 100 clients have sent, who went, is carried out")
         faults = [] if value(node) == "100" else [f"100 clients sent and went, and the counter is {value(node)}"]
         answers = [int(Client(node.places).request(b"do gone-%d" % number, ADD)[1]) for number in range(100)]
         return faults + ([] if sorted(answers) == list(range(1, 101)) else ["who went and comes again does not have the answer"])

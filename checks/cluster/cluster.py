@@ -1,5 +1,6 @@
 """Members of etcd and nodes on this machine, and what happens to them."""
 import base64
+import contextlib
 import json
 import os
 import signal
@@ -7,7 +8,10 @@ import socket
 import subprocess
 import sys
 import time
+import urllib.error
 import urllib.request
+
+from waits import LONG, Late
 
 HERE = os.path.dirname(os.path.abspath(__file__))
 NODE = os.path.join(HERE, "..", "..", "cluster", "pazturrok-node")
@@ -18,17 +22,22 @@ from pazturrok_node import main, room
 room.LEAST = 5.0
 sys.exit(main.main())
 """
-LONG = 60.0
-"""As many seconds as nothing takes, on a busy machine either."""
+OWN = f"127.{64 + (os.getpid() >> 16 & 63)}.{os.getpid() >> 8 & 255}.{os.getpid() & 255}"
+"""An address of this machine that no other process listens at: so a port stays free while nobody listens there."""
+GIVEN = set()
+"""The ports of it that were given to somebody."""
 
 
 def free_ports(count):
-    taken = [socket.socket() for _ in range(count)]
-    for one in taken:
-        one.bind(("127.0.0.1", 0))
-    ports = [one.getsockname()[1] for one in taken]
-    for one in taken:
-        one.close()
+    """Ports of this process's own address, each of which is given once."""
+    ports = []
+    while len(ports) < count:
+        with socket.socket() as one:
+            one.bind((OWN, 0))
+            port = one.getsockname()[1]
+        if port not in GIVEN:
+            GIVEN.add(port)
+            ports.append(port)
     return ports
 
 
@@ -81,7 +90,7 @@ class Cluster:
             one.start()
 
     def host(self, place):
-        return self.apart.host(place) if self.apart else "127.0.0.1"
+        return self.apart.host(place) if self.apart else OWN
 
     def within(self, place):
         return self.apart.words(place) if self.apart else []
@@ -131,9 +140,16 @@ class Cluster:
         return int(told.stdout.split()[0]) if told.stdout.split() else None
 
     def call(self, path, body):
-        """What the first member answers."""
-        with urllib.request.urlopen(self.urls[0] + path, json.dumps(body).encode(), 10) as answer:
-            return json.load(answer)
+        """What the first member answers. It is waited for where it was started just now."""
+        deadline = time.monotonic() + LONG
+        while True:
+            try:
+                with urllib.request.urlopen(self.urls[0] + path, json.dumps(body).encode(), LONG) as answer:
+                    return json.load(answer)
+            except urllib.error.URLError as error:
+                if not isinstance(error.reason, ConnectionRefusedError) or time.monotonic() > deadline:
+                    raise
+                time.sleep(0.1)
 
     def keys(self, prefix):
         """What the first member has under the keys that begin so."""
@@ -210,7 +226,8 @@ class Client:
         self.places, self.at, self.stream, self.patience, self.context = places, at, None, patience, context
 
     def request(self, head, text, limit=2 * LONG):
-        """The number and the text of the answer; the number is None of a question."""
+        """The number and the text of the answer; the number is None of a question. (A form without a name is another one when it is sent
+        again.)"""
         deadline = time.monotonic() + limit
         while time.monotonic() < deadline:
             try:
@@ -219,7 +236,7 @@ class Client:
                 self.stream = None
                 self.at = (self.at + 1) % len(self.places)
                 time.sleep(0.02)
-        raise TimeoutError(f"no answer to {head!r} {text!r}")
+        raise Late(f"no answer in {limit:.0f} s to {head!r} {text[:80]!r}")
 
     def once(self, head, text):
         if self.stream is None:
@@ -242,8 +259,10 @@ def trouble(cluster, chance, stopped, pause):
         node = chance.choice(cluster.nodes)
         if kind < 0.3:
             process = cluster.store_process(cluster.nodes.index(node))
-            if process:
-                os.kill(process, signal.SIGKILL)
+            # (it may have ended by now)
+            with contextlib.suppress(ProcessLookupError):
+                if process:
+                    os.kill(process, signal.SIGKILL)
         elif kind < 0.45:
             node.kill()
             stopped.wait(chance.random() * pause)

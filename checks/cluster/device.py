@@ -4,10 +4,11 @@ import subprocess
 import sys
 import time
 
-from cluster import LONG, NODE, Client
+from cluster import NODE, Client
 from alone import begun, value
 from refusals import ADD
-from watched import until, until_health
+from waits import LONG, until
+from watched import until_health
 
 FAILS = """#!/bin/sh
 # the program, until there is a file with a cause: then it ends as one whose device has failed; with a file `closed` before it is open
@@ -63,13 +64,13 @@ def broken(folder, program):
         Client(node.places).request(b"do add", ADD)
         count = starts(folder)
         fail(folder, BROKEN)
-        until(lambda: one.child.poll() is not None)
+        until(lambda: one.child.poll() is not None, "a node ends whose device has failed")
         status, told = one.child.poll(), one.told()
         faults = [] if status == 5 and starts(folder) == count else [f"a device that failed: status {status}, {starts(folder)} starts after {count}"]
         faults += [] if f"60 DEVICE: {BROKEN}" in told and "start the machine anew" in told else [f"a device that failed is told so: {told[-300:]}"]
         fail(folder, "", "closed")
         one.start()
-        until(lambda: one.child.poll() is not None)
+        until(lambda: one.child.poll() is not None, "a node ends whose device has failed")
         faults += [] if one.child.poll() == 5 and starts(folder) == count + 1 else [f"a device that fails at an opening: {one.child.poll()}"]
         os.unlink(os.path.join(folder, "closed"))
         os.unlink(os.path.join(folder, "cause"))
@@ -86,7 +87,7 @@ def full(folder, program):
     try:
         fail(folder, "", "closed")
         fail(folder, FULL)
-        until(lambda: f"60 DEVICE: {FULL}" in str(until_health(path, 503)))
+        until(lambda: f"60 DEVICE: {FULL}" in str(until_health(path, 503)), "the node says that its disk is full")
         status, told = until_health(path, 503)
         faults = [] if f"the store has ended (60 DEVICE: {FULL})" in str(told) else [f"beside a full disk: {status} {told}"]
         os.unlink(os.path.join(folder, "closed"))

@@ -12,9 +12,9 @@ import time
 import urllib.request
 
 import apart
-from cluster import HERE, LONG, Client
+from cluster import HERE, Client
 from refusals import ADD, begun, value
-from watched import until
+from waits import LONG, Late, until
 
 TOP = os.path.join(HERE, "..", "..")
 PAGE = os.path.join(TOP, "cluster", "README.md")
@@ -90,6 +90,10 @@ class Machines:
             return log.read()
         return ""
 
+    def are_ready(self, places=range(3)):
+        """Waits until the nodes of these places are."""
+        until(lambda: all("INFO ready" in self.told(place) for place in places), "the nodes by the commands of the page are ready")
+
     def answer(self, place, *lines):
         """What commands of a client write on a place."""
         words = [*self.net.words(place), "bash", "-c", in_room("\n".join(lines), self.room)]
@@ -137,7 +141,7 @@ def documented(folder, program):
         return []
     machines = Machines(folder, program)
     try:
-        until(lambda: all("INFO ready" in machines.told(place) for place in range(3)))
+        machines.are_ready()
         first, put, look = machines.clients
         told = [machines.answer(0, first, put), machines.answer(1, first, look)]
         faults = [] if told == ["(1 2)\n"] * 2 else [f"the commands of the page answer {told}: {[machines.told(place) for place in range(3)]}"]
@@ -166,15 +170,15 @@ def replaced(folder, program):
         return []
     machines = Machines(folder, program)
     try:
-        until(lambda: all("INFO ready" in machines.told(place) for place in range(3)))
+        machines.are_ready()
         first, put, look = machines.clients
         machines.answer(0, first, put)
         machines.lose(1)
         keys, *others = commands_of_replacing()
         for line in others:
-            until(lambda line=line: machines.answer(0, "set -e", keys, line + " && echo done").endswith("done\n"))
+            until(lambda line=line: machines.answer(0, "set -e", keys, line + " && echo done").endswith("done\n"), f"this is done: {line}")
         machines.start(1, "etcd --initial-cluster-state existing ")
-        until(lambda: "INFO ready" in machines.told(1))
+        machines.are_ready([1])
         told = machines.answer(1, first, look)
         return [] if told == "(1 2)\n" else [f"a machine that was replaced answers {told!r}: {machines.told(1)[-500:]}"]
     finally:
@@ -187,7 +191,7 @@ def without_certificates(folder, program):
         return []
     machines = Machines(folder, program, has_tls=False)
     try:
-        until(lambda: all("INFO ready" in machines.told(place) for place in range(3)))
+        machines.are_ready()
         first, put, look = machines.clients
         told = [machines.answer(0, first, put), machines.answer(1, first, look)]
         return [] if told == ["(1 2)\n"] * 2 else [f"without certificates the nodes answer {told}"]
@@ -203,7 +207,7 @@ def own_member(folder, program):
         for is_killed in (False, True):
             member.signal(signal.SIGKILL if is_killed else signal.SIGSTOP)
             began = time.monotonic()
-            Client(cluster.places, patience=LONG).request(b"do", ADD)
+            Client(cluster.places, patience=LONG).request(b"do killed-%d" % is_killed, ADD)
             took = time.monotonic() - began
             faults += [] if took < LONG / 2 else [f"without the member that it asks first a node takes {took:.0f} s"]
             member.signal(signal.SIGCONT)
@@ -261,7 +265,7 @@ def leader_of(cluster):
                 if told.get("leader") == told["header"]["member_id"]:
                     return place
         time.sleep(0.2)
-    raise TimeoutError("no member leads")
+    raise Late("no member leads")
 
 
 LONG_ONES = ("own member", "stopped leader", "documented without certificates", "replaced")

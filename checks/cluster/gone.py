@@ -5,11 +5,12 @@ import random
 import threading
 import time
 
-from cluster import LONG, Client
-from late import add, push_many, revision, trimmed
+import late
+from cluster import Client
+from late import add, push_many, revision
 from refusals import ADD, begun, copy_store, refused, value
 from relay import Kept, Relay
-from watched import until
+from waits import LONG, Late, Worker, all_ended
 
 
 def key_of(name):
@@ -33,21 +34,22 @@ def late_delete(folder, program):
     cluster = begun(folder, program, nodes=1, keep=3)
     relays = by_relays(cluster)
     try:
-        for name in (b"again-0", b"again-1", b"again-2"):
+        for turn in range(10):
+            name = b"again-%d" % turn
             number, _ = add(cluster, 0, name)
             kept = relays[0].keep(b"request_delete_range", key_of(name))
-            trimmed(cluster, 0, revision(cluster, number))
-            kept.came.wait(LONG)
-            until(lambda name=name: name.decode() not in cluster.keys("log/"))
+            late.gone(cluster, 0, name.decode(), number)
+            if not kept.came.wait(LONG):
+                raise Late("no delete went through the relay")
             later, answer = add(cluster, 0, name)
             kept.send_again()
             once_more = add(cluster, 0, name)
             if once_more == (later, answer):
                 return [] if number < later else [f"entries with one name: {number}, {later}"]
             # on a busy machine the nodes themselves may have deleted the newer one by now
-            if not any(int(trim) >= revision(cluster, later) for trim in cluster.keys("trims/")):
+            if not any(int(trim) >= revision(later) for trim in cluster.keys("trims/")):
                 return [f"a late delete took a newer entry: {later} {answer}, then {once_more}"]
-        return ["the machine is too busy: newer entries are old before they are looked at"]
+        raise Late("newer entries are old before they are looked at")
     finally:
         cluster.end()
         relays[0].close()
@@ -131,11 +133,10 @@ def repeated(folder, program):
                 done[place] += 1
                 time.sleep(0.02)
 
-        workers = [threading.Thread(target=work, args=(place,)) for place in (0, 1)]
+        workers = [Worker(work, place) for place in (0, 1)]
         for worker in workers:
             worker.start()
-        for worker in workers:
-            worker.join()
+        all_ended(workers)
         seen = {value(cluster, place) for place in (0, 1)}
         trims = [int(name) for name in cluster.keys("trims/")]
         faults = [] if seen == {str(5 + sum(done))} else [f"{sum(done)} were added to 5, and the counters are {seen}"]

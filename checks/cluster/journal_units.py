@@ -9,6 +9,8 @@ import threading
 import unittest
 from unittest import mock
 
+from waits import settled
+
 FULL = OSError(errno.ENOSPC, "No space left on device")
 
 sys.path.insert(0, os.path.join(os.path.dirname(os.path.abspath(__file__)), "..", "..", "cluster"))
@@ -97,7 +99,7 @@ class JournalTest(unittest.IsolatedAsyncioTestCase):
                 given.extend([] if isinstance(found, Reached) else [entry.number for entry in found])
 
         following = asyncio.ensure_future(follow())
-        await asyncio.sleep(0.01)
+        await settled()
         with mock.patch.object(journals.os, "fdatasync", side_effect=lambda _: calls.append("sync")):
             one._took = 0.0
             self.assertTrue(one.is_quick)
@@ -106,7 +108,7 @@ class JournalTest(unittest.IsolatedAsyncioTestCase):
             self.assertEqual(one.append_at_once([(b"b", b"2")]), [2])
             self.assertEqual(one.append_at_once([(b"c", b"3"), (b"d", b"4")]), [3, 4])
             self.assertEqual(one.append_at_once([(b"e", b"5")]), [5], "what comes while others wait waits behind them")
-            await asyncio.sleep(0.01)
+            await settled()
             self.assertEqual(await one.append([(b"f", b"6")], 0), [6])
         self.assertEqual((calls, given), (["sync", "take"] * 3 + ["sync"] + ["sync", "take"], [1, 2, 3, 4, 5, 6]))
         following.cancel()

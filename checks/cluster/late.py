@@ -10,9 +10,9 @@ import sys
 import time
 import types
 
-from cluster import LONG, Client
-from refusals import ADD, begun, stuck_at, value
-from watched import until
+from cluster import Client
+from refusals import ADD, begun, stuck_at, trimmed, value
+from waits import LONG, Late, until
 
 sys.path.append(os.path.join(os.path.dirname(os.path.abspath(__file__)), "..", "..", "cluster"))
 
@@ -69,16 +69,15 @@ def put_back_to(cluster, is_old):
 # ---- names
 
 
-def trimmed(cluster, place, after):
-    """Adds until entries up to those of now are deleted."""
-    deadline = time.monotonic() + LONG
-    while not any(int(name) > after for name in cluster.keys("trims/")) and time.monotonic() < deadline:
-        Client(cluster.places[place : place + 1]).request(b"do", b"(PUSH 1 (GET 'LIST 'KY))")
-        time.sleep(0.2)
-
-
-def revision(cluster, number):
+def revision(number):
+    """That of the entry with this number."""
     return number % (1 << 48) // 128
+
+
+def gone(cluster, place, name, number):
+    """Adds until the entry of this name and number is old, and waits until it is gone from etcd."""
+    trimmed(cluster, place, revision(number))
+    until(lambda: name not in cluster.keys("log/"), f"the entry {name} is gone from etcd")
 
 
 def anew(folder, program):
@@ -86,9 +85,7 @@ def anew(folder, program):
     cluster = begun(folder, program, nodes=1, keep=0)
     try:
         number, told = Client(cluster.places).request(b"do again", ADD)
-        trimmed(cluster, 0, revision(cluster, number))
-        # the key of a trim comes before the deletes that it is for
-        until(lambda: "again" not in cluster.keys("log/"))
+        gone(cluster, 0, "again", number)
         later, answer = Client(cluster.places).request(b"do again", ADD)
         return [] if (told, answer) == ("6", "7") and later > number else [f"answers to one name: {number} {told}, {later} {answer}"]
     finally:
@@ -112,7 +109,7 @@ def waited(folder, program):
         faults += [] if told == "6" else [f"the answer is {told}"]
         time.sleep(18)
         cluster.urls.reverse()
-        trimmed(cluster, 1, revision(cluster, number))
+        gone(cluster, 1, "once", number)
         cluster.members[0].signal(signal.SIGCONT)
         time.sleep(6)
         given = value(cluster, 1)
@@ -130,8 +127,8 @@ def twice(folder, program):
         stream = one.makefile("rb")
         told = {(stream.readline(), stream.readline()) for _ in range(3)}
         return [] if len(told) == 1 and value(cluster, 0) == "6" else [f"answers to one name: {told}"]
-    except TimeoutError:
-        return ["a name that comes twice at once has no answer"]
+    except TimeoutError as late:
+        raise Late("a name that comes twice at once has no answer") from late
     finally:
         cluster.end()
 
@@ -182,9 +179,9 @@ def push_many(cluster):
 
 def same_lists(cluster):
     try:
-        lists = [Client([place]).request(b"read", b"(GET 'LIST 'KY)", LONG)[1] for place in cluster.places]
-    except TimeoutError:
-        return [f"a node does not come back: {cluster.nodes[1].told()[-300:]}"]
+        lists = [Client([place]).request(b"read", b"(GET 'LIST 'KY)")[1] for place in cluster.places]
+    except Late as late:
+        raise Late(f"a node does not come back: {cluster.nodes[1].told()[-300:]}") from late
     return [] if lists[0] == lists[1] and lists[0].startswith(f"({MANY - 1} {MANY - 2} ") else ["the lists differ"]
 
 
@@ -257,10 +254,16 @@ def leavers(_folder, _program):
         server = await asyncio.get_running_loop().create_server(Clients(slow, None, types.SimpleNamespace(name="n0")).serve, "127.0.0.1", 0)
         for _ in range(5):
             _, writer = await asyncio.open_connection(*server.sockets[0].getsockname())
+            before = slow.asked
             writer.write(b"ask 5\n(FOO)\n" * 3000)
+            while slow.asked == before:
+                await asyncio.sleep(0.01)
+            # (as many are asked now as ever will be: nobody reads their answers)
             await asyncio.sleep(0.2)
             writer.transport.abort()
-        await asyncio.sleep(2)
+        ends = time.monotonic() + LONG
+        while len(asyncio.all_tasks()) > 1 and time.monotonic() < ends:
+            await asyncio.sleep(0.01)
         server.close()
         return len(asyncio.all_tasks()) - 1, slow.asked
 

@@ -1,6 +1,8 @@
 """Whether what clients saw of a counter is what one counter may have answered, each call at one moment between its beginning and its end."""
 import collections
 
+from waits import all_ended
+
 Call = collections.namedtuple("Call", "begin end kind value")
 """A call, `add` or `read`, and its value: of `add` the counter after it. The value is None where the answer was lost; the end is then when that was known."""
 
@@ -8,14 +10,35 @@ Call = collections.namedtuple("Call", "begin end kind value")
 def fault_of(calls, final):
     """What no counter answers so that began with 0 and ended with this value; None where there is nothing."""
     added = [call for call in calls if call.kind == "add"]
-    values = [call.value for call in added if call.value is not None]
-    if len(set(values)) < len(values):
-        return f"two answers are the same: {sorted(value for value, n in collections.Counter(values).items() if n > 1)[:3]}"
-    if len(added) != final:
+    values = values_of(added)
+    if len(set(values)) == len(values) and len(added) != final:
         return f"{len(added)} were added, and the counter is {final}"
     if values and not 1 <= min(values) <= max(values) <= final:
         return f"an answer is out of 1 to {final}"
+    return fault_so_far(calls)
+
+
+def fault_so_far(calls):
+    """The same, while the counter is not known."""
+    values = values_of(call for call in calls if call.kind == "add")
+    if len(set(values)) < len(values):
+        return f"two answers are the same: {sorted(value for value, n in collections.Counter(values).items() if n > 1)[:3]}"
     return order_of(sorted((call for call in calls if call.value is not None), key=lambda call: call.begin))
+
+
+def values_of(calls):
+    return [call.value for call in calls if call.value is not None]
+
+
+def all_called(workers, calls):
+    """Waits for those who make the calls. What was seen is judged also where one of them has no answer in time."""
+    try:
+        all_ended(workers)
+    except TimeoutError as late:
+        fault = fault_so_far(calls)
+        if fault:
+            raise AssertionError(fault) from late
+        raise
 
 
 def order_of(calls):

@@ -4,12 +4,12 @@ import base64
 import contextlib
 import os
 import signal
-import threading
 import time
 
-from cluster import LONG, Client
-from refusals import ADD, LOOK, begun, value
-from watched import figures, until, until_health
+from cluster import Client, free_ports
+from refusals import ADD, LOOK, ask_long, begun, trimmed, value
+from waits import LONG, Worker, until
+from watched import figures, until_health
 
 QUOTA = 48 << 20
 NO_ROOM, LOST = "! 54 NO-ROOM", "! 50 OLD-NUMBER"
@@ -42,7 +42,7 @@ def full(folder, program):
         cluster.nodes[0].kill()
         cluster.nodes[0].start()
         faults += [] if value(cluster, 0) == "5" else ["a node does not start beside an etcd that has little room"]
-        until(lambda: client.request(b"do later", ADD)[1] != NO_ROOM)
+        until(lambda: client.request(b"do later", ADD)[1] != NO_ROOM, "forms are taken again")
         faults += [] if value(cluster, 0) == "6" else ["forms are not taken again"]
         return faults + ([] if until_health(path, 200)[0] == 200 else ["the node is not well again"])
     finally:
@@ -113,7 +113,7 @@ def exceeded(folder, program):
             except OSError:
                 pass
             count += 1
-        until(lambda: "NOSPACE" in str(until_health(path, 503)))
+        until(lambda: "NOSPACE" in str(until_health(path, 503)), "the node says that etcd is full")
         status, told = until_health(path, 503)
         faults = [] if status == 503 and "NOSPACE" in str(told) else [f"beside a full etcd: {status} {told}"]
         told = Client(cluster.places).request(b"do full", ADD)
@@ -124,14 +124,14 @@ def exceeded(folder, program):
         time.sleep(5)
         faults += [] if node.child.poll() is None else ["a node ends where etcd is full"]
         answers = []
-        waits = threading.Thread(target=lambda: answers.append(Client(cluster.places).request(b"do after", ADD)))
+        waits = Worker(ask_long, cluster.places, b"do after", ADD, answers)
         waits.start()
         found = cluster.call("/v3/kv/deleterange", {"key": base64.b64encode(b"other/").decode(), "range_end": base64.b64encode(b"other0").decode()})
         cluster.call("/v3/kv/compaction", {"revision": found["header"]["revision"], "physical": True})
         cluster.call("/v3/maintenance/defragment", {})
         for alarm in alarms(cluster):
             cluster.call("/v3/maintenance/alarm", {"action": "DEACTIVATE", **alarm})
-        waits.join(2 * LONG)
+        waits.join()
         return faults + ([] if [text for _, text in answers] == ["6"] else [f"after there was room: {answers}"])
     finally:
         cluster.end()
@@ -141,14 +141,11 @@ def closes(folder, program):
     """A store whose readtable reads no name with a package: entries are deleted even so."""
     cluster = begun(folder, program, nodes=2, keep=1)
     try:
-        client, deadline = Client(cluster.places), time.monotonic() + LONG
+        client = Client(cluster.places)
         client.request(b"do closes", CLOSES)
         number = client.request(b"do after", ADD)[0]
-        revision = number % (1 << 48) // 128
-        while not any(int(name) > revision for name in cluster.keys("trims/")) and time.monotonic() < deadline:
-            client.request(b"do", ADD)
-            time.sleep(0.2)
-        return [] if time.monotonic() < deadline else ["nothing is deleted any more"]
+        trimmed(cluster, 0, number % (1 << 48) // 128, ADD)
+        return []
     finally:
         cluster.end()
 
@@ -173,7 +170,7 @@ def differs(folder, program):
         time.sleep(12)
         faults = [f"{node.log}: {node.told()[-300:]}" for node in cluster.nodes if node.child.poll() is not None]
         client.request(b"do even", b"(SETF (GET 'EVEN 'KY) 1)")
-        until(lambda: cluster.nodes[1].child.poll() is not None)
+        until(lambda: cluster.nodes[1].child.poll() is not None, "a node ends whose store has another world", 2 * LONG)
         told = cluster.nodes[1].told()
         faults += [] if cluster.nodes[1].child.poll() == 4 and "another world than those of n0, n2" in told else [f"the other store: {told[-300:]}"]
         client.request(b"do add", ADD)
@@ -189,7 +186,7 @@ def two_differ(folder, program):
     cluster = begun(folder, program, nodes=1, options=options)
     try:
         cluster.programs = [program, other_program(folder, program)]
-        cluster.places.append(("127.0.0.1", cluster.places[0][1] + 1))
+        cluster.places.append((cluster.host(0), free_ports(1)[0]))
         cluster.nodes.append(cluster.node(1, options=("--compare-every", "4")))
         cluster.nodes[1].start()
         Client(cluster.places[1:]).request(b"do even", b"(SETF (GET 'EVEN 'KY) 1)")

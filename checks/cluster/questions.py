@@ -6,8 +6,9 @@ import sys
 import threading
 import time
 
-from cluster import LONG, Client
+from cluster import Client
 from refusals import ADD, LARGE, LOOK, begun, small_program, stuck_at, value
+from waits import LONG, Worker, all_ended, until
 
 sys.path.append(os.path.join(os.path.dirname(os.path.abspath(__file__)), "..", "..", "clients", "python", "src"))
 
@@ -40,7 +41,7 @@ def without_memory(folder, program):
         told = answer(cluster, 0, b"ask", LARGE)
         faults = [] if told == REFUSED and ends(cluster, 0) == 2 else [f"a question without memory: {told}, {ends(cluster, 0)} ends"]
         for kind in (b"ask", b"read"):
-            other = threading.Thread(target=answer, args=(cluster, 0, kind, LARGE))
+            other = Worker(answer, cluster, 0, kind, LARGE)
             other.start()
             told = [answer(cluster, 0, kind, LOOK) for _ in range(5)]
             other.join()
@@ -74,10 +75,11 @@ def innocent(folder, program):
         for host in cluster.places:
             with socket.create_connection(host) as one:
                 one.sendall(b"ask %d\n%s\n" % (len(LARGE), LARGE) * 2)
-        blamed = threading.Thread(target=lambda: told.append(answer(cluster, 0, b"do pay", ADD)))
-        told, seen, until = [], set(), time.monotonic() + 8
+        told, seen, ends = [], set(), time.monotonic() + 8
+        blamed = Worker(lambda: told.append(answer(cluster, 0, b"do pay", ADD)))
+        until(lambda: reports(cluster), "the nodes report")
         blamed.start()
-        while time.monotonic() < until:
+        while time.monotonic() < ends or blamed.is_alive():
             seen.update(reports(cluster))
             time.sleep(0.5)
         blamed.join()
@@ -97,17 +99,16 @@ def guilty(folder, program):
         while not over.is_set():
             seen.add(client.request(b"ask", LOOK)[1])
 
-    workers = [threading.Thread(target=ask, args=(number % 2,)) for number in range(4)]
-    large = threading.Thread(target=lambda: answers.append(Client(cluster.places, patience=LONG).request(b"do large", LARGE)[1]))
+    workers = [Worker(ask, number % 2) for number in range(4)]
+    large = Worker(lambda: answers.append(Client(cluster.places, patience=LONG).request(b"do large", LARGE, 4 * LONG)[1]))
     try:
         for worker in [*workers, large]:
             worker.start()
         number = stuck_at(cluster)
         status, told = cluster.order("skip", str(number))
-        large.join(LONG)
+        large.join()
         over.set()
-        for worker in workers:
-            worker.join()
+        all_ended(workers)
         faults = [] if status == 0 and answers == ["! 53 SKIPPED"] else [f"skip {number}: {status} {told} {answers}"]
         return faults + ([] if seen == {"5"} else [f"those who asked were answered {seen}"])
     finally:

@@ -3,10 +3,10 @@ import os
 import shutil
 import socket
 import subprocess
-import threading
 import time
 
-from cluster import LONG, Client, Cluster
+from cluster import Client, Cluster
+from waits import LONG, Worker, until
 
 ADD = b"(INCF (GET 'COUNTER 'KY))"
 LOOK = b"(GET 'COUNTER 'KY)"
@@ -28,13 +28,14 @@ def refused(cluster, place, words):
     """What is wrong with a node that should be refused with these words, and change nothing."""
     before = cluster.dump(place)
     node = cluster.nodes[place]
+    earlier = len(node.told())
     node.start()
     try:
         status = node.child.wait(LONG)
     except subprocess.TimeoutExpired:
         node.kill()
         return [f"a node goes on, and should say: {words}"]
-    told = node.told()
+    told = node.told()[earlier:]
     found = [] if status == 4 and words in told else [f"status {status} and no {words!r} in {told[-300:]!r}"]
     return found + ([] if cluster.dump(place) == before else [f"a store has changed, though {words}"])
 
@@ -157,10 +158,7 @@ def behind(folder, program):
     try:
         one, away = cluster.nodes
         away.finish()
-        client, deadline = Client(cluster.places[:1]), time.monotonic() + 2 * LONG
-        while not any(int(name) > 40 for name in cluster.keys("trims/")) and time.monotonic() < deadline:
-            client.request(b"do", ADD)
-            time.sleep(0.2)
+        trim_away(cluster)
         one.finish()
         faults = refused(cluster, 1, "behind what is left of the log")
         copy_store(cluster, 0, 1)
@@ -170,6 +168,22 @@ def behind(folder, program):
         return faults + ([] if given == wanted else [f"a seeded node has {given}, and not {wanted}"])
     finally:
         cluster.end()
+
+
+def trim_away(cluster):
+    """Adds until it is said that entries are deleted which a store wants that is new, or was away: from then on it is behind."""
+    trimmed(cluster, 0, 40, ADD)
+
+
+def trimmed(cluster, place, after, form=b"(PUSH 1 (GET 'LIST 'KY))"):
+    """Adds until it is said that entries up to a revision after this one are deleted. (The deletes themselves come after that.)"""
+    client = Client(cluster.places[place : place + 1])
+
+    def is_told():
+        client.request(b"do", form)
+        return any(int(name) > after for name in cluster.keys("trims/"))
+
+    until(is_told, "old entries are deleted", 2 * LONG)
 
 
 def idle(folder, program):
@@ -207,18 +221,18 @@ def skipped(folder, program):
     cluster = begun(folder, small_program(folder, program), nodes=2)
     answers = []
     try:
-        large = threading.Thread(target=lambda: answers.append(Client(cluster.places).request(b"do large", LARGE)))
-        after = threading.Thread(target=lambda: answers.append(Client(cluster.places[1:]).request(b"do after", ADD)))
+        large = Worker(ask_long, cluster.places, b"do large", LARGE, answers)
+        after = Worker(ask_long, cluster.places[1:], b"do after", ADD, answers)
         large.start()
-        time.sleep(2)
+        until(lambda: "large" in cluster.keys("log/"), "a form comes into the log")
         after.start()
         number = stuck_at(cluster)
         faults = [] if cluster.order("skip", str(number + 1))[0] == 2 else ["another entry is skipped"]
         status, told = cluster.order("skip", str(number))
         if status:
             return [*faults, f"skip {number}: {told}"]
-        large.join(LONG)
-        after.join(LONG)
+        large.join()
+        after.join()
         if sorted(text for _, text in answers) != ["! 53 SKIPPED", "6"]:
             faults.append(f"answers after a skip: {answers}")
         if [value(cluster, 0), value(cluster, 1)] != ["6", "6"]:
@@ -229,15 +243,22 @@ def skipped(folder, program):
         cluster.end()
 
 
+def ask_long(places, head, text, answers):
+    """Has the answers take one more, however long that takes."""
+    answers.append(Client(places, patience=LONG).request(head, text, 4 * LONG))
+
+
 def stuck_at(cluster):
-    """The number of the entry at which all stores end, by what the nodes report; 1 where they do not."""
-    deadline = time.monotonic() + 2 * LONG
-    while time.monotonic() < deadline:
-        time.sleep(1)
-        stuck = {int(report.split(b'"stuck": ')[1].rstrip(b"}")) for report in cluster.keys("nodes/").values()}
-        if len(stuck) == 1 and 0 not in stuck:
-            return stuck.pop()
-    return 1
+    """The number of the entry at which all stores end, by what the nodes report."""
+    seen = set()
+
+    def are_stuck():
+        seen.clear()
+        seen.update(int(report.split(b'"stuck": ')[1].rstrip(b"}")) for report in cluster.keys("nodes/").values())
+        return len(seen) == 1 and 0 not in seen
+
+    until(are_stuck, "all nodes report the entry at which their stores end", 2 * LONG)
+    return seen.pop()
 
 
 def skipped_elsewhere(cluster, number):

@@ -5,6 +5,8 @@ import re
 import socket
 import threading
 
+from waits import LONG
+
 LENGTH = re.compile(rb"\r\ncontent-length: *([0-9]+)\r\n", re.IGNORECASE)
 
 
@@ -21,7 +23,7 @@ class Kept:
 
     def send_again(self):
         """Sends the request once more, on a connection of its own, and gives the first bytes of the answer."""
-        with socket.create_connection(self.target, 10) as one:
+        with socket.create_connection(self.target, LONG) as one:
             one.sendall(self.text)
             return one.recv(1 << 16)
 
@@ -73,7 +75,7 @@ class Relay:
             kept.text = request
             kept.came.set()
             if kept.is_held:
-                kept.may_go.wait(60)
+                kept.may_go.wait(LONG)
         with contextlib.suppress(OSError):
             other.sendall(request)
         self.every(request)

@@ -3,8 +3,10 @@ import os
 import ssl
 import subprocess
 
+from cluster import OWN
+
 USES = "subjectAltName={}\nextendedKeyUsage=serverAuth,clientAuth\n"
-HERE = "IP:127.0.0.1,DNS:localhost"
+HERE = f"IP:127.0.0.1,IP:{OWN},DNS:localhost"
 
 
 def openssl(*words):

@@ -9,20 +9,12 @@ import shutil
 import socket
 import subprocess
 import threading
-import time
 
-from cluster import HERE, LONG, Alone, Client, Cluster, free_ports
-from refusals import ADD, begun, refused, value
+from cluster import HERE, OWN, Alone, Client, Cluster, free_ports
+from refusals import ADD, begun, refused, trim_away, value
+from waits import LONG, Worker, until
 
 OPERATORS = os.path.join(HERE, "..", "..", "lisp", "operators.lisp")
-
-
-def trim_away(cluster):
-    """Adds until entries are deleted that a new store would want."""
-    client, deadline = Client(cluster.places[:1]), time.monotonic() + 2 * LONG
-    while not any(int(name) > 40 for name in cluster.keys("trims/")) and time.monotonic() < deadline:
-        client.request(b"do", ADD)
-        time.sleep(0.2)
 
 
 def tree(folder):
@@ -56,7 +48,7 @@ def taken(folder, program):
         cluster.nodes[0].start()
         value(cluster, 0)
         over = threading.Event()
-        adds = threading.Thread(target=keep_adding, args=(cluster, over))
+        adds = Worker(keep_adding, cluster, over)
         adds.start()
         cluster.nodes[1].start()
         cluster.nodes[new_node(cluster)].start()
@@ -67,18 +59,25 @@ def taken(folder, program):
         faults += [] if len(set(seen)) == 1 else [f"the counters are {seen}"]
         is_kept = tree(os.path.join(cluster.store(1), "pazturrok-before")) == old
         faults += [] if is_kept else ["what was there before is not kept"]
-        told = subprocess.run(cluster.words(0, "nodes"), capture_output=True, text=True, timeout=LONG)
-        names = [line.split()[0] for line in told.stdout.splitlines()]
-        faults += [] if names == ["n0", "n1", "n2"] and told.returncode == 0 else [f"nodes: {told}"]
-        return faults + left_over(cluster)
+        until(lambda: names_of_nodes(cluster) == ["n0", "n1", "n2"], "`pazturrok-node nodes` tells of three nodes")
+        # (who gives a copy removes it after the last byte, which the other one has by then)
+        until(lambda: not left_over(cluster), "nothing is left of what was given")
+        return faults
     finally:
         cluster.end()
 
 
 def keep_adding(cluster, over):
-    client = Client(cluster.places[:1])
+    client, count = Client(cluster.places[:1]), 0
     while not over.is_set():
-        client.request(b"do", ADD)
+        count += 1
+        client.request(b"do more-%d" % count, ADD)
+
+
+def names_of_nodes(cluster):
+    """The nodes of which `nodes` tells, if it ends well."""
+    told = subprocess.run(cluster.words(0, "nodes"), capture_output=True, text=True, timeout=LONG)
+    return told.returncode == 0 and [line.split()[0] for line in told.stdout.splitlines()]
 
 
 def left_over(cluster):
@@ -108,7 +107,8 @@ def as_told(folder, program):
         faults += [] if is_kept else ["what was there before is not kept"]
         cluster.nodes[1].start()
         faults += [] if value(cluster, 1) == "5" else ["a node does not go on with what it took"]
-        return faults + left_over(cluster)
+        until(lambda: not left_over(cluster), "nothing is left of what was given")
+        return faults
     finally:
         cluster.end()
 
@@ -121,7 +121,7 @@ def order(cluster, *words):
 def givers(cluster, folder):
     """Places that give no store, or a wrong one, and what is said of each."""
     token = cluster.keys("log")[""].decode()
-    yield f"127.0.0.1:{free_ports(1)[0]}", "Connect call failed"
+    yield f"{OWN}:{free_ports(1)[0]}", "Connect call failed"
     yield os.path.join(folder, "nobody"), "No such file"
     halves = {"half-a": [4, "0" * 64], "half-b": [0, "0" * 64]}
     line = {"copy": 1, "node": "n7", "log": token, "halves": halves}
@@ -159,8 +159,8 @@ def way_back(folder, program):
     try:
         kept = os.path.join(folder, "yesterday")
         subprocess.run([program, "backup", cluster.store(0), kept], check=True, capture_output=True)
-        for _ in range(3):
-            Client(cluster.places).request(b"do", ADD)
+        for number in range(3):
+            Client(cluster.places).request(b"do later-%d" % number, ADD)
         cluster.nodes[0].finish()
         os.rename(cluster.store(0), os.path.join(folder, "today"))
         shutil.copytree(kept, cluster.store(0))
@@ -168,12 +168,14 @@ def way_back(folder, program):
         faults = [] if cluster.order(*words, "--again")[0] == 4 else ["a log is begun again while a node runs"]
         faults += [] if value(cluster, 1) == "8" else ["the node that runs does not go on"]
         cluster.nodes[1].finish()
+        without_names(cluster)
         faults += [] if cluster.order(*words)[0] == 2 else ["a log is begun again though nobody asked for it"]
         status, told = cluster.order(*words, "--again")
         faults += [] if status == 0 else [f"begin --again: {status} {told}"]
         cluster.nodes[0].start()
         faults += [] if value(cluster, 0) == "5" else [f"after the way back the counter is {value(cluster, 0)}"]
         faults += refused(cluster, 1, "of another log")
+        until(lambda: "n1" not in cluster.keys("names/"), "a node that was refused has no name")
         status, told = order(cluster, "seed", cluster.store(1))
         cluster.nodes[1].start()
         Client(cluster.places[1:]).request(b"do add-0", ADD)
@@ -183,6 +185,11 @@ def way_back(folder, program):
         return faults + ([] if is_well else [f"after the way back the counters are {seen}: {told}"])
     finally:
         cluster.end()
+
+
+def without_names(cluster):
+    """Waits until no node has a name. One that ends lets its name go if etcd is told so within two seconds, and else has it for 15 more."""
+    until(lambda: not cluster.keys("names/"), "nodes that were ended have no names")
 
 
 def versions(folder, program):
@@ -200,7 +207,7 @@ def versions(folder, program):
         put(cluster, base64.b64encode(b"pazturrok/store/nodes/n9").decode(), "no report")
         node.start()
         faults += [] if value(cluster, 0) == "5" else ["a log without a version does not go on"]
-        Client(cluster.places).request(b"do", ADD)
+        Client(cluster.places).request(b"do later", ADD)
         node.finish()
         no_note = "is not what stands there"
         for text, why in (("{", no_note), ("[]", no_note), ('{"version": 2}', "of another version")):

@@ -8,9 +8,10 @@ import socket
 import sys
 import time
 
-from cluster import LONG, Alone, Client, Cluster, connected
+from cluster import Alone, Client, Cluster, connected
 from refusals import ADD, LOOK
-from watched import figures, until, until_health
+from waits import LONG, until
+from watched import figures, until_health
 
 sys.path.append(os.path.join(os.path.dirname(os.path.abspath(__file__)), "..", "..", "clients", "python", "src"))
 
@@ -108,7 +109,7 @@ def too_many(folder, program):
         held = [connected(full.places[0], LONG) for _ in range(2)]
         for one in held:
             one.sendall(b"ask %d\n%s\n" % (len(LOOK), LOOK))
-        until(lambda: figures(path)['pazturrok_node_requests_total{kind="ask"}'] == 2)
+        until(lambda: figures(path)['pazturrok_node_requests_total{kind="ask"}'] == 2, "two questions come to the node")
         told = answers_of(connected(full.places[0], LONG))
         faults = [] if told == [("0", NO_ROOM)] else [f"one client too many is answered {told}"]
         with NodeStore([f"unix:{full.places[0]}", f"unix:{other.places[0]}"], time_limit=LONG) as one:

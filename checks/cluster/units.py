@@ -4,6 +4,7 @@ import asyncio
 import contextlib
 import errno
 import io
+import itertools
 import logging
 import os
 import re
@@ -15,6 +16,7 @@ from unittest import mock
 
 import journal_units
 import seed_units
+from waits import LONG, settled
 
 sys.path.insert(0, os.path.join(os.path.dirname(os.path.abspath(__file__)), "..", "..", "cluster"))
 
@@ -123,11 +125,11 @@ class AppenderTest(unittest.IsolatedAsyncioTestCase):
     async def send(self, *names):
         for name in names:
             self.appender.append(name[0], name.encode(), b"", lambda placed, name=name: self.taken.__setitem__(name, placed))
-        await asyncio.sleep(0.01)
+        await settled()
 
     async def let(self, place):
         self.log.under_way.pop(place).set_result(None)
-        await asyncio.sleep(0.01)
+        await settled()
 
     async def test_order_of_each_sender(self):
         await self.send("a1")
@@ -153,7 +155,8 @@ class AppenderTest(unittest.IsolatedAsyncioTestCase):
         self.log.error = BusyError("busy")
         with mock.patch("pazturrok_node.appender.PAUSE", 0.01):
             await self.send("a2")
-            await asyncio.sleep(0.03)
+            while not self.log.under_way:
+                await asyncio.sleep(0.01)
         await self.let(0)
         self.assertEqual(self.taken["a2"], 1)
 
@@ -181,7 +184,7 @@ class AppenderTest(unittest.IsolatedAsyncioTestCase):
         await self.send("b1")
         self.assertEqual((self.log.batches, self.taken), ([], {}))
         with self.assertRaises(OSError):
-            await asyncio.wait_for(self.task, 1)
+            await asyncio.wait_for(self.task, LONG)
 
 
 CAUSES = (b"Input/output error (os error 5)", b"No space left on device (os error 28)", b"locked by another process", b"there is no store in this folder")
@@ -236,7 +239,7 @@ class ChildTest(unittest.IsolatedAsyncioTestCase):
         frames = Frames(ANSWER)
         one = await self.started(b"at 1\nno answer\n" + b"x" * 100_000)
         one.hear(lambda data: list(frames.split(data)))
-        await asyncio.wait_for(one.is_over, 10)
+        await asyncio.wait_for(one.is_over, LONG)
         self.assertEqual(await one.end(), 0)
 
 
@@ -261,20 +264,22 @@ class EtcdTest(unittest.IsolatedAsyncioTestCase):
     async def test_member_that_hangs(self):
         """It is left, and where it was watched the watch goes to the one that answers, before it was silent for as long as a watch may be."""
         one = Etcd([await self.member(False), await self.member(True)])
-        told = asyncio.ensure_future(one.watch({}, 1, 60.0).__anext__())
-        with mock.patch.object(etcds, "QUICK", 0.2), mock.patch.object(etcds, "TIMEOUT", 60.0):
-            found = await asyncio.wait_for(one.call("/v3/kv/range", {}, one.quick), 10)
+        told = asyncio.ensure_future(one.watch({}, 1, 2 * LONG).__anext__())
+        with mock.patch.object(etcds, "QUICK", 0.2), mock.patch.object(etcds, "TIMEOUT", 2 * LONG):
+            found = await asyncio.wait_for(one.call("/v3/kv/range", {}, one.quick), LONG)
         self.assertEqual(found, {"header": {"revision": "7"}})
         with self.assertRaises(StopAsyncIteration):
-            await asyncio.wait_for(told, 10)
-        self.assertEqual(await asyncio.wait_for(one.watch({}, 1, 60.0).__anext__(), 10), {"header": {"revision": "7"}})
+            await asyncio.wait_for(told, LONG)
+        self.assertEqual(await asyncio.wait_for(one.watch({}, 1, 2 * LONG).__anext__(), LONG), {"header": {"revision": "7"}})
 
     async def test_quick(self):
         """Where calls are answered soon, a member is left soon; and never sooner than in half a second."""
         one = Etcd([await self.member(True)])
         self.assertEqual(one.quick, 1.5)
+        clock = mock.Mock(monotonic=itertools.count(0, 0.001).__next__)
         for _ in range(100):
-            await one.call("/v3/kv/range", {})
+            with mock.patch.object(etcds, "time", clock):
+                await one.call("/v3/kv/range", {})
         self.assertLess(one.quick, 1.5)
         self.assertGreaterEqual(one.quick, 0.5)
         one._took = 100.0

@@ -11,8 +11,9 @@ import subprocess
 import sys
 import time
 
-from cluster import LONG, NODE
+from cluster import NODE
 from refusals import LOOK, begun, value
+from waits import LONG, Late, until
 
 LINE = re.compile(r"[0-9]{4}-[0-9]{2}-[0-9]{2}T[0-9]{2}:[0-9]{2}:[0-9]{2}[+-][0-9]{4} (INFO|WARNING|ERROR) .+")
 FIGURE = re.compile(r'(pazturrok_node_[a-z_]+)((?:\{[a-z]+="[^"]*"(?:,[a-z]+="[^"]*")*\})?) ([0-9.e+-]+)')
@@ -51,20 +52,16 @@ def figures(path):
     return {found[1] + found[2]: float(found[3]) for found in map(FIGURE.fullmatch, lines)}
 
 
-def until(holds):
-    deadline = time.monotonic() + LONG
-    while not holds() and time.monotonic() < deadline:
-        time.sleep(0.1)
-
-
 def until_health(path, status):
     """What a node tells of its health, once that has this status."""
     deadline, told = time.monotonic() + LONG, (0, "null")
-    while told[0] != status and time.monotonic() < deadline:
-        # before a node listens there is nobody
-        with contextlib.suppress(OSError):
+    while told[0] != status:
+        if time.monotonic() > deadline:
+            raise Late(f"the health of a node is {told}, and not {status}")
+        time.sleep(0.1)
+        # before a node listens there is nobody, and one that ends answers nothing
+        with contextlib.suppress(OSError, http.client.HTTPException):
             told = got(path, "GET", "/health")
-        time.sleep(0 if told[0] == status else 0.3)
     return told[0], json.loads(told[1])
 
 
@@ -82,8 +79,7 @@ def monitored(folder, program):
         os.kill(cluster.store_process(0), signal.SIGKILL)
         faults += [] if value(cluster, 0) == "5" and figures(path)["pazturrok_node_store_ends_total"] == 1 else ["an end of the store is not counted"]
         cluster.members[0].signal(signal.SIGSTOP)
-        status, told = until_health(path, 503)
-        faults += [] if status == 503 and "no member of etcd answers" in told["troubles"][0] else [f"without etcd: {status} {told}"]
+        until(lambda: "no member of etcd answers" in str(until_health(path, 503)), "a node without etcd says so")
         cluster.members[0].signal(signal.SIGCONT)
         faults += [] if until_health(path, 200)[0] == 200 else ["a node is not well again"]
         statuses = [got(path, *words)[0] for words in (("POST", "/health"), ("GET", "/"), ("GET", "/" + "x" * 10_000))]
@@ -112,11 +108,11 @@ def idle_clients(folder, program):
         os.kill(store, signal.SIGSTOP)
         waits = socket.create_connection(cluster.places[0], LONG)
         waits.sendall(b"ask %d\n%s\n" % (len(LOOK), LOOK))
-        until(lambda: figures(path)['pazturrok_node_requests_total{kind="ask"}'] == 1)
+        until(lambda: figures(path)['pazturrok_node_requests_total{kind="ask"}'] == 1, "a question comes to the node")
         silent = [socket.create_connection(cluster.places[0], LONG) for _ in range(60)]
         silent[0].settimeout(LONG)
         faults = [] if silent[0].recv(1) == b"" else ["one that is let go is not told"]
-        until(lambda: figures(path)["pazturrok_node_clients"] >= 20)
+        until(lambda: figures(path)["pazturrok_node_clients"] >= 20, "20 clients are connected")
         count = figures(path)["pazturrok_node_clients"]
         faults += [] if count == 20 else [f"{count} clients are connected"]
         os.kill(store, signal.SIGCONT)

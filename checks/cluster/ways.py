@@ -6,9 +6,10 @@ import subprocess
 import sys
 import time
 
-from cluster import LONG, NODE, Client, Process, free_ports
+from cluster import NODE, Client, Process, free_ports
 from refusals import ADD, begun, value
 from secrets import Secrets
+from waits import LONG, until
 
 sys.path.append(os.path.join(os.path.dirname(os.path.abspath(__file__)), "..", "..", "clients", "python", "src"))
 
@@ -126,11 +127,9 @@ def deaf_node(cluster, folder, words):
     node = Process(cluster.plain_words(0, *further), os.path.join(folder, "deaf.log"))
     node.start()
     try:
-        deadline = time.monotonic() + LONG
-        while "no member of etcd answers" not in node.told():
-            if time.monotonic() > deadline or node.child.poll() is not None:
-                return [f"a node that no member of etcd hears does not say so: {node.told()[-300:]}"]
-            time.sleep(0.2)
+        until(lambda: "no member of etcd answers" in node.told() or node.child.poll() is not None, "a node that no member of etcd hears says so")
+        if node.child.poll() is not None:
+            return [f"a node that no member of etcd hears ends: {node.told()[-300:]}"]
         return [] if not os.path.exists(cluster.store(7)) else ["a node that no member of etcd hears has opened its store"]
     finally:
         node.finish()
