@@ -9,6 +9,8 @@ import time
 
 TOP = os.path.dirname(os.path.dirname(os.path.abspath(__file__)))
 MOST_AT_ONCE, LAST_LINES = 4, 12
+# A check that takes so many seconds hangs: it is ended, and named as any other one that fails.
+MOST_SECONDS = 3600
 
 # What stands in the words of a check for what was built: the program; the library for C, which is proved once more
 # where a check builds it; and the folder of the crates with their tests.
@@ -149,9 +151,13 @@ class Run:
         began = time.monotonic()
         how = {"cwd": TOP, "stdin": subprocess.DEVNULL, "capture_output": True, "text": True, "errors": "replace"}
         try:
-            ended = subprocess.run(self.command(check), check=False, **how)
+            ended = subprocess.run(self.command(check), check=False, timeout=MOST_SECONDS, **how)
         except OSError as error:
             ended = subprocess.CompletedProcess(check.words, 127, "", f"it does not start: {error}\n")
+        except subprocess.TimeoutExpired as error:
+            # (what it has said by then comes as bytes)
+            said = [(it or b"").decode(errors="replace") for it in (error.stdout, error.stderr)]
+            ended = subprocess.CompletedProcess(check.words, 124, said[0], f"{said[1]}\nit was ended after {MOST_SECONDS} s\n")
         return check, ended, time.monotonic() - began
 
     def side_by_side(self, checks):

@@ -11,6 +11,8 @@ import sys
 import threading
 import time
 
+from cluster import OWN
+
 ADD = "(INCF (GET 'COUNTER 'KY))"
 
 LOSE = "(LOSE)"
@@ -26,8 +28,8 @@ class FakeNodes:
         self.is_silent = [False] * count
         self.greetings = [("ask", '(:VERSION 1 :NODE "0.0.0" :NAME "fake")')] * count
         """What each of them answers to a client's version; after a refusal it ends the connection."""
-        self.listeners = [socket.create_server(("127.0.0.1", 0)) for _ in range(count)]
-        self.names = [f"127.0.0.1:{one.getsockname()[1]}" for one in self.listeners]
+        self.listeners = [socket.create_server((OWN, 0)) for _ in range(count)]
+        self.names = [f"{OWN}:{one.getsockname()[1]}" for one in self.listeners]
         for place in range(count):
             threading.Thread(target=self.listen, args=(place,), daemon=True).start()
 

@@ -54,6 +54,13 @@ def put_back_edits(room: str) -> None:
         os.rename(folder, f"{room}/crates/{os.path.basename(folder)}/must-fail")
 
 
+def count_edits(room: str) -> int:
+    """Returns how many wrong bodies there are, those of a wrong name too."""
+    places = os.walk(f"{room}/crates")
+    kept = [files for place, _, files in places if "must-fail" in os.path.relpath(place, room).split(os.sep)]
+    return sum(not name.endswith(".md") for files in kept for name in files)
+
+
 def changed(sums: Sums, top: str, room: str) -> list[str]:
     """Returns the paths of the sources that are others than at the beginning, in the clone or the copy."""
     now = [sums_of(top), sums_of(room)]

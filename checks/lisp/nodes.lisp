@@ -49,10 +49,11 @@
   (call-with-standing-nodes
    "0"
    (lambda (nodes)
-     (with-nodes (feed nodes :time-limit 20)
-       (expect "no node, before the time is up" '(no-node t)
-               (let ((end (+ (get-internal-real-time) (* 10 internal-time-units-per-second))))
-                 (list (signalled (ask feed "(LOSE)")) (< (get-internal-real-time) end))))
+     (with-nodes (feed nodes :time-limit *long*)
+       (expect "no node, before the time is up" 'no-node
+               (let (name)
+                 (expect "its end" t (ends-p (lambda () (setf name (signalled (ask feed "(LOSE)"))))))
+                 name))
        (expect "the next one is answered" 1 (feed-form feed *add*))))))
 
 (define-check no-node-at-all ()

@@ -62,7 +62,10 @@ class Messages(StoreTest):
         done = threading.Event()
 
         def kill() -> None:
-            while not done.wait(chance.random() * 0.3):
+            # (on a busy machine the program may take long to come so far)
+            pause = 0.3
+            while not done.wait(chance.random() * pause):
+                pause *= 1.02
                 pid = store.pid
                 if pid:
                     # (it may have been killed before, and have ended since)

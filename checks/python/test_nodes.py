@@ -137,7 +137,7 @@ class Nodes(StoreTest):
 
     def test_a_question_is_not_carried_on_for_ever(self) -> None:
         nodes = self.nodes(count=3)
-        with NodeStore(nodes.names, time_limit=20) as store:
+        with NodeStore(nodes.names, time_limit=LONG) as store:
             for kind in (store.ask, store.read):
                 nodes.heads.clear()
                 with self.assertRaisesRegex(NoNodeError, "it was sent 6 times"):
@@ -191,15 +191,15 @@ class RealNodes(StoreTest):
 @unittest.skipUnless(shutil.which("openssl"), "openssl is not installed")
 class Certificates(StoreTest):
     def test_a_node_with_another_certificate_is_told_at_once(self) -> None:
-        from cluster import free_ports
+        from cluster import OWN, free_ports
         from secrets import Secrets
 
         ours, others, port = Secrets(self.folder), Secrets(self.folder, "others"), free_ports(1)[0]
-        words = [NODE, os.path.join(self.folder, "store"), "--alone", "--listen", f"127.0.0.1:{port}", "--program", PROGRAM]
+        words = [NODE, os.path.join(self.folder, "store"), "--alone", "--listen", f"{OWN}:{port}", "--program", PROGRAM]
         node = subprocess.Popen([sys.executable, "-B", *words, "--cert", ours.both, "--client-ca", ours.ca], stderr=subprocess.DEVNULL)
         self.addCleanup(node.wait)
         self.addCleanup(node.terminate)
-        place, plain = f"127.0.0.1:{port}", self.nodes_without_tls()
+        place, plain = f"{OWN}:{port}", self.nodes_without_tls()
         with NodeStore([place], context=ours.context(), time_limit=LONG) as store:
             self.assertEqual(7, store.put("A", "B", 7))
         with NodeStore([place], context=others.context(), time_limit=LONG) as store, self.assertRaises(NoNodeError) as raised:
