@@ -9,7 +9,7 @@ import threading
 import time
 
 import linear
-from cluster import NODE, OWN, Alone, Client, connected, free_ports
+from cluster import NODE, OWN, Alone, Client, connected, free_ports, has_readtables
 from refusals import ADD, LARGE, LOOK, NO_FRAMES, small_program
 from waits import LONG, Late, Worker, until
 
@@ -282,9 +282,10 @@ def old(folder, program):
     """Names go after their time, and so do segments, also where the store reads no name with a package; nothing is lost by that."""
     node = begun(folder, program, keep=1)
     one, client = node.nodes[0], Client(node.places)
+    forms = [(ADD, "the journal"), (CLOSES, "the journal of a store that reads no colon")]
     try:
         faults = []
-        for form, kept in ((ADD, "the journal"), (CLOSES, "the journal of a store that reads no colon")):
+        for form, kept in forms if has_readtables(program) else forms[:1]:
             client.request(b"do", form)
             first, deadline = segments(node)[0], time.monotonic() + LONG
             while os.path.exists(first):

@@ -41,6 +41,11 @@ def free_ports(count):
     return ports
 
 
+def has_readtables(program):
+    """Whether a program reads under readtables: the small one that stands in for it does not."""
+    return os.path.basename(program) != "fake"
+
+
 class Process:
     """A program that can be killed, stopped for a while, and started again."""
 

@@ -6,7 +6,7 @@ import os
 import signal
 import time
 
-from cluster import Client, free_ports
+from cluster import Client, free_ports, has_readtables
 from refusals import ADD, LOOK, ask_long, begun, trimmed, value
 from waits import LONG, Worker, until
 from watched import figures, until_health
@@ -139,6 +139,8 @@ def exceeded(folder, program):
 
 def closes(folder, program):
     """A store whose readtable reads no name with a package: entries are deleted even so."""
+    if not has_readtables(program):
+        return []
     cluster = begun(folder, program, nodes=2, keep=1)
     try:
         client = Client(cluster.places)

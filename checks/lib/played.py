@@ -19,6 +19,9 @@ from typing import IO, Any, Union
 from lib.places import MEMORY, PATIENCE, SESSIONS
 
 
+# What a program is started with that nobody asks to tell why forms are refused.
+BARE = {name: value for name, value in os.environ.items() if name != "PAZTURROK_REASONS"}
+
 # A line of standard error on a form that was refused in a session which goes on.
 REFUSED = re.compile(rb"^(?:standard error: )?(?:line \d+, column \d+|after \d+ bytes): \d+: .* \(help \d+\)\n", re.M)
 
@@ -44,6 +47,13 @@ def text_of(status: int, out: bytes, err: bytes) -> bytes:
     and after `standard error: ` what it told of faults."""
     end = b"\\\n" if out and not out.endswith(b"\n") else b""
     return b"%d\n%s%s%s" % (status, out, end, b"standard error: " + err if err else b"")
+
+
+def without_reasons(text: bytes) -> bytes:
+    """The same as `text_of` has it, without the lines on forms that were refused."""
+    front, mark, faults = text.partition(b"\nstandard error: ")
+    rest = REFUSED.sub(b"", faults)
+    return front + (mark + rest if rest else mark[:1])
 
 
 class Run:
@@ -103,10 +113,14 @@ class Run:
         file.seek(0)
         return {"stdin": file}
 
-    def difference(self, program: str, folder: str) -> str | None:
-        """What a run gives in place of what is wanted, or None."""
+    def difference(self, program: str, folder: str, is_bare: bool = False) -> str | None:
+        """What a run gives in place of what is wanted, or None. A bare one tells nothing of forms that are refused."""
         try:
-            found, wanted = text_of(*self.answer(program, folder)), joined(self.wanted)
+            if is_bare:
+                given = self.whole_answer(program, folder, BARE)
+                found, wanted = text_of(*given), without_reasons(joined(self.wanted))
+            else:
+                found, wanted = text_of(*self.answer(program, folder)), joined(self.wanted)
         except subprocess.TimeoutExpired as late:
             return f"{' '.join(self.words)}: no end after {late.timeout} seconds"
         if found == wanted or self.is_open and found.startswith(wanted):
@@ -261,12 +275,12 @@ def scripts(files: list[str]) -> Iterator[tuple[str, str, list[Step]]]:
             yield os.path.basename(path), name, steps
 
 
-def deviation(program: str, steps: list[Step]) -> str | None:
-    """What the first step of a script gives that gives something else, or None."""
+def deviation(program: str, steps: list[Step], is_bare: bool = False) -> str | None:
+    """What the first step of a script gives that gives something else, or None. A bare program is asked for no reasons."""
     folder = tempfile.mkdtemp(prefix="pazturrok-", dir=MEMORY)
     try:
         for step in steps:
-            found = step.difference(program, folder)
+            found = step.difference(program, folder, is_bare) if isinstance(step, Run) else step.difference(program, folder)
             if found:
                 return found
     finally:
