@@ -61,7 +61,8 @@ CLOSES = b"(SET-MACRO-CHARACTER #\\: :CLOSE)"
 
 def begun(folder, program, **options):
     node = Alone(folder, program, **options)
-    Client(node.places).request(b"do first", b"(SETF (GET 'COUNTER 'KY) 0)")
+    with node.ended_if_late():
+        Client(node.places).request(b"do first", b"(SETF (GET 'COUNTER 'KY) 0)")
     return node
 
 

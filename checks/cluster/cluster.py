@@ -177,10 +177,14 @@ class Cluster:
         for member in self.members:
             member.kill()
 
-    def tell_logs(self):
-        """The last lines of what each process told."""
-        for one in [*self.nodes, *self.members]:
-            print(f"--- {one.log}", *one.told().split("\n")[-15:], sep="\n")
+    @contextlib.contextmanager
+    def ended_if_late(self):
+        """Ends the cluster where what is done first comes to no end, before a part has it."""
+        try:
+            yield
+        except BaseException:
+            self.end()
+            raise
 
     def run(self, place, command, *options, text=""):
         """What a command tells of a store that no node serves. The program of a node that was killed holds its store for a moment more."""

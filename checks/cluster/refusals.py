@@ -15,12 +15,13 @@ LOOK = b"(GET 'COUNTER 'KY)"
 def begun(folder, program, members=1, **options):
     """A cluster whose counter has gone up to 5, on all of its nodes."""
     cluster = Cluster(folder, program, members, **options)
-    client = Client(cluster.places, context=cluster.context)
-    client.request(b"do first", b"(SETF (GET 'COUNTER 'KY) 0)")
-    for number in range(5):
-        client.request(b"do add-%d" % number, ADD)
-    for place in cluster.places:
-        Client([place], context=cluster.context).request(b"read", LOOK)
+    with cluster.ended_if_late():
+        client = Client(cluster.places, context=cluster.context)
+        client.request(b"do first", b"(SETF (GET 'COUNTER 'KY) 0)")
+        for number in range(5):
+            client.request(b"do add-%d" % number, ADD)
+        for place in cluster.places:
+            Client([place], context=cluster.context).request(b"read", LOOK)
     return cluster
 
 

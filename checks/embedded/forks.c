@@ -8,7 +8,7 @@
 #include <sys/wait.h>
 #include <unistd.h>
 
-enum { FORKS = 300, SECONDS = 60 };
+enum { FORKS = 300, SECONDS = 600 };
 
 static pazturrok_store kept;
 static volatile sig_atomic_t forks, wrong;
