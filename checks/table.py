@@ -38,6 +38,7 @@ TEXTS = [
     Check("the pages", "checks/docs", "", 3),
     Check("the wrong bodies", "checks/wrong-bodies/run --apply", "rt", 2),
     Check("the house", "checks/house", "", 2),
+    Check("the gate's own scripts", "checks/selftest", "rt", 5),
 ]
 
 CHECKS = [

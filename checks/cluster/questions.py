@@ -75,11 +75,11 @@ def innocent(folder, program):
         for host in cluster.places:
             with socket.create_connection(host) as one:
                 one.sendall(b"ask %d\n%s\n" % (len(LARGE), LARGE) * 2)
-        told, seen, ends = [], set(), time.monotonic() + 8
+        told, seen, long_enough = [], set(), time.monotonic() + 8
         blamed = Worker(lambda: told.append(answer(cluster, 0, b"do pay", ADD)))
         until(lambda: reports(cluster), "the nodes report")
         blamed.start()
-        while time.monotonic() < ends or blamed.is_alive():
+        while time.monotonic() < long_enough or blamed.is_alive():
             seen.update(reports(cluster))
             time.sleep(0.5)
         blamed.join()
