@@ -12,11 +12,12 @@ CHARACTERS = ["#\\a", "#\\b", "#\\A", "#\\Space", "#\\1"]
 SYMBOLS = ["'A", "'B", "'|ab|", ":K", "NIL", "T", "'#:U", "'ABC"]
 
 # Each operator with what it takes: I an integer or ratio, L a list, P a list of pairs, S a sequence, V a vector, D what
-# stands for a text, O any object, N an index, C a clause of COND; a star after a mark for any number more of them.
+# stands for a text, O any object, N an index, C a clause of COND; a star after a mark for any number more of them, a
+# question mark where it may be left out.
 TAKES = {
     "EQL": "OO", "EQUAL": "OO", "NOT": "O", "CONSP": "O", "SYMBOLP": "O", "STRINGP": "O", "INTEGERP": "O",
-    "CHARACTERP": "O", "VECTORP": "O", "=": "II*", "/=": "II", "<": "II*", "<=": "II*", ">": "II*", ">=": "II*",
-    "MIN": "II*", "MAX": "II*", "+": "I*", "-": "II*", "*": "I*", "FLOOR": "II", "MOD": "II", "STRING=": "DD",
+    "CHARACTERP": "O", "VECTORP": "O", "=": "II*", "/=": "II?", "<": "II*", "<=": "II*", ">": "II*", ">=": "II*",
+    "MIN": "II*", "MAX": "II*", "+": "I*", "-": "II*", "*": "I*", "FLOOR": "II?", "MOD": "II", "STRING=": "DD",
     "STRING<": "DD", "SYMBOL-NAME": "D", "CONS": "OO", "CAR": "L", "CDR": "L", "NTH": "NL", "MEMBER": "OL",
     "ASSOC": "OP", "ADJOIN": "OL", "LENGTH": "S", "REVERSE": "S", "REMOVE": "OS", "SVREF": "VN", "APPEND": "L*",
     "VECTOR": "O*", "IF": "OOO", "LIST": "O*", "AND": "O*", "OR": "O*", "COND": "C*", "WHEN": "OO*", "UNLESS": "OO*",
@@ -99,7 +100,9 @@ def argument(random: Random, mark: str, depth: int) -> str:
 def call(random: Random, name: str, depth: int) -> str:
     """A call of this operator."""
     takes = TAKES[name]
-    marks = takes.rstrip("*")
+    marks = takes.rstrip("*?")
+    if takes.endswith("?") and random.random() < 0.2:
+        marks = marks[:-1]
     if takes.endswith("*"):
         # (such a one takes none at least, or the marks before it)
         marks = marks[:-1] + marks[-1] * random.randint(0, 3)
