@@ -114,13 +114,15 @@ class Run:
         return {"stdin": file}
 
     def difference(self, program: str, folder: str, is_bare: bool = False) -> str | None:
-        """What a run gives in place of what is wanted, or None. A bare one tells nothing of forms that are refused."""
+        """What a run gives in place of what is wanted, or None. A bare one tells nothing of forms that are refused, unless
+        it is quiet else."""
         try:
-            if is_bare:
+            if is_bare and "--quiet" not in self.words:
                 given = self.whole_answer(program, folder, BARE)
                 found, wanted = text_of(*given), without_reasons(joined(self.wanted))
             else:
-                found, wanted = text_of(*self.answer(program, folder)), joined(self.wanted)
+                given = self.answer(program, folder, BARE if is_bare else None)
+                found, wanted = text_of(*given), joined(self.wanted)
         except subprocess.TimeoutExpired as late:
             return f"{' '.join(self.words)}: no end after {late.timeout} seconds"
         if found == wanted or self.is_open and found.startswith(wanted):
