@@ -134,7 +134,7 @@ install_program() {
 
 # Puts the pages there, also those that they lead to beside the sources.
 put_pages() {
-    for page in $(cd "$top" && find README.md CONTRIBUTING.md CHANGELOG.md docs clients/*/README.md cluster/README.md -type f); do
+    for page in $(cd "$top" && find README.md CONTRIBUTING.md CHANGELOG.md docs clients/*/README.md clients/python/examples/*.py cluster/README.md -type f); do
         page_there=$prefix/share/doc/pazturrok/$page
         make_folder "${page_there%/*}"
         put "$top/$page" "$page_there" 644 >/dev/null
