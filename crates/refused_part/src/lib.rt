@@ -8,8 +8,8 @@
 //! - `part`: `refused_part`, which goes inwards from the form
 //! - `trials`: whether a part is evaluated, and refused; `placed`: a part with its place; `trial`: whether a form is refused with a number
 //! - `filling`: a form with another part in its place; `marks`: what is put there
-//! - `text`: `refused_text`, what is told of it; `operators`: the names of operators, and which PAZTURROK has; `near`: which of them is near to
-//!   another name
+//! - `text`: `refused_text`, what is told of it; `ways`: how it is accepted; `operators`: the names of operators, and which PAZTURROK has;
+//!   `near`: which of them is near to another name
 #![tactic(auto)]
 
 mod filling;
@@ -21,6 +21,7 @@ mod placed;
 mod text;
 mod trial;
 mod trials;
+mod ways;
 
 pub use part::refused_part;
 pub use text::refused_text;

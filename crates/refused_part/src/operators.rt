@@ -17,6 +17,8 @@ const FORGET_NAMES: &[u8] = b"FORGET-NAMES";
 /// An operator of COMMON-LISP and of PAZTURROK.
 const INCF: &[u8] = b"INCF";
 
+const DECF: &[u8] = b"DECF";
+
 /// Those of PAZTURROK that decide which of their arguments are evaluated.
 const DECIDING: [&[u8]; 7] = [
     b"AND", b"OR", b"COND", b"WHEN", b"UNLESS", b"PROG1", b"ASSERT",
@@ -94,7 +96,7 @@ const KNOWN: [&[u8]; 76] = [
     b"APPEND",
     b"VECTOR",
     b"SVREF",
-    b"DECF",
+    DECF,
     b"POP",
     b"FIND-SYMBOL",
     b"LIST-ALL-PACKAGES",
@@ -118,6 +120,14 @@ pub(crate) fn is_in_pazturrok(datum: &Datum) -> bool {
     match datum {
         Datum::Symbol { package, .. } => package.as_slice() == PAZTURROK,
         _ => false,
+    }
+}
+
+/// Whether it is the name of an operator that adds to a property.
+pub(crate) fn is_counting(datum: &Datum) -> bool {
+    match name_of_symbol(datum) {
+        Some(name) => name == INCF || name == DECF,
+        None => false,
     }
 }
 

@@ -10,6 +10,7 @@ use crate::marks::{call_of, quotation};
 use crate::operators::{PAZTURROK, is_in_pazturrok, is_of_pazturrok, meant_by, name_of_symbol};
 use crate::part::refused_part;
 use crate::trial::is_refused_form;
+use crate::ways::{ALONE, WITHOUT_COMMON_LISP, add_way_to_own, uses, way_on};
 use canon_printer::print;
 use form_eval::{EvaluationError, ReadForm, accept};
 use lisp_object::Datum;
@@ -24,10 +25,6 @@ const MOST_TOLD: usize = 80;
 
 /// A form has at most so many levels.
 const MOST_LEVELS: u64 = 100;
-
-/// What is told of an operator in a package that finds none.
-const WITHOUT_COMMON_LISP: &[u8] =
-    b": this package does not use COMMON-LISP; (COMMON-LISP:IN-PACKAGE \"CL-USER\") leads back";
 
 /// What is told of a form that was refused with this number: after 31 the operator, and how it becomes known, or which one may have been
 /// meant; else the name of the number and the part of the form for which it was refused, up to 80 bytes, and after 30 the part with a quote. No
@@ -105,7 +102,7 @@ fn operator_text<M: Meaning>(
 {
     let name = printed(alloc, world, macros, operator)?;
     let mut text = Vec::from_slice(alloc, b"no operator ")?;
-    add_cut(&mut text, name.as_slice())?;
+    text.extend_from_slice(name.as_slice())?;
     add_way(alloc, &mut text, world, operator)?;
     Ok(text)
 }
@@ -121,14 +118,15 @@ fn part_text<M: Meaning>(
     requires part { MayTry world.old.0.packages part.now }
     ensures same { world.new ≡ world.old }
 {
-    let part = printed(alloc, world, macros, part)?;
+    let name = printed(alloc, world, macros, part)?;
     let mut text = Vec::from_slice(alloc, name_of(number).as_bytes())?;
     text.extend_from_slice(b": ")?;
-    add_cut(&mut text, part.as_slice())?;
+    text.extend_from_slice(name.as_slice())?;
     if number == NOT_A_FORM {
         text.extend_from_slice(b"; quoted it is a value: '")?;
-        add_cut(&mut text, part.as_slice())?;
+        text.extend_from_slice(name.as_slice())?;
     }
+    text.extend_from_slice(way_on(world, part, number))?;
     Ok(text)
 }
 
@@ -145,9 +143,12 @@ fn add_way(
     let Some(name) = name_of_symbol(operator) else {
         return Ok(());
     };
+    if is_in_pazturrok(operator) && is_of_pazturrok(name) {
+        return text.extend_from_slice(ALONE);
+    }
     if is_of_pazturrok(name) {
         text.extend_from_slice(b": ")?;
-        return text.extend_from_slice(way_of_own(world, operator));
+        return add_way_to_own(alloc, text, world, name);
     }
     if let Some(known) = meant_by(alloc, name)? {
         text.extend_from_slice(b"; did you mean ")?;
@@ -155,39 +156,13 @@ fn add_way(
         text.push(b'?')?;
         if is_of_pazturrok(known) && !uses(world, PAZTURROK) {
             text.push(b' ')?;
-            text.extend_from_slice(way_to_own(world))?;
+            add_way_to_own(alloc, text, world, known)?;
         }
     }
     Ok(())
 }
 
-// Whether the current package is this one, or uses it.
-fn uses(world: &World, package: &[u8]) -> bool {
-    let current = world.current_package();
-    current == package || world.packages().is_used(current, package)
-}
-
-// How a symbol with the name of one of PAZTURROK is an operator.
-fn way_of_own(world: &World, operator: &Datum) -> &'static [u8] {
-    if is_in_pazturrok(operator) {
-        b"it is a form of its own, and stands in no other one"
-    } else {
-        way_to_own(world)
-    }
-}
-
-// How an operator of PAZTURROK becomes known.
-fn way_to_own(world: &World) -> &'static [u8] {
-    if !world.packages().has_package(PAZTURROK) {
-        b"./pazturrok run DIR --operators makes it known"
-    } else if !uses(world, PAZTURROK) {
-        b"(USE-PACKAGE \"PAZTURROK\") makes it known in this package"
-    } else {
-        b"the one of this name is in PAZTURROK"
-    }
-}
-
-// The text of a part of a form, with its symbols in their homes.
+// The text of a part of a form, up to 80 bytes, with its symbols in their homes.
 fn printed<M: Meaning>(
     alloc: Global,
     world: &mut World,
@@ -237,21 +212,23 @@ fn print_after<M: Meaning>(
     }
 }
 
-// The text of a part as the world is.
+// The text of a part as the world is, up to 80 bytes.
 fn print_in(alloc: Global, world: &World, part: &Datum) -> Result<Vec<u8>, AllocError>
     requires part { is_proper part.now ≡ true }
 {
     world.soundness();
-    print(alloc, part, world.packages(), world.current_package())
+    let text = print(alloc, part, world.packages(), world.current_package())?;
+    front_of(alloc, text.as_slice())
 }
 
-// Adds a text, up to 80 bytes.
-fn add_cut(text: &mut Vec<u8>, part: &[u8]) -> Result<(), AllocError> {
-    for byte in part.iter().take(MOST_TOLD) {
-        text.push(if byte.is_ascii_graphic() { *byte } else { b' ' })?;
+// The first 80 bytes of a text, in which a space stands for each that is no character of ASCII.
+fn front_of(alloc: Global, text: &[u8]) -> Result<Vec<u8>, AllocError> {
+    let mut front = Vec::new(alloc);
+    for byte in text.iter().take(MOST_TOLD) {
+        front.push(if byte.is_ascii_graphic() { *byte } else { b' ' })?;
     }
-    if part.len() > MOST_TOLD {
-        text.extend_from_slice(b" ..")?;
+    if text.len() > MOST_TOLD {
+        front.extend_from_slice(b" ..")?;
     }
-    Ok(())
+    Ok(front)
 }
