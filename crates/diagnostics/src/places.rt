@@ -2,8 +2,9 @@
 ghost use Rattle.std.specs.Prelude.{◌≡◌, ◌+◌, ◌≤◌, ℕ, List, [], ◌∷◌, ◌++◌, length, take, IfSome};
 ghost use Rattle.diagnostics.specs.Places.{IsMoved, IsMovedFrom, IsSpotAfter, Keeps};
 
+use prevalence_store::Place;
 use std::alloc::{AllocError, Global};
-use std::cell::RefCell;
+use std::cell::{Cell, RefCell};
 use std::io::Read;
 use std::{io, mem};
 
@@ -26,6 +27,14 @@ pub trait Places: Read {
     /// The place after so many bytes of it, if that is known.
     fn spot_at(&self, bytes: u64) -> Option<Spot>;
 
+    /// The byte after so many bytes of it, if that is known.
+    fn byte_at(&self, _bytes: u64) -> Option<u8> {
+        None
+    }
+
+    /// Takes note of the refusal that ended a session over it.
+    fn note_refusal(&self, _number: u16, _place: Place) {}
+
     /// Whether it is known that text was given, and nothing of it answered.
     fn is_unanswered(&self) -> bool {
         false
@@ -39,10 +48,11 @@ pub struct Lines<'a, I> {
     history: &'a History,
 }
 
-/// What an input gave last.
+/// What an input gave last, and the refusal that ended the last session that one has ended.
 #[derive(Drop)]
 pub struct History {
     given: RefCell<Given>,
+    refused: Cell<Option<(u16, Place)>>,
 }
 
 /// What was given: the place before the bytes that are kept, unless it is lost, and these in two parts.
@@ -159,6 +169,16 @@ impl Given {
         let count = bytes_between(before.bytes, bytes)?;
         before.through_two(self.older.as_slice(), self.newer.as_slice(), count)
     }
+
+    /// The byte after so many bytes of what was given, if it is kept.
+    pub(crate) fn byte_at(&self, bytes: u64) -> Option<u8> {
+        let before = self.before?;
+        let count = bytes_between(before.bytes, bytes)?;
+        match count.checked_sub(self.older.len()) {
+            Some(count) => self.newer.as_slice().get(count).copied(),
+            None => self.older.as_slice().get(count).copied(),
+        }
+    }
 }
 
 // How many bytes lie between these two places.
@@ -180,6 +200,7 @@ impl History {
     pub fn new(alloc: Global) -> History {
         History {
             given: RefCell::new(Given::new(alloc)),
+            refused: Cell::new(None),
         }
     }
 
@@ -196,6 +217,19 @@ impl History {
             Ok(given) => given.spot_at(bytes),
             Err(_) => None,
         }
+    }
+
+    /// The byte after so many bytes of what was given, if it is known.
+    pub fn byte_at(&self, bytes: u64) -> Option<u8> {
+        match self.given.try_borrow() {
+            Ok(given) => given.byte_at(bytes),
+            Err(_) => None,
+        }
+    }
+
+    /// The refusal that ended a session over the input last, if one was ended by one, and its place there.
+    pub fn refused(&self) -> Option<(u16, Place)> {
+        self.refused.get()
     }
 }
 
@@ -221,5 +255,13 @@ impl<I: Read> Read for Lines<'_, I> {
 impl<I: Read> Places for Lines<'_, I> {
     fn spot_at(&self, bytes: u64) -> Option<Spot> {
         self.history.spot_at(bytes)
+    }
+
+    fn byte_at(&self, bytes: u64) -> Option<u8> {
+        self.history.byte_at(bytes)
+    }
+
+    fn note_refusal(&self, number: u16, place: Place) {
+        self.history.refused.set(Some((number, place)));
     }
 }

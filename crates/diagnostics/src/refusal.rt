@@ -38,11 +38,14 @@ impl Refusal {
         ensures { IsRefusalOf ended result }
     {
         match ended {
-            Ended::Unreadable(number, place) | Ended::Unaccepted(number, place) => Some(Refusal {
-                number,
-                place,
-                spots: spots_of(place, input),
-            }),
+            Ended::Unreadable(number, place) | Ended::Unaccepted(number, place) => {
+                input.note_refusal(number, place);
+                Some(Refusal {
+                    number,
+                    place,
+                    spots: spots_of(place, input),
+                })
+            }
             Ended::End | Ended::Store(_) => None,
         }
     }

@@ -3,20 +3,45 @@ ghost use Rattle.std.specs.Prelude.{◌≡◌};
 ghost use Rattle.form_eval.specs.Laws.{MayEvaluate};
 
 use crate::fault::write_text;
+use crate::parts::place_of_part;
 use crate::places::{History, Places};
 use crate::refusal::{Refusal, Spots, write_refused_form};
+use arrayvec::ArrayString;
 use plist_state::World;
 use prevalence_store::{Place, SessionForm};
 use refused_part::refused_text;
-use std::alloc::Global;
+use std::alloc::{AllocError, Global};
+use std::fmt::Write as WriteText;
 use std::io::Write;
 use user_macros::Meaning;
 
-/// Of so many forms that were refused it is told why.
-const MOST_TOLD: u64 = 100;
+/// So many are few.
+const FEW: u64 = 100;
 
 /// What is told after the last of them.
 const ENOUGH: &[u8] = b"100 refusals were told; of the next ones there is no line here\n";
+
+/// Of which forms that were refused it is told why.
+#[derive(Clone, Copy, Debug, PartialEq, Eq)]
+pub enum Reasons {
+    /// Of none, as nobody asks.
+    None,
+    /// Of the first 100, for somebody who looks on.
+    Few,
+    /// Of all, for a program that reads them.
+    All,
+}
+
+impl Reasons {
+    // Of how many.
+    fn count(self) -> u64 {
+        match self {
+            Reasons::None => 0,
+            Reasons::Few => FEW,
+            Reasons::All => u64::MAX,
+        }
+    }
+}
 
 /// What tells of forms that were refused: the place of each in the input of sessions, and the operator or the part for which it was refused.
 #[derive(Drop)]
@@ -27,18 +52,24 @@ pub struct RefusalTeller<'a, T> {
     history: &'a History,
     // how many bytes of it come before the present session
     start: u64,
-    told: u64,
+    // of so many more it tells
+    left: u64,
 }
 
 impl<'a, T> RefusalTeller<'a, T> {
-    /// Before the first session, whose input has this history. It is told on a stream.
-    pub fn new(alloc: Global, stream: T, history: &'a History) -> RefusalTeller<'a, T> {
+    /// Before the first session, whose input has this history. The reasons that are asked for are told on a stream.
+    pub fn new(
+        alloc: Global,
+        stream: T,
+        history: &'a History,
+        reasons: Reasons,
+    ) -> RefusalTeller<'a, T> {
         RefusalTeller {
             alloc,
             stream,
             history,
             start: 0,
-            told: 0,
+            left: reasons.count(),
         }
     }
 
@@ -52,7 +83,7 @@ impl<'a, T> RefusalTeller<'a, T> {
 
     /// Whether it tells of one more.
     pub fn is_listening(&self) -> bool {
-        self.told < MOST_TOLD
+        self.left > 0
     }
 
     // The line in which a form begins, if it is known.
@@ -77,23 +108,48 @@ impl<T: Write> RefusalTeller<'_, T> {
         if !self.is_listening() {
             return;
         }
-        self.told = self.told.saturating_add(1);
+        self.left = self.left.saturating_sub(1);
         if let Ok(text) = refused_text(self.alloc, world, macros, form.read, number) {
-            self.tell_text(number, form.place, text.as_slice());
+            self.tell_text(number, form, text.as_slice());
         }
         if !self.is_listening() {
             let _ = write_text(&mut self.stream, ENOUGH);
         }
     }
 
-    // Writes the line on a form.
-    fn tell_text(&mut self, number: u16, place: Place, text: &[u8]) {
-        let spots = self.spots(place);
+    // Writes the line on a form, with the line of the part if that is another one.
+    fn tell_text(&mut self, number: u16, form: SessionForm<'_>, text: &[u8]) {
         let refusal = Refusal {
             number,
-            place,
-            spots,
+            place: form.place,
+            spots: self.spots(form.place),
         };
-        let _ = write_refused_form(self.alloc, &mut self.stream, &refusal, text);
+        if let Ok(text) = with_line(self.alloc, text, later_line(&refusal, form.own, text)) {
+            let _ = write_refused_form(self.alloc, &mut self.stream, &refusal, text.as_slice());
+        }
     }
+}
+
+// The line of the part that a text tells of, if the form begins in another one.
+fn later_line(refusal: &Refusal, form: &[u8], text: &[u8]) -> Option<u64> {
+    let start = refusal.spots?.start;
+    let place = place_of_part(form, text)?;
+    let spot = start.through(form.get(..place)?)?;
+    if spot.line == start.line {
+        None
+    } else {
+        Some(spot.line)
+    }
+}
+
+// What is told, with a line if there is one.
+fn with_line(alloc: Global, text: &[u8], line: Option<u64>) -> Result<Vec<u8>, AllocError> {
+    let mut told = Vec::from_slice(alloc, text)?;
+    if let Some(line) = line {
+        let mut number = ArrayString::<48>::new();
+        // it has room for each number
+        let _ = write!(number, ", in line {line}");
+        told.extend_from_slice(number.as_bytes())?;
+    }
+    Ok(told)
 }

@@ -28,10 +28,14 @@ pub fn write_unread<I: Places, W: Write>(
     if number > TEXT_LEFT_OVER {
         return Ok(());
     }
+    let spots = match spot {
+        Some(spot) => Some(Spots::of_form(spot)),
+        None => None,
+    };
     let refusal = Refusal {
         number,
         place,
-        spots: spot.map(Spots::of_form),
+        spots,
     };
     match unread_text(alloc, input, number, place) {
         Ok(text) => write_refused_form(alloc, faults, &refusal, text.as_slice()),
@@ -56,6 +60,9 @@ fn unread_text<I: Places>(
     // of a call that ends with a delimiter there is no token
     let from = if from < end { from } else { place.start };
     add_bytes(&mut text, input, from, end)?;
+    if text.as_slice().last() == Some(&b' ') {
+        text.pop();
+    }
     if number == INVALID_CHARACTER || number == INVALID_TRAIT {
         add_number(&mut text, input.byte_at(place.at))?;
     }
@@ -101,7 +108,7 @@ fn is_between(number: u16, byte: u8) -> bool {
     }
 }
 
-// Adds the bytes of an input between two places, up to 80. A space stands for what is no character of ASCII.
+// Adds the bytes of an input between two places, up to 80. One space stands for all between them that is no character of ASCII.
 fn add_bytes<I: Places>(
     text: &mut Vec<u8>,
     input: &I,
@@ -115,7 +122,8 @@ fn add_bytes<I: Places>(
         }
         match input.byte_at(place) {
             Some(byte) if byte.is_ascii_graphic() => text.push(byte)?,
-            _ => text.push(b' ')?,
+            _ if text.as_slice().last() != Some(&b' ') => text.push(b' ')?,
+            _ => {}
         }
     }
     if end > from.saturating_add(MOST_TOLD) {
