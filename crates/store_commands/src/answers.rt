@@ -3,6 +3,7 @@ ghost use Rattle.std.specs.Prelude.{◌≡◌};
 
 use crate::given::Given;
 use diagnostics::{Places, Spot};
+use prevalence_store::Place;
 use std::cell::Cell;
 use std::io;
 use std::io::{Read, Write};
@@ -79,6 +80,14 @@ impl<I: Read> Read for Piped<'_, I> {
 impl<I: Places> Places for Piped<'_, I> {
     fn spot_at(&self, bytes: u64) -> Option<Spot> {
         self.input.spot_at(bytes)
+    }
+
+    fn byte_at(&self, bytes: u64) -> Option<u8> {
+        self.input.byte_at(bytes)
+    }
+
+    fn note_refusal(&self, number: u16, place: Place) {
+        self.input.note_refusal(number, place);
     }
 
     fn is_unanswered(&self) -> bool {

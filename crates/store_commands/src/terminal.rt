@@ -4,8 +4,11 @@ ghost use Rattle.store_commands.specs.Sessions.{Drops, DropsByte};
 
 use crate::answers::Heard;
 use crate::given::is_blank;
+use crate::typed::{Prompts, Wish, wish_of};
 use arrayvec::ArrayVec;
-use diagnostics::{Places, Refusal, Spot, write_refusal, write_text};
+use diagnostics::{Places, Refusal, Spot, write_text, write_unread};
+use prevalence_store::Place;
+use std::alloc::Global;
 use std::cell::Cell;
 use std::io;
 use std::io::{Read, Write};
@@ -17,12 +20,12 @@ const PROMPT: &[u8] = b"> ";
 const INNER_PROMPT: &[u8] = b". ";
 
 const WELCOME: &[u8] =
-    b"Type a form and Enter; help tells more, Ctrl-D ends. For editing lines: rlwrap ./pazturrok run DIR\n";
+    b"Type a form and Enter; help tells more, Ctrl-D ends. For editing lines: rlwrap before the command.\n";
 
 const HELP: &[u8] =
-    b"(SETF (GET 'APPLE 'PRICE) 7) sets a property, (GET 'APPLE 'PRICE) gives it, (SYMBOL-PLIST 'APPLE) gives all of a symbol.\nAn answer that begins with ! is a refusal: ./pazturrok help 31 tells of the number 31, ./pazturrok help GET of the operator GET;\n./pazturrok help has all commands, docs/use/operators.md all operators.\nCtrl-D at the beginning of a line ends. Each answer is in the store by then.\n";
+    b"(SETF (GET 'APPLE 'PRICE) 7) sets a property, (GET 'APPLE 'PRICE) gives it, (SYMBOL-PLIST 'APPLE) gives all of a symbol.\nAn answer that begins with ! is a refusal: help 31 tells of the number 31, help GET of the operator GET.\nBeside this session the command with the word help has all commands, and docs/use/operators.md all operators.\nCtrl-D at the beginning of a line ends. Each answer is in the store by then.\n";
 
-const BESIDE: &[u8] = b"Beside this session: ./pazturrok ";
+const BESIDE: &[u8] = b"Beside this session the command tells more, with the words help ";
 
 const LEAVING: &[u8] = b"Ctrl-D at the beginning of a line ends.\n";
 
@@ -46,6 +49,7 @@ pub trait Sessions: Places {
 /// written before each line. What is open is guessed from the answers, and nothing but the prompts depends on it.
 #[derive(Drop)]
 pub struct Terminal<'a, I, P> {
+    alloc: Global,
     input: I,
     prompts: P,
     // what was answered since the last byte was given
@@ -78,10 +82,11 @@ enum Line {
 
 impl<'a, I, P> Terminal<'a, I, P> {
     /// Before the first line. The cell is that of the output's `Answers`.
-    pub fn new(input: I, prompts: P, heard: &'a Cell<Heard>) -> Terminal<'a, I, P>
+    pub fn new(alloc: Global, input: I, prompts: P, heard: &'a Cell<Heard>) -> Terminal<'a, I, P>
         ensures { result.input ≡ input }
     {
         Terminal {
+            alloc,
             input,
             prompts,
             heard,
@@ -99,7 +104,7 @@ impl<'a, I, P> Terminal<'a, I, P> {
     }
 }
 
-impl<I, P: Write> Terminal<'_, I, P> {
+impl<I, P: Prompts> Terminal<'_, I, P> {
     // Writes the prompt before a line, and before the first one how to go on and how to end.
     fn prompt(&mut self)
         ensures { self.new.input ≡ self.old.input }
@@ -180,7 +185,7 @@ impl<I, P: Write> Terminal<'_, I, P> {
         };
         if self.last == b'\n' && self.line == Line::Closed {
             // a form was answered before the line ended
-            let _ = write_text(&mut self.prompts, told_of(self.typed.as_slice()));
+            self.hint();
         }
         if self.last == b'\n' && self.line == Line::Open {
             self.open_lines = self.open_lines.saturating_add(1);
@@ -197,53 +202,26 @@ impl<I, P: Write> Terminal<'_, I, P> {
         if self.last != b'\n' {
             return;
         }
-        let typed = self.typed.as_slice();
-        if asks_for_page(typed) {
-            let _ = write_text(&mut self.prompts, BESIDE);
-            let _ = write_text(&mut self.prompts, typed);
-            let _ = write_text(&mut self.prompts, b"\n");
-        } else {
-            let _ = write_text(&mut self.prompts, told_of(typed));
+        match wish_of(self.typed.as_slice()) {
+            Wish::Nothing => {}
+            Wish::Help => {
+                let _ = write_text(&mut self.prompts, HELP);
+            }
+            Wish::Leaving => {
+                let _ = write_text(&mut self.prompts, LEAVING);
+            }
+            Wish::Page(word) => {
+                if !self.prompts.write_page(word) {
+                    let _ = write_text(&mut self.prompts, BESIDE);
+                    let _ = write_text(&mut self.prompts, word);
+                    let _ = write_text(&mut self.prompts, b"\n");
+                }
+            }
         }
     }
 }
 
-// What is told after a line that is one of these words, or a form of one.
-fn told_of(typed: &[u8]) -> &'static [u8] {
-    if asks_for_help(typed) {
-        HELP
-    } else if would_leave(typed) {
-        LEAVING
-    } else {
-        b""
-    }
-}
-
-fn asks_for_help(typed: &[u8]) -> bool {
-    typed.eq_ignore_ascii_case(b"help")
-        || typed.eq_ignore_ascii_case(b"(help)")
-        || typed.eq_ignore_ascii_case(b":help")
-        || typed == b"?".as_slice()
-}
-
-fn would_leave(typed: &[u8]) -> bool {
-    typed.eq_ignore_ascii_case(b"quit")
-        || typed.eq_ignore_ascii_case(b"exit")
-        || typed.eq_ignore_ascii_case(b"(quit)")
-        || typed.eq_ignore_ascii_case(b"(exit)")
-}
-
-// Whether a line asks for what the pages say of an operator or of a number.
-fn asks_for_page(typed: &[u8]) -> bool {
-    match typed {
-        [b'h', b'e', b'l', b'p', b' ', word @ ..] => {
-            !word.is_empty() && word.iter().all(|byte| byte.is_ascii_graphic())
-        }
-        _ => false,
-    }
-}
-
-impl<I: Read, P: Write> Read for Terminal<'_, I, P> {
+impl<I: Read, P: Prompts> Read for Terminal<'_, I, P> {
     ghost remaining = { λ t. I.remaining t.input };
 
     fn read(&mut self, buf: &mut [u8]) -> io::Result<usize> {
@@ -262,7 +240,7 @@ impl<I: Read, P: Write> Read for Terminal<'_, I, P> {
     }
 }
 
-impl<I: Read, P: Write> Terminal<'_, I, P> {
+impl<I: Read, P: Prompts> Terminal<'_, I, P> {
     // Drops a byte, and tells whether there was one.
     fn drop_byte(&mut self) -> bool
         ensures { DropsByte result self.new.last
@@ -294,18 +272,43 @@ impl<I: Read, P: Write> Terminal<'_, I, P> {
     }
 }
 
-impl<I: Places, P: Write> Places for Terminal<'_, I, P> {
-    fn spot_at(&self, bytes: u64) -> Option<Spot> {
-        self.input.spot_at(self.start.checked_add(bytes)?)
+impl<I: Places, P: Prompts> Terminal<'_, I, P> {
+    // Tells what could not be read, and where. Of a form that was read it is told already.
+    fn tell_unread(&mut self, refusal: &Refusal)
+        ensures { self.new.input ≡ self.old.input }
+    {
+        let place = Place {
+            forms: refusal.place.forms,
+            start: self.start.saturating_add(refusal.place.start),
+            at: self.start.saturating_add(refusal.place.at),
+        };
+        let spot = self.input.spot_at(place.at);
+        let number = refusal.number;
+        let prompts = &mut self.prompts;
+        let _ = write_unread(self.alloc, prompts, &self.input, number, place, spot);
     }
 }
 
-impl<I: Places, P: Write> Sessions for Terminal<'_, I, P> {
+impl<I: Places, P: Prompts> Places for Terminal<'_, I, P> {
+    fn spot_at(&self, bytes: u64) -> Option<Spot> {
+        self.input.spot_at(self.start.checked_add(bytes)?)
+    }
+
+    fn byte_at(&self, bytes: u64) -> Option<u8> {
+        self.input.byte_at(self.start.checked_add(bytes)?)
+    }
+
+    fn note_refusal(&self, number: u16, place: Place) {
+        self.input.note_refusal(number, place);
+    }
+}
+
+impl<I: Places, P: Prompts> Sessions for Terminal<'_, I, P> {
     fn next_session(&mut self, refusal: &Refusal) -> bool {
         if self.has_ended || !self.drop_line() {
             return false;
         }
-        let _ = write_refusal(&mut self.prompts, refusal);
+        self.tell_unread(refusal);
         let _ = write_text(&mut self.prompts, DROPPED);
         self.start = self.given;
         self.line = Line::Closed;

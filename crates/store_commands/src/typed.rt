@@ -8,7 +8,7 @@ pub trait Prompts: Write {
 }
 
 /// What a line asks for.
-#[derive(Clone, Copy, Debug, PartialEq, Eq)]
+#[derive(Clone, Copy)]
 pub(crate) enum Wish<'a> {
     Nothing,
     Help,
@@ -44,7 +44,7 @@ const HELP: [&[u8]; 4] = [b"help", b":help", b"?", b"describe"];
 /// Words that would leave.
 const LEAVE: [&[u8]; 4] = [b"quit", b"exit", b":quit", b":exit"];
 
-fn is_one_of(word: &[u8], words: &[&[u8]; 4]) -> bool {
+fn is_one_of(word: &[u8], words: &[&[u8]]) -> bool {
     for known in words {
         if word.eq_ignore_ascii_case(*known) {
             return true;
@@ -61,7 +61,7 @@ fn first_word(words: &[u8]) -> (&[u8], &[u8]) {
     };
     match words.split_at_checked(end) {
         Some((first, rest)) => (first, without_blanks(rest)),
-        None => (words, b""),
+        None => (words, b"".as_slice()),
     }
 }
 
