@@ -60,18 +60,20 @@ class Terminal:
 
 
 CONTROL_D = "\x04"
-WELCOME = "Type a form and Enter; help tells more, Ctrl-D ends. For editing lines: rlwrap ./pazturrok run DIR\n"
+WELCOME = "Type a form and Enter; help tells more, Ctrl-D ends. For editing lines: rlwrap before the command.\n"
 HELP = """(SETF (GET 'APPLE 'PRICE) 7) sets a property, (GET 'APPLE 'PRICE) gives it, (SYMBOL-PLIST 'APPLE) gives all of a symbol.
-An answer that begins with ! is a refusal: ./pazturrok help 31 tells of the number 31, ./pazturrok help GET of the operator GET;
-./pazturrok help has all commands, docs/use/operators.md all operators.
+An answer that begins with ! is a refusal: help 31 tells of the number 31, help GET of the operator GET.
+Beside this session the command with the word help has all commands, and docs/use/operators.md all operators.
 Ctrl-D at the beginning of a line ends. Each answer is in the store by then.
 """
 LEAVING = "Ctrl-D at the beginning of a line ends.\n"
 CUT = """A terminal hands on 4,095 bytes of a line, and dropped the rest of this one. The form is open: Ctrl-C ends the session without it.
-Write it in shorter lines, or send it from a file: ./pazturrok run DIR < FILE
+Write it in shorter lines, or send it from a file: run DIR < FILE
 """
 UNANSWERED = "Nothing was answered: a form is open, or the readtable makes comments of what is typed; --rescue reads under the standard one.\n"
-BESIDE = "Beside this session: ./pazturrok %s\n"
+BESIDE = "Beside this session the command tells more, with the words help %s\n"
+PAGES = "@ 31\n31 UNKNOWN-OPERATOR\n  the symbol is no operator\n@ GET\n(GET s i [x])\n  Value: the property\n"
+STRAY = "STRAY-CLOSE: )"
 WITHOUT_STANDARD = ': this package does not use COMMON-LISP; (COMMON-LISP:IN-PACKAGE "CL-USER") leads back'
 QUOTED = "NOT-A-FORM: %s; quoted it is a value: '%s"
 TOLD = "line %d, column %d: %d: %s (help %d)\n"
@@ -227,22 +229,22 @@ with tempfile.TemporaryDirectory() as room:
     it.step("two forms", "(LIST 1) (LIST 2\n", "(1)\n", ". ")
     it.step("the end of the second", ")\n", "(2)\n", "> ")
     it.step("refused by evaluation", "(FROB)\n", "! 31 UNKNOWN-OPERATOR\n", TOLD % (9, 1, 31, "no operator FROB", 31) + "> ")
-    it.step("refused by the reader", "10.5 (SETF (GET 'A 'B) 8)\n", "! 7 FLOAT-TOKEN\n", REFUSED % (10, 5, "7 FLOAT-TOKEN", 7, 10, 1) + DROPPED + "> ")
+    it.step("refused by the reader", "10.5 (SETF (GET 'A 'B) 8)\n", "! 7 FLOAT-TOKEN\n", TOLD % (10, 5, 7, "FLOAT-TOKEN: 10.5", 7) + DROPPED + "> ")
     it.step("the next session", "(GET 'A 'B)\n", "7\n", "> ")
     it.step("a paste", "(SETF (GET 'A 'B) 9)\n) (SETF (GET 'A 'B) 10)\n(GET 'A 'B)\n", "9\n! 4 STRAY-CLOSE\n9\n",
-            "> " + REFUSED % (13, 1, "4 STRAY-CLOSE", 3, 13, 1) + DROPPED + "> > ")
+            "> " + TOLD % (13, 1, 4, STRAY, 4) + DROPPED + "> > ")
     it.step("a readtable", "(SET-MACRO-CHARACTER #\\[ :SQUARE) (SET-MACRO-CHARACTER #\\] :CLOSE)\n", "T\nT\n", "> ")
     it.step("a new bracket", "[1\n", "", ". ")
     it.step("and its end", "2]\n", "#(1 2)\n", "> ")
     it.end("the end", CONTROL_D, "", "\n", 0)
 
     it = Terminal("run", store, "--rescue")
-    it.step("a refusal", ")\n", "! 4 STRAY-CLOSE\n", WELCOME + "> " + REFUSED % (1, 1, "4 STRAY-CLOSE", 1, 1, 1) + DROPPED + "> ")
+    it.step("a refusal", ")\n", "! 4 STRAY-CLOSE\n", WELCOME + "> " + TOLD % (1, 1, 4, STRAY, 4) + DROPPED + "> ")
     it.end("the status of the last session", CONTROL_D, "", "\n", 0)
 
     it = Terminal("run", store, "--strict")
     it.step("a strict session", "(GET 'A 'B)\n(FROB) (SETF (GET 'A 'B) 8)\n(GET 'A 'B)\n", "9\n! 31 UNKNOWN-OPERATOR\n9\n",
-            WELCOME + "> > " + TOLD % (2, 1, 31, "no operator FROB", 31) + REFUSED % (2, 1, "31 UNKNOWN-OPERATOR", 2, 2, 1) + DROPPED + "> > ")
+            WELCOME + "> > " + TOLD % (2, 1, 31, "no operator FROB", 31) + DROPPED + "> > ")
     it.end("its end", CONTROL_D, "", "\n", 0)
 
     it = Terminal("run", store, "--existing", "--group")
@@ -252,11 +254,12 @@ with tempfile.TemporaryDirectory() as room:
 
     it = Terminal("run", store)
     it.end("a refusal in a line that does not end", ") 7" + CONTROL_D * 2, "! 4 STRAY-CLOSE\n",
-           WELCOME + "> " + REFUSED % (1, 1, "4 STRAY-CLOSE", 1, 1, 1), 1)
+           WELCOME + "> " + REFUSED % (1, 1, "4 STRAY-CLOSE", 1, 1, 1) + TOLD % (1, 1, 4, STRAY, 4), 1)
 
     it = Terminal("run", store)
     it.step("a form without its end", "(LIST\n", "", WELCOME + "> . ")
-    it.end("the end inside a form", CONTROL_D, "! 1 END-OF-FILE\n", "\n" + UNANSWERED + REFUSED % (2, 1, "1 END-OF-FILE", 1, 1, 1), 1)
+    it.end("the end inside a form", CONTROL_D, "! 1 END-OF-FILE\n",
+           "\n" + UNANSWERED + REFUSED % (2, 1, "1 END-OF-FILE", 1, 1, 1) + TOLD % (1, 1, 1, "END-OF-FILE: (LIST", 1), 1)
 
     it = Terminal("run", store)
     it.step("a word for help", "help\n", "! 30 NOT-A-FORM\n",
@@ -266,10 +269,10 @@ with tempfile.TemporaryDirectory() as room:
     it.step("a question mark", "?\n", "! 30 NOT-A-FORM\n", TOLD % (5, 1, 30, QUOTED % ("?", "?"), 30) + HELP + "> ")
     it.step("a form to leave", "(QUIT)\n", "! 31 UNKNOWN-OPERATOR\n", TOLD % (6, 1, 31, "no operator QUIT", 31) + LEAVING + "> ")
     it.step("help of an operator", "help GET\n", "! 30 NOT-A-FORM\n" * 2,
-            TOLD % (7, 1, 30, QUOTED % ("HELP", "HELP"), 30) + TOLD % (7, 6, 30, QUOTED % ("GET", "GET"), 30) + BESIDE % "help GET" + "> ")
-    it.step("help of a number", "help 31\n", "! 30 NOT-A-FORM\n31\n", TOLD % (8, 1, 30, QUOTED % ("HELP", "HELP"), 30) + BESIDE % "help 31" + "> ")
+            TOLD % (7, 1, 30, QUOTED % ("HELP", "HELP"), 30) + TOLD % (7, 6, 30, QUOTED % ("GET", "GET"), 30) + BESIDE % "GET" + "> ")
+    it.step("help of a number", "help 31\n", "! 30 NOT-A-FORM\n31\n", TOLD % (8, 1, 30, QUOTED % ("HELP", "HELP"), 30) + BESIDE % "31" + "> ")
     it.step("an operator of PAZTURROK", "(+ 1 2)\n", "! 31 UNKNOWN-OPERATOR\n",
-            TOLD % (9, 1, 31, "no operator |+|: ./pazturrok run DIR --operators makes it known", 31) + "> ")
+            TOLD % (9, 1, 31, "no operator |+|: run DIR --operators makes it known", 31) + "> ")
     it.step("a package without operators", '(MAKE-PACKAGE "BOOK")\n(IN-PACKAGE "BOOK")\n', '"BOOK"\n"BOOK"\n', "> > ")
     it.step("its first form", "(LIST 1)\n", "! 31 UNKNOWN-OPERATOR\n",
             TOLD % (12, 1, 31, "no operator LIST" + WITHOUT_STANDARD, 31) + "> ")
@@ -290,7 +293,8 @@ with tempfile.TemporaryDirectory() as room:
     for place in range(0, 5000, 1000):
         os.write(it.master, (b"(SETF (GET 'A 'B) \"" + b"x" * 4979)[place:place + 1000])
     it.step("a form that the terminal cuts", '")\n', "", WELCOME + "> " + CUT + ". ")
-    it.end("the end inside it", CONTROL_D, "! 1 END-OF-FILE\n", "\n" + UNANSWERED + REFUSED % (2, 1, "1 END-OF-FILE", 1, 1, 1), 1)
+    it.end("the end inside it", CONTROL_D, "! 1 END-OF-FILE\n",
+           "\n" + UNANSWERED + REFUSED % (2, 1, "1 END-OF-FILE", 1, 1, 1) + TOLD % (1, 1, 1, f"END-OF-FILE: (SETF (GET 'A 'B) \"{'x' * 61} ..", 1), 1)
     check("it was not carried out", subprocess.run([program, "run", store, "--rescue"], input=b"(GET 'A 'B)", capture_output=True).stdout, b"9\n")
 
     it = Terminal("run", store, "--rescue")
@@ -299,8 +303,25 @@ with tempfile.TemporaryDirectory() as room:
 
     it = Terminal("run", store, "--quiet")
     it.step("refusals alone", "(GET 'A 'B)\n(FROB)\n(GET 'A 'B)\n", "! 31 UNKNOWN-OPERATOR\n", WELCOME + "> > " + TOLD % (2, 1, 31, "no operator FROB", 31) + "> > ")
-    it.step("a refusal by the reader", ")\n", "! 4 STRAY-CLOSE\n", REFUSED % (4, 1, "4 STRAY-CLOSE", 4, 4, 1) + DROPPED + "> ")
+    it.step("a refusal by the reader", ")\n", "! 4 STRAY-CLOSE\n", TOLD % (4, 1, 4, STRAY, 4) + DROPPED + "> ")
     it.end("and their count", CONTROL_D, "", "\nanswers 4 refusals 2\n", 0)
+
+    # where the script names the pages, the lines for help tell what they have
+    pages = os.path.join(room, "pages.txt")
+    with open(pages, "w", encoding="ascii") as file:
+        file.write(PAGES)
+    os.environ["PAZTURROK_PAGES"] = pages
+    it = Terminal("run", store)
+    it.step("a number of the pages", "help 31\n", "! 30 NOT-A-FORM\n31\n",
+            WELCOME + "> " + TOLD % (1, 1, 30, QUOTED % ("HELP", "HELP"), 30) + "31 UNKNOWN-OPERATOR\n  the symbol is no operator\n> ")
+    for line, (typed, operator) in enumerate((("(help 'get)", "HELP"), ('(HELP "GET")', "HELP"), ("(describe 'get)", "DESCRIBE")), 2):
+        it.step(f"an operator of the pages: {typed}", typed + "\n", "! 31 UNKNOWN-OPERATOR\n",
+                TOLD % (line, 1, 31, f"no operator {operator}", 31) + "(GET s i [x])\n  Value: the property\n> ")
+    it.step("a word that the pages do not have", "help frob\n", "! 30 NOT-A-FORM\n" * 2,
+            TOLD % (5, 1, 30, QUOTED % ("HELP", "HELP"), 30) + TOLD % (5, 6, 30, QUOTED % ("FROB", "FROB"), 30)
+            + "there is no operator and no number frob; help tells of a first form\n> ")
+    it.end("the end of help", CONTROL_D, "", "\n", 0)
+    del os.environ["PAZTURROK_PAGES"]
 
     it = Terminal("verify", store)
     it.end("another command asks for nothing", "", "half A generation 1 records 9\n", "", 0)

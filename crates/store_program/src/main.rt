@@ -4,6 +4,8 @@
 
 mod counted;
 mod opening;
+mod pages;
+mod reasons;
 
 ghost use Rattle.std.specs.Prelude.{◌≡◌, true, IfErr, is_ok};
 ghost use Rattle.user_macros.specs.Sound.{IsSoundCall};
@@ -11,6 +13,8 @@ ghost use Rattle.user_macros.specs.Functions.{are_registered};
 
 use crate::counted::Counted;
 use crate::opening::Telling;
+use crate::pages::Pages;
+use crate::reasons::{reasons_for, tell_unread};
 use command_words::{Way, asks_for_quiet, way_of};
 use lisp_object::refusal::NO_MEMORY;
 use message_command::run_messages;
@@ -27,17 +31,14 @@ use std::process::ExitCode;
 use std::random::RandomSource;
 use std::{env, fs};
 use store_commands::{
-    Answers, Folders, Heard, History, Lines, Looking, Piped, RefusalTeller, SessionOutput, Status,
-    Terminal, end_with, program, program_at_terminal,
+    Answers, Folders, Heard, History, Lines, Looking, Piped, Reasons, RefusalTeller, SessionOutput,
+    Status, Terminal, end_with, program, program_at_terminal,
 };
 use store_looks::{check, look};
 use user_macros::{Answer, Call, Cause, MacroFn, MacroFunctions, Macros, Refusal};
 
 /// How many bytes of the stack are taken at the start. The deepest form takes fewer.
 const STACK: usize = 524_288;
-
-/// The variable of the environment by which somebody asks for the lines on refused forms.
-const REASONS: &str = "PAZTURROK_REASONS";
 
 // The words that the program was started with, or the status where they are not had: they are no text, or there is no memory.
 fn words_given(rt: &HostRuntime) -> Result<Vec<String>, Status> {
@@ -190,7 +191,7 @@ where
     requires answers { M.answers macros }
 {
     let (heard, stands) = (Cell::new(Heard::Nothing), Cell::new(false));
-    let are_unasked = Cell::new(!asks_for_reasons(rt, words));
+    let reasons = reasons_for(rt, words);
     let history = History::new(rt.alloc());
     let stdin = Uninterrupted::new(rt.stdin());
     let progress = if is_told(rt, words) {
@@ -203,30 +204,23 @@ where
         output: Answers::new(output, &heard),
         teller: RefusalTeller::new(
             rt.alloc(),
-            BesidePipe::new(Cleared::new(rt.stderr(), &stands), &are_unasked),
+            Cleared::new(rt.stderr(), &stands),
             &history,
+            reasons,
         ),
     };
     let mut faults = Cleared::new(faults, &stands);
     let status = program(folders, macros, words, &mut input, &mut output, &mut faults);
     faults.clear();
+    if reasons != Reasons::None {
+        tell_unread(rt, &mut faults, &input, &history, status);
+    }
     status
 }
 
 // Whether standard error has a line on how far it is: at a terminal that gets no answers.
 fn is_told(rt: &HostRuntime, words: &[String]) -> bool {
     rt.stderr().is_terminal() && (asks_for_quiet(words) || !rt.stdout().is_terminal())
-}
-
-// Whether standard error has lines on refused forms where standard input is no terminal: in a quiet session, or if the environment asks for them.
-fn asks_for_reasons(rt: &HostRuntime, words: &[String]) -> bool {
-    if asks_for_quiet(words) {
-        return true;
-    }
-    match env::var(rt, REASONS) {
-        Ok(value) => !value.is_empty(),
-        Err(_) => false,
-    }
 }
 
 // How many bytes standard input has, if it is a file.
@@ -253,13 +247,15 @@ fn serve_at_terminal<M: MacroFunctions + Drop, F: Write>(
 {
     let (heard, history) = (Cell::new(Heard::Nothing), History::new(rt.alloc()));
     let lines = Lines::new(typed_lines(rt), &history);
-    let mut input = Terminal::new(lines, rt.stderr(), &heard);
+    let mut input = Terminal::new(rt.alloc(), lines, Pages::new(rt), &heard);
     let mut output = SessionOutput {
         output: Answers::new(Uninterrupted::new(rt.stdout()), &heard),
-        teller: RefusalTeller::new(rt.alloc(), rt.stderr(), &history),
+        teller: RefusalTeller::new(rt.alloc(), rt.stderr(), &history, Reasons::Few),
     };
     let folders = Telling::new(rt, rt);
-    program_at_terminal(&folders, macros, words, &mut input, &mut output, faults)
+    let status = program_at_terminal(&folders, macros, words, &mut input, &mut output, faults);
+    tell_unread(rt, faults, &input, &history, status);
+    status
 }
 
 // What is noted of the answers of a quiet session.
@@ -295,14 +291,15 @@ fn serve_quietly_at_terminal<M: MacroFunctions + Drop, F: Write>(
     };
     let (heard, counts) = noted.lent();
     let lines = Lines::new(typed_lines(rt), &history);
-    let mut input = Terminal::new(lines, rt.stderr(), heard);
+    let mut input = Terminal::new(rt.alloc(), lines, Pages::new(rt), heard);
     let refusals = Counted::new(rt.alloc(), Uninterrupted::new(rt.stdout()), counts);
     let mut output = SessionOutput {
         output: Answers::new(refusals, heard),
-        teller: RefusalTeller::new(rt.alloc(), rt.stderr(), &history),
+        teller: RefusalTeller::new(rt.alloc(), rt.stderr(), &history, Reasons::Few),
     };
     let folders = Telling::new(rt, rt);
     let status = program_at_terminal(&folders, macros, words, &mut input, &mut output, faults);
+    tell_unread(rt, faults, &input, &history, status);
     tell_counts(faults, status, counts.get());
     status
 }

@@ -53,7 +53,11 @@ impl Prompts for Pages<'_> {
         };
         let mut is_asked = false;
         let mut is_known = false;
-        for line in text.as_slice().split(|byte| *byte == b'\n') {
+        let text = match text.as_slice() {
+            [front @ .., b'\n'] => front,
+            text => text,
+        };
+        for line in text.split(|byte| *byte == b'\n') {
             match line {
                 [HEAD, b' ', known @ ..] => is_asked = known.eq_ignore_ascii_case(word),
                 _ if is_asked => {
