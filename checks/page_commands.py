@@ -13,7 +13,7 @@ Every command of the program with its options, in the words of its help. `checks
 
 An option that is not given is off, but for `--snapshot-ratio`, which is 10 then. **`--existing`** is an option of every command but `check`: the command refuses a folder that holds no store, and makes nothing. `show`, `info`, `log` and `backup` take it too, and nothing changes by it: a command that only looks makes nothing in any case.
 
-`--help` after a command has its help with an example; `--version` tells the version of the program and of the files that it writes. `./pazturrok help GET` tells what the operator `GET` does, with an example, and `./pazturrok help 31` what the number 31 of a refusal means and what to do; so of each [operator](../use/operators.md) and each [number](../use/refusals.md). Two variables of the environment count: `PAZTURROK_MEMORY` ([Memory](operating.md#memory)) and `PAZTURROK_REASONS` ([what a refusal is about](../use/refusals.md#what-a-refusal-is-about)). There is no file of settings.
+`--help` after a command has its help with an example; `--version` tells the version of the program and of the files that it writes. `./pazturrok help GET` tells what the operator `GET` does, with an example, and `./pazturrok help 31` what the number 31 of a refusal means and what to do; so of each [operator](../use/operators.md) and each [number](../use/refusals.md). In a session at a terminal the lines `help GET` and `(help 31)` tell the same. Two variables of the environment count: `PAZTURROK_MEMORY` ([Memory](operating.md#memory)) and `PAZTURROK_REASONS` ([what a refusal is about](../use/refusals.md#what-a-refusal-is-about)). There is no file of settings.
 """
 
 

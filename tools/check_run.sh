@@ -131,9 +131,15 @@ REFUSAL='s/^line \([0-9]*\), column \([0-9]*\): refused with \([0-9]*\) \([A-Z-]
 # The line on what that refusal is about, where the program tells it, without the place and the number before it.
 ABOUT='/ (help [0-9]*)$/ { s///; s/^line [0-9]*, column [0-9]*: [0-9]*: //; s/^after [0-9]* bytes: [0-9]*: //; p; }'
 
-# Tells that without the name of the refusal, which is told already.
+# Tells that without the name of the refusal, which is told already. The words are that name, and the line of the file with which the session began,
+# from which the program counts the line of a part.
 tell_about() {
     about=$(sed -n "$ABOUT" "$room/told" | tail -n 1)
+    line=${about##*, in line }
+    case $line in
+        '' | *[!0-9]*) ;;
+        *) about="${about%, in line *}, in line $(($2 + line - 1))" ;;
+    esac
     [ -z "$about" ] || tell "    about: ${about#"$1": }"
 }
 
@@ -155,8 +161,9 @@ check_run() {
             0,*) forms=$((forms + $(sed -n 's/^answers \([0-9]*\) .*/\1/p' "$room/told"))) ;;
             1,7)
                 tell_place "$@"
+                first_line=$rest_line
                 if [ "$3" -lt "$FIRST_OF_EVALUATION" ]; then pass_line "$@"; else pass_form "$6" "$7"; fi
-                tell_about "$4"
+                tell_about "$4" "$first_line"
                 mv "$room/next" "$room/rest"
                 forms=$((forms + $5)) refused=$((refused + 1))
                 ;;

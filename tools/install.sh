@@ -113,6 +113,7 @@ install_program() {
         make_folder "$prefix/$place"
     done
     manual >"$room/manual"
+    write_pages >"$room/pages"
     (cd "$top/docs" && awk -v asked=manual -f "$top/tools/pages.awk" use/operators.md use/refusals.md run/operating.md) >"$room/forms"
     # one that is installed has no words of a clone
     sed 's/ compile build install release / /' "$top/completions/pazturrok.bash" >"$room/completions"
@@ -125,6 +126,7 @@ install_program() {
     put "$top/pazturrok" "$prefix/bin/pazturrok" 755
     put_all "$prefix/libexec/pazturrok" "$top/tools/pages.awk" "$top/tools/turns.sh" "$top/tools/check_run.sh" "$top/tools/show_html.sh" "$top/tools/world.html" "$top/tools/uninstall.sh"
     put_all "$prefix/share/pazturrok" "$top/lisp/operators.lisp"
+    put "$room/pages" "$prefix/share/pazturrok/pages.txt" 644
     put "$room/manual" "$prefix/share/man/man1/pazturrok.1" 644
     put "$room/forms" "$prefix/share/man/man7/pazturrok-forms.7" 644
     put "$room/completions" "$prefix/share/bash-completion/completions/pazturrok" 644

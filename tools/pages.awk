@@ -2,8 +2,8 @@
 #
 # usage: awk -v asked=GET -f pages.awk docs/use/operators.md docs/use/refusals.md docs/run/operating.md
 #
-# `asked` is the name of an operator or of a variable in upper case, a number, or `manual`. The status is 1 if the
-# pages have none such.
+# `asked` is the name of an operator or of a variable in upper case, a number, `manual`, or `all`: of each operator, variable and number a line
+# with @ and its name, and then what is told of it. The status is 1 if the pages have none such.
 
 # The kinds of tables, by their first lines.
 BEGIN {
@@ -18,6 +18,7 @@ BEGIN {
     kinds["No.|Name|When"] = "refusal"
     kinds["Number|What happened|What to do"] = "fault"
     FUNCTIONS = "An operator of the package PAZTURROK: run DIR --operators makes the plain names known to a store."
+    FULL_NAME = " is an operator of the package PAZTURROK: run DIR --operators makes it known to a store."
 }
 
 # Where a link leads, as the page that it is in is read: docs/ before its own folder and name.
@@ -60,12 +61,35 @@ function has_word(form, name,    words, count, at) {
     return 0
 }
 
-# Whether COMMON-LISP has an operator of the name that is asked for, in the tables so far.
-function is_operator(    at) {
-    for (at = 1; at <= form_count; at++)
+# Whether COMMON-LISP has an operator of the name that is asked for, among so many first forms.
+function is_operator(count,    at) {
+    for (at = 1; at <= count; at++)
         if (!is_function[at] && has_word(forms[at], asked))
             return 1
     return 0
+}
+
+# Whether a form has this name at its head.
+function has_head(form, name) {
+    return index(form, "(" name " ") == 1 || index(form, "(" name ")") == 1
+}
+
+# Sets `best`, and the example that is: of the examples the first that has the operator at its head and is accepted is the best one, worth 3. One
+# that is refused is worth 2, and one that has the name elsewhere 1.
+function choose_example(    at, worth) {
+    best = 0
+    for (at = 1; at <= example_count; at++) {
+        worth = 0
+        if (has_head(examples[at], asked) || (has_head(examples[at], "PAZTURROK::" asked) && !is_operator(forms_before[at])))
+            worth = substr(answers[at], 1, 1) == "!" ? 2 : 3
+        else if (has_word(examples[at], asked) && substr(answers[at], 1, 1) != "!")
+            worth = 1
+        if (worth > best) {
+            best = worth
+            example = examples[at]
+            answer = answers[at]
+        }
+    }
 }
 
 # Tells a text behind so many spaces, in lines that a terminal has room for.
@@ -146,19 +170,11 @@ kind == "function" {
     is_function[form_count] = 1
 }
 
-# Of the examples the first that has the operator at its head and is accepted is the best one, worth 3. One that is
-# refused is worth 2, and one that has the name elsewhere 1.
 kind == "example" {
-    worth = 0
-    if (index(cells[2] " ", "(" asked " ") == 1 || index(cells[2], "(" asked ")") == 1 || ((index(cells[2], "(PAZTURROK::" asked " ") == 1 || index(cells[2], "(PAZTURROK::" asked ")") == 1) && !is_operator()))
-        worth = substr(cells[3], 1, 1) == "!" ? 2 : 3
-    else if (has_word(cells[2], asked) && substr(cells[3], 1, 1) != "!")
-        worth = 1
-    if (worth > best) {
-        best = worth
-        example = cells[2]
-        answer = cells[3]
-    }
+    examples[++example_count] = cells[2]
+    answers[example_count] = cells[3]
+    # of the operators only those that the tables before it have are known
+    forms_before[example_count] = form_count
 }
 
 kind == "letter" || kind == "function letter" {
@@ -226,11 +242,13 @@ function tell_letters(text, of_functions,    at, words, count, word) {
     }
 }
 
-function tell_operator(    at, found, text, of_functions) {
+function tell_operator(    at, found, text, of_functions, of_package) {
+    choose_example()
     for (at = 1; at <= form_count; at++)
         if (has_word(forms[at], asked)) {
             found = 1
             of_functions = is_function[at] && (text == "" || of_functions)
+            of_package = of_package || has_head(forms[at], "PAZTURROK::" asked)
             print forms[at]
             tell("Value: " values[at], 2)
             tell("Writes: " writes[at], 2)
@@ -245,6 +263,8 @@ function tell_operator(    at, found, text, of_functions) {
         tell_letters(text, of_functions)
         if (of_functions)
             tell(FUNCTIONS, 2)
+        else if (of_package)
+            tell("PAZTURROK::" asked FULL_NAME, 2)
     }
     if (best)
         print (found ? "\n" : "") "In a session:\n  " example "\n  " answer
@@ -282,9 +302,52 @@ function tell_manual(    at) {
     return 1
 }
 
+# Tells of an operator or of a variable that was not told of yet, behind a line with its name.
+function tell_name(name) {
+    sub(/^PAZTURROK::/, "", name)
+    if (name !~ /^[A-Z*+\/=<>-][A-Z0-9*+\/=<>-]*$/ || name in is_told)
+        return
+    is_told[name] = 1
+    asked = name
+    print "@ " asked
+    tell_operator()
+}
+
+# The same of each name that begins a list in a form, and of a form that is a name.
+function tell_names(form,    lists, count, at, words) {
+    count = split(form, lists, "(")
+    for (at = 1; at <= count; at++) {
+        split(lists[at], words, /[ )]/)
+        tell_name(words[1])
+    }
+}
+
+# The same of each variable in an example.
+function tell_variables(form) {
+    while (match(form, /\*[A-Z-]+\*/)) {
+        tell_name(substr(form, RSTART, RLENGTH))
+        form = substr(form, RSTART + RLENGTH)
+    }
+}
+
+# Tells of each number, operator and variable, behind a line with its name.
+function tell_all(    at) {
+    for (at = 1; at <= number_count; at++) {
+        print "@ " numbers[at]
+        tell_refusal(at)
+    }
+    for (at = 1; at <= form_count; at++)
+        tell_names(forms[at])
+    for (at = 1; at <= example_count; at++)
+        tell_variables(examples[at])
+    return 1
+}
+
 END {
     if (asked == "manual")
         exit !tell_manual()
+    if (asked == "all")
+        exit !tell_all()
     for (at = 1; at <= number_count; at++)
         if (asked == numbers[at] "") {
             tell_refusal(at)

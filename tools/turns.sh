@@ -171,7 +171,7 @@ start_session() {
         case $word in --) is_end=end ;; --existing) existing=--existing ;; esac
         before=$word
     done
-    [ -n "$is_clone" ] || go_by_name "$@"
+    [ -n "$is_clone" ] || try_words "$@"
     if [ -n "$is_waiting" ]; then
         look_at_seconds
         [ -z "$folder" ] || wait_for_store "$folder"
@@ -183,6 +183,7 @@ start_session() {
     fi
     [ -z "$is_round" ] || leave_round "$folder"
     tell_holder "$@"
+    name_pages "$@"
     exec "$program" "$@"
 }
 

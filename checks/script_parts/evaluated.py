@@ -36,7 +36,8 @@ forms 11 refused 7
 
 # What begins the line on what a refusal is about, and the first of these lines.
 ABOUT = b"    about: "
-OF_FORMS = [ABOUT + b"no operator FROB", ABOUT + b"(GET (QUOTE A))", ABOUT + b"no operator FROB"]
+OF_FORMS = [ABOUT + b"no operator FROB", ABOUT + b"(GET (QUOTE A))", ABOUT + b"no operator FROB, in line 4",
+            ABOUT + b"X; quoted it is a value: 'X", ABOUT + b"1.5", ABOUT + b"no operator FROB", ABOUT + b"(SETF (GET 'A"]
 
 
 def without_about(out: bytes) -> bytes:
@@ -80,7 +81,7 @@ def check_all(script: str, room: str) -> None:
     status, out, err = called(script, "check", "--run", file)
     check("each refusal", (status, without_about(out), err), (1, TOLD, b""))
     about = [line for line in out.splitlines() if line.startswith(ABOUT)]
-    check("what they are about", about[:3], OF_FORMS)
+    check("what they are about", about, OF_FORMS)
     before_a_reader_that_goes(script, "check", "--run", file)
     helps = (["help", "31"], ["help", "GET"], ["help"], ["--help"], ["help", "run"], ["run", "--help"])
     check("the statuses of help before a reader that goes", [before_a_reader_that_goes(script, *words) for words in helps], [b"status 0"] * len(helps))

@@ -71,7 +71,7 @@ WRONG = ([], ["frob"], ["run"], ["run", "--bogus"], ["run", "a", "b"], ["run", "
 
 
 def check_named(there, room):
-    """An installed one has its own name in what it says of wrong words, which are tried on no folder, and tells what hints mean by another."""
+    """An installed one has its own name in what it says of wrong words, which are tried on no folder, and at a terminal what the pages say."""
     for words in WRONG:
         status, out, err = called(there, *words)
         of_program = [word for word in words if word != "--operators"]
@@ -83,15 +83,27 @@ def check_named(there, room):
     check_right_words(there, room)
     folder = os.path.join(room, "at a terminal")
     check("no store", called(there, "info", folder), (3, b"", b"! 60 DEVICE\nthere is no store in this folder\n"))
-    for words, says in (([], True), (["--quiet"], False)):
-        master, slave = pty.openpty()
-        running = subprocess.Popen([there, "run", folder, *words], stdin=slave, stdout=subprocess.DEVNULL, stderr=slave)
-        os.write(master, b"\x04")
-        running.wait()
-        os.close(slave)
-        text = os.read(master, 65536)
-        os.close(master)
-        check(f"at a terminal {words}", text.startswith(b"pazturrok: this is the command that the hints call ./pazturrok\r\n"), says)
+    for words in ([], ["--quiet"], ["--operators"]):
+        text = typed_at_terminal([there, "run", folder, *words], b"help 31\n(help 'get)\nhelp frob\n")
+        says = [b"\r\n31 UNKNOWN-OPERATOR\r\n", b"\r\n(GET s i [x])\r\n", b"there is no operator and no number frob;"]
+        check(f"at a terminal {words}", ([word in text for word in says], b"./pazturrok" in text), ([True] * 3, False))
+
+
+def typed_at_terminal(words, lines):
+    """What is told at a terminal on these lines."""
+    master, slave = pty.openpty()
+    running = subprocess.Popen(words, stdin=slave, stdout=subprocess.DEVNULL, stderr=slave)
+    os.close(slave)
+    os.write(master, lines + b"\x04")
+    text = b""
+    try:
+        while more := os.read(master, 65536):
+            text += more
+    except OSError:
+        pass
+    running.wait()
+    os.close(master)
+    return text
 
 
 def check_right_words(there, room):

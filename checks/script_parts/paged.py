@@ -63,6 +63,8 @@ def check_increment(script: str) -> None:
     """INCF is an operator of COMMON-LISP, and one with a default is a symbol of PAZTURROK: the help has both."""
     out = told(script, "INCF")[1].decode()
     check("both forms", [line for line in out.splitlines() if line.startswith("(")], ["(INCF (GET s i) [x])", f"({OWN_INCREMENT} (GET s i [x]) [k])"])
+    check("the package of the other", [line for line in out.splitlines() if "of the package PAZTURROK" in line][0].split()[0], OWN_INCREMENT)
+    check("no package of GET", "of the package PAZTURROK" in told(script, "GET")[1].decode(), False)
     check("with its package", told(script, OWN_INCREMENT), told(script, "INCF"))
 
 
