@@ -10,6 +10,7 @@ import time
 from fractions import Fraction
 from unittest import mock
 
+import pazturrok.program
 from pazturrok import (
     NIL,
     BrokenStoreError,
@@ -85,6 +86,15 @@ class Forms(StoreTest):
             [outcome.number if isinstance(outcome, RefusedError) else outcome for outcome in outcomes],
         )
 
+    def test_each_refusal_has_its_reason(self) -> None:
+        store = self.store()
+        with mock.patch.object(pazturrok.program, "ERRORS_KEPT", 1000):
+            for forms in (["(FROB)"] * 150, ["7", "(FROB)"], ["(FROB)"] * 20, ["(LIST 1\n (FROB))", "(FROB)"]):
+                outcomes = store.execute_all(forms, raise_on_refusal=False)
+                reasons = [outcome.reason for outcome in outcomes if isinstance(outcome, RefusedError)]
+                self.assertEqual({"no operator FROB"}, {(reason or "none").split(",")[0] for reason in reasons})
+                self.assertEqual(len([form for form in forms if "FROB" in form]), len(reasons))
+
     def test_what_no_session_reads_is_not_sent(self) -> None:
         store = self.store()
         for form in (
@@ -110,6 +120,7 @@ class Forms(StoreTest):
             store.execute("10.5")
         self.assertEqual(7, raised.exception.number)
         self.assertIn("column 5", str(raised.exception.place))
+        self.assertEqual("10.5", raised.exception.reason)
         self.assertIs(State.ENDED, store.state)
         self.assertEqual(7, store.execute("(GET 'A 'B)"))
         outcomes = store.execute_all(["1", "2.0", "3", "'NO::X", "5"], raise_on_refusal=False)

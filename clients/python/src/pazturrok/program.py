@@ -3,6 +3,7 @@
 from __future__ import annotations
 
 import contextlib
+import fcntl
 import itertools
 import os
 import re
@@ -20,6 +21,9 @@ END_LIMIT = 10.0
 """How many seconds the program may take to end, before it is killed. That loses nothing that was answered."""
 
 PIECE = 65536
+
+ERRORS_KEPT = 1 << 20
+"""So many bytes of standard error are kept at most, once they were read and nothing is under way."""
 
 REFUSED = re.compile(
     r"(?:pazturrok: )?(?:line ([0-9]+), column [0-9]+|after [0-9]+ bytes): [0-9]+: (.*?)(?: \(help [0-9]+\))?"
@@ -45,6 +49,8 @@ class Program:
     def __init__(self, words: Sequence[str], splitter: Splitter | None = None) -> None:
         try:
             self._errors = tempfile.TemporaryFile()  # noqa: SIM115
+            # what the program writes goes to its end, so that the file may be emptied
+            fcntl.fcntl(self._errors, fcntl.F_SETFL, fcntl.fcntl(self._errors, fcntl.F_GETFL) | os.O_APPEND)
         except OSError as error:
             raise NoProgramError(words[0], f"no file takes what it tells: {error}") from error
         try:
@@ -54,7 +60,7 @@ class Program:
                 stdin=subprocess.PIPE,
                 stdout=subprocess.PIPE,
                 stderr=self._errors,
-                env={"PAZTURROK_REASONS": "told", **os.environ},
+                env={**os.environ, "PAZTURROK_REASONS": "all"},
             )
         except OSError as error:
             self._errors.close()
@@ -80,6 +86,7 @@ class Program:
         """
         if self._read() or not self._splitter.is_empty:
             raise MalformedAnswerError("", "more was answered than was asked")
+        self._empty_errors()
         unsent = memoryview("".join(text + "\n" for text in texts).encode("ascii"))
         heights = (text.count("\n") + 1 for text in texts)
         self._begins = list(itertools.accumulate(heights, initial=self._begins[-1]))
@@ -102,6 +109,13 @@ class Program:
                     raise TimeLimitError(seconds or 0)
         if len(answers) > len(texts) or not self._splitter.is_empty:
             raise MalformedAnswerError(answers[-1], "more was answered than was asked")
+
+    def _empty_errors(self) -> None:
+        """Empties what standard error has, where that is much. All is answered, so the program writes nothing meanwhile."""
+        if os.fstat(self._errors.fileno()).st_size > ERRORS_KEPT:
+            os.truncate(self._errors.fileno(), 0)
+            self._heard = 0
+        self._reasons.clear()
 
     def _write(self, data: memoryview) -> int:
         try:

@@ -25,7 +25,7 @@ from .errors import (
     telling,
 )
 from .printer import FORM_LIMIT, check_characters, packages_of, printed, string_text
-from .program import Program
+from .program import REFUSED, Program
 from .properties import Properties
 from .texts import is_one_form, without_texts
 from .values import FUNCTIONS, LISP, OPERATORS, Symbol, Value
@@ -271,10 +271,10 @@ class Store(Shared, Properties):
             raise
         reasons = list(map(self._reason, answers, itertools.count()))
         outcomes += map(self._outcome, answers[:-1], reasons)
-        place = self._end_session() if self._ends_session(answers[-1]) else None
+        place, reason = self._end_session() if self._ends_session(answers[-1]) else (None, None)
         if place is None and changes_naming(texts[-1]):
             self._ask_naming(seconds)
-        outcomes.append(self._outcome(answers[-1], reasons[-1], place))
+        outcomes.append(self._outcome(answers[-1], reasons[-1] or reason, place))
 
     # Texts to and fro
 
@@ -299,11 +299,15 @@ class Store(Shared, Properties):
         refusal = refusal_of(answer)
         return refusal is not None and (refusal[0] <= 25 or "--strict" in self._words)
 
-    def _end_session(self) -> str:
-        """Ends the session after its last refusal, and gives what standard error says of its place."""
+    def _end_session(self) -> tuple[str, str | None]:
+        """Ends the session after its last refusal, and gives what standard error says of its place, and what it was about."""
         assert self._program
         self._state = State.ENDED
-        return self._program.end()[1].rpartition("\n")[2]
+        lines = self._program.end()[1].splitlines()
+        told = [REFUSED.fullmatch(line) for line in lines]
+        places = [line for line, of_refusal in zip(lines, told) if not of_refusal]
+        reasons = [of_refusal[2] for of_refusal in told if of_refusal]
+        return (places or [""])[-1], (reasons or [None])[-1]
 
     def _reason(self, answer: str, place: int) -> str | None:
         """What is told of a refusal, beside its number, of the answer at this place of the last exchange."""
