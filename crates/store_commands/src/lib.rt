@@ -8,8 +8,7 @@
 //!   `export` and `report`). What the store is opened with is handed to them as an `Opening` (module `opening`).
 //! - What goes out of a session goes through a ledger (session_ledger), so it is known that it is stored by then:
 //!   `what_a_session_wrote_is_there` (module `laws`).
-//! - `sessions_on` serves sessions in a row (module `sessions`), and `terminal` has the input that asks for them, with its prompts; `typed` tells
-//!   which lines ask for help there.
+//! - `sessions_on` serves sessions in a row (module `sessions`), and `terminal` has the input that asks for them, with its prompts.
 //! - `output` has the output of the program, which tells of forms that were refused: the place of each and the part for which it was, on a stream
 //!   of its own.
 //! - `recipient` has who gets the lines of sessions in a row, and may keep account of each; `sessions_go_on` (module `laws`): what follows
@@ -48,7 +47,6 @@ mod snapshot;
 mod status;
 mod terminal;
 mod told;
-mod typed;
 mod upgrade;
 
 pub use answers::{Answers, Heard, Piped};
@@ -73,5 +71,4 @@ pub use snapshot::snapshot_on;
 pub use status::Status;
 pub use terminal::{Sessions, Terminal};
 pub use told::{Told, end_with, end_with_told};
-pub use typed::Prompts;
 pub use upgrade::upgrade_on;

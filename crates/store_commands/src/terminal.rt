@@ -4,10 +4,10 @@ ghost use Rattle.store_commands.specs.Sessions.{Drops, DropsByte};
 
 use crate::answers::Heard;
 use crate::given::is_blank;
-use crate::typed::{Prompts, Wish, wish_of};
 use arrayvec::ArrayVec;
 use diagnostics::{Places, Refusal, Spot, write_text, write_unread};
 use prevalence_store::Place;
+use program_streams::{Prompts, Wish, wish_of};
 use std::alloc::Global;
 use std::cell::Cell;
 use std::io;

@@ -1,8 +1,8 @@
 //! Where prompts go, and what the pages say.
+use program_streams::Prompts;
 use std::io::{Stderr, Write};
 use std::path::Path;
 use std::{env, fs, io};
-use store_commands::Prompts;
 
 /// The variable of the environment that names a file with what the pages say: of each word a line that begins so, and the lines on it.
 const PAGES: &str = "PAZTURROK_PAGES";

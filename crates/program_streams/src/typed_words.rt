@@ -1,4 +1,4 @@
-// What a line at a terminal asks for that is no form of the store.
+// What a line at a terminal asks for that is no form of a store.
 use std::io::Write;
 
 /// Where the prompts of a terminal go, which may know what the pages say.
@@ -9,7 +9,7 @@ pub trait Prompts: Write {
 
 /// What a line asks for.
 #[derive(Clone, Copy)]
-pub(crate) enum Wish<'a> {
+pub enum Wish<'a> {
     Nothing,
     Help,
     /// What the pages say of this word.
@@ -18,7 +18,7 @@ pub(crate) enum Wish<'a> {
 }
 
 /// What a line asks for, be it words or a form of them.
-pub(crate) fn wish_of(line: &[u8]) -> Wish<'_> {
+pub fn wish_of(line: &[u8]) -> Wish<'_> {
     let words = without_blanks(line);
     let words = match words {
         [b'(', inner @ .., b')'] => without_blanks(inner),
