@@ -76,7 +76,8 @@ class RefusedError(StoreError):
         self.reason = reason
 
     def _lines(self) -> str | None:
-        return self.hint or (None if self.reason else self.place)
+        # of a form that was read the place says no more than the form, which is told
+        return self.hint or (None if self.reason and self.number > 25 else self.place)
 
 
 class UnsendableError(StoreError):
