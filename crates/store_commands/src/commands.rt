@@ -48,7 +48,8 @@ use user_macros::MacroFunctions;
 /// Faults are found in this order: the words, the seed, DIR, the opening of the store, the command. A text on words that are refused, or
 /// the line of a fault, and after that of the device one with its cause, goes to `faults`, and so does the line on a refusal that
 /// ended the session; help and the version that was asked for
-/// go to `output`. What is written to `output` is flushed. Of the first 100 forms that are refused the teller of `output` writes a line each.
+/// go to `output`. What is written to `output` is flushed. The teller of `output` writes a line on each form that is refused, of as many as it is
+/// asked for.
 pub fn program<R, M, S, I, O, T, F>(
     rt: &R,
     macros: M,
