@@ -36,7 +36,7 @@ forms 11 refused 7
 
 # What begins the line on what a refusal is about, and the first of these lines.
 ABOUT = b"    about: "
-OF_FORMS = [ABOUT + b"no operator FROB", ABOUT + b"(GET (QUOTE A))", ABOUT + b"no operator FROB, in line 4",
+OF_FORMS = [ABOUT + b"no operator FROB", ABOUT + b"(GET 'A)", ABOUT + b"no operator FROB, in line 4",
             ABOUT + b"X; quoted it is a value: 'X", ABOUT + b"1.5", ABOUT + b"no operator FROB", ABOUT + b"(SETF (GET 'A"]
 
 

@@ -9,6 +9,7 @@ use crate::filling::item_at;
 use crate::marks::{call_of, quotation};
 use crate::operators::{PAZTURROK, is_in_pazturrok, is_of_pazturrok, meant_by, name_of_symbol};
 use crate::part::refused_part;
+use crate::quotes::told_of;
 use crate::trial::is_refused_form;
 use crate::ways::{ALONE, WITHOUT_COMMON_LISP, add_way_to_own, uses, way_on};
 use canon_printer::print;
@@ -19,9 +20,6 @@ use package_table::standardized::COMMON_LISP;
 use plist_state::World;
 use std::alloc::{AllocError, Global};
 use user_macros::Meaning;
-
-/// How many bytes of a part are told.
-const MOST_TOLD: usize = 80;
 
 /// A form has at most so many levels.
 const MOST_LEVELS: u64 = 100;
@@ -218,17 +216,5 @@ fn print_in(alloc: Global, world: &World, part: &Datum) -> Result<Vec<u8>, Alloc
 {
     world.soundness();
     let text = print(alloc, part, world.packages(), world.current_package())?;
-    front_of(alloc, text.as_slice())
-}
-
-// The first 80 bytes of a text, in which a space stands for each that is no character of ASCII.
-fn front_of(alloc: Global, text: &[u8]) -> Result<Vec<u8>, AllocError> {
-    let mut front = Vec::new(alloc);
-    for byte in text.iter().take(MOST_TOLD) {
-        front.push(if byte.is_ascii_graphic() { *byte } else { b' ' })?;
-    }
-    if text.len() > MOST_TOLD {
-        front.extend_from_slice(b" ..")?;
-    }
-    Ok(front)
+    told_of(alloc, text.as_slice(), uses(world, COMMON_LISP))
 }
