@@ -253,9 +253,7 @@ fn serve_at_terminal<M: MacroFunctions + Drop, F: Write>(
         teller: RefusalTeller::new(rt.alloc(), rt.stderr(), &history, Reasons::Few),
     };
     let folders = Telling::new(rt, rt);
-    let status = program_at_terminal(&folders, macros, words, &mut input, &mut output, faults);
-    tell_unread(rt, faults, &input, &history, status);
-    status
+    program_at_terminal(&folders, macros, words, &mut input, &mut output, faults)
 }
 
 // What is noted of the answers of a quiet session.
@@ -299,7 +297,6 @@ fn serve_quietly_at_terminal<M: MacroFunctions + Drop, F: Write>(
     };
     let folders = Telling::new(rt, rt);
     let status = program_at_terminal(&folders, macros, words, &mut input, &mut output, faults);
-    tell_unread(rt, faults, &input, &history, status);
     tell_counts(faults, status, counts.get());
     status
 }

@@ -9,30 +9,30 @@ const PAGES: &str = "PAZTURROK_PAGES";
 
 const HEAD: u8 = b'@';
 
-/// Standard error, with what the pages say of operators and of the numbers of refusals.
+/// Standard error, with what the pages say of operators and of the numbers of refusals, if that is at hand.
 #[derive(Drop)]
-pub struct Pages<'a> {
-    rt: &'a HostRuntime,
+pub struct Pages {
+    text: Option<Vec<u8>>,
     stream: Stderr,
 }
 
-impl<'a> Pages<'a> {
-    /// The file is read where somebody asks for it.
-    pub fn new(rt: &'a HostRuntime) -> Pages<'a> {
+impl Pages {
+    /// The file is read, if one is named.
+    pub fn new(rt: &HostRuntime) -> Pages {
         Pages {
-            rt,
+            text: text_of_pages(rt),
             stream: rt.stderr(),
         }
     }
-
-    // The file, if there is one.
-    fn text(&self) -> Option<Vec<u8>> {
-        let name = env::var(self.rt, PAGES).ok()?;
-        fs::read(self.rt, Path::new(name.as_str())).ok()
-    }
 }
 
-impl Write for Pages<'_> {
+// The file, if there is one.
+fn text_of_pages(rt: &HostRuntime) -> Option<Vec<u8>> {
+    let name = env::var(rt, PAGES).ok()?;
+    fs::read(rt, Path::new(name.as_str())).ok()
+}
+
+impl Write for Pages {
     ghost use Rattle.std.specs.Prelude.{None};
 
     ghost contents = { λ _. None };
@@ -46,35 +46,40 @@ impl Write for Pages<'_> {
     }
 }
 
-impl Prompts for Pages<'_> {
+impl Prompts for Pages {
     fn write_page(&mut self, word: &[u8]) -> bool {
-        let Some(text) = self.text() else {
-            return false;
-        };
-        let mut is_asked = false;
-        let mut is_known = false;
-        let text = match text.as_slice() {
-            [front @ .., b'\n'] => front,
-            text => text,
-        };
-        for line in text.split(|byte| *byte == b'\n') {
-            match line {
-                [HEAD, b' ', known @ ..] => is_asked = known.eq_ignore_ascii_case(word),
-                _ if is_asked => {
-                    is_known = true;
-                    let _ = self.stream.write_all(line);
-                    let _ = self.stream.write_all(b"\n");
-                }
-                _ => {}
+        match &self.text {
+            Some(text) => {
+                write_page_of(&mut self.stream, text.as_slice(), word);
+                true
             }
+            None => false,
         }
-        if !is_known {
-            let _ = self
-                .stream
-                .write_all(b"there is no operator and no number ");
-            let _ = self.stream.write_all(word);
-            let _ = self.stream.write_all(b"; help tells of a first form\n");
+    }
+}
+
+// Writes what the pages say of a word, or that they say nothing.
+fn write_page_of<W: Write>(stream: &mut W, text: &[u8], word: &[u8]) {
+    let text = match text {
+        [front @ .., b'\n'] => front,
+        text => text,
+    };
+    let mut is_asked = false;
+    let mut is_known = false;
+    for line in text.split(|byte| *byte == b'\n') {
+        match line {
+            [HEAD, b' ', known @ ..] => is_asked = known.eq_ignore_ascii_case(word),
+            _ if is_asked => {
+                is_known = true;
+                let _ = stream.write_all(line);
+                let _ = stream.write_all(b"\n");
+            }
+            _ => {}
         }
-        true
+    }
+    if !is_known {
+        let _ = stream.write_all(b"there is no operator and no number ");
+        let _ = stream.write_all(word);
+        let _ = stream.write_all(b"; help tells of a first form\n");
     }
 }
