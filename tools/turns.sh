@@ -120,6 +120,17 @@ leave_round() {
     exec 8<&-
 }
 
+# The operators whose plain names are those of other symbols of COMMON-LISP-USER, each after a space.
+clashing_names() {
+    sed 's/;.*//' "$operators" | tr ' ()' '\n\n\n' | sed -n 's/^PAZTURROK:://p' | awk '
+        BEGIN { print "(LIST" }
+        {
+            found = "(PAZTURROK::FIND-SYMBOL \"" $0 "\" \"COMMON-LISP-USER\")"
+            print "(PAZTURROK::AND " found " (PAZTURROK::NOT (PAZTURROK::EQL " found " (QUOTE PAZTURROK::" $0 "))) \"" $0 "\")"
+        }
+        END { print ")" }' | "$program" run "$1" --rescue 2>/dev/null | tr ' ' '\n' | sed -n 's/^(*"\(.*\)")*$/ \1/p' | tr -d '\n'
+}
+
 # Makes the functions of the package PAZTURROK known to the store in a folder, where they are not. The second word is --existing, or empty. The forms
 # are read in Rescue mode, whatever readtable and package the store has.
 feed_operators() {
@@ -137,7 +148,7 @@ feed_operators() {
     printf '%s\n' "$lines" | while read -r line; do
         case $line in
             '! 35 '*) ;;
-            '! 37 '*) say "not all plain names of the operators are known to $1, as a symbol of such a name is there already (${line#! }): write an operator with its package, as PAZTURROK::CAR, or import those that do not clash, as with (IMPORT 'PAZTURROK::CAR)" ;;
+            '! 37 '*) say "not all plain names of the operators are known to $1, as a symbol of such a name is there already (${line#! }):$(clashing_names "$1"). Write an operator with its package, as PAZTURROK::CAR, or import those that do not clash, as with (IMPORT 'PAZTURROK::CAR)" ;;
             '! '*) say "the plain names of the functions were not made known to $1: ${line#! }" ;;
         esac
     done

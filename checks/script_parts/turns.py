@@ -110,7 +110,10 @@ def with_operators(script: str, room: str) -> None:
     check("wrong words", (called(script, "run", none, "--operators", "--bogus")[0], os.path.exists(none)), (2, False))
     called(script, "run", none, stdin=b"'EQL")
     status, out, err = called(script, "run", none, "--operators", stdin=b"(PAZTURROK:EQL 2 2)")
-    check("a symbol of such a name", (status, out, err.count(b"\n"), b"is there already (37 NAME-CONFLICT)" in err), (0, b"T\n", 1, True))
+    check("a symbol of such a name", (status, out, err.count(b"\n"), b"is there already (37 NAME-CONFLICT): EQL. Write" in err), (0, b"T\n", 1, True))
+    called(script, "run", none + "2", stdin=b"'(COND < A)")
+    err = called(script, "run", none + "2", "--operators")[2]
+    check("several of such names", b"is there already (37 NAME-CONFLICT): < COND. Write" in err, True)
     running = begun(script, none, "--operators")
     answered(running, b"(LIST 1)")
     status, out, err = called(script, "run", none, "--operators")
