@@ -200,27 +200,20 @@ def answered_in(session, out):
     return len(framed(out[told.end() if told else 0 :])) + bool(told)
 
 
-def group_end(one, answered):
-    """After how many parts the group ends that comes after so many: with the last part, and in a session also before a form that is
-    refused and after it, as standard error tells of it."""
-    refused = () if has_messages(one.session) else one.ample.out.splitlines()
-    ends = [end for at, line in enumerate(refused) if line.startswith(b"! ") for end in (at, at + 1)]
-    return min([end for end in ends if end > answered], default=len(one.dumps) - 1)
-
-
 def may_be_there(one, answered, apart):
-    """After how many parts the world may be that is there."""
+    """After how many parts the world may be that is there. A group has all parts that come at once, as the campaign asks for no reasons of
+    refusals."""
     messages, words = has_messages(one.session), one.session.words
     if messages and not answered:
         # that messages are begun is logged before a frame is read
         return {0, 1}
     together = "--group" in words or messages and "--snapshot-every" not in words
-    return {answered, group_end(one, answered) if together else answered + 1, answered + 1 if apart else answered}
+    return {answered, len(one.dumps) - 1 if together else answered + 1, answered + 1 if apart else answered}
 
 
 def check_world(room, one, answered, apart=True):
-    """A session with groups has one of all its forms up to one that is refused, and one of messages without snapshots has one of all
-    frames: all of them may be there, and not some, unless it was executed form by form (`apart`) as memory ran out in it."""
+    """A session with groups has one of all its forms, and one of messages without snapshots has one of all frames: all of them may be there,
+    and not some, unless it was executed form by form (`apart`) as memory ran out in it."""
     left = (*room.files(), answered)
     if left in one.looked:
         return
