@@ -14,6 +14,8 @@ sys.path.append(os.path.join(os.path.dirname(os.path.abspath(__file__)), "..", "
 
 REFUSED = "! 90 NO-MEMORY"
 PATIENCE = LONG
+SLOWLY = 3
+"""As many seconds a slow store takes to end."""
 
 
 def answer(cluster, place, head, text):
@@ -89,6 +91,27 @@ def innocent(folder, program):
         cluster.end()
 
 
+def asked_anew(folder, program):
+    """A client gives up sooner than a slow store ends, and asks anew: it is refused, and no question is left by which the store ends."""
+    cluster = begun(folder, slow_to_end(folder, small_program(folder, program)), nodes=1)
+    try:
+        told = Client(cluster.places, patience=SLOWLY / 3).request(b"ask", LARGE, LONG)[1]
+        faults = [] if told == REFUSED else [f"who asks anew is answered {told}"]
+        count = ends(cluster, 0)
+        return faults + ([] if value(cluster, 0) == "5" and ends(cluster, 0) == count else ["a question is left"])
+    finally:
+        cluster.end()
+
+
+def slow_to_end(folder, program):
+    """The program, which takes some seconds to end where it has a cause."""
+    slow = os.path.join(folder, "slow")
+    with open(slow, "w", encoding="ascii") as file:
+        file.write(f'#!/bin/sh\n{program} "$@"\nstatus=$?\n[ $status = 0 ] || sleep {SLOWLY}\nexit $status\n')
+    os.chmod(slow, 0o755)
+    return slow
+
+
 def guilty(folder, program):
     """An entry for which no store has memory is blamed, and can be skipped, also while clients ask without an end; and those are answered."""
     cluster = begun(folder, small_program(folder, program), nodes=2)
@@ -144,4 +167,4 @@ def positions(folder, program):
         cluster.end()
 
 
-PARTS = {"positions": positions, "without memory": without_memory, "innocent": innocent, "guilty": guilty}
+PARTS = {"positions": positions, "without memory": without_memory, "innocent": innocent, "asked anew": asked_anew, "guilty": guilty}

@@ -159,13 +159,20 @@ class Node:
         self.count_of_ends += 1
         for one in asked:
             one.ends += 1
-            if one.ends > 1:
-                one.take(Told(self.position, NO_MEMORY))
-        self._unasked.extendleft(one for one in reversed(asked) if one.ends == 1)
+        self._unasked.extendleft(reversed(asked))
+        self._refuse({one.text for one in asked if one.ends > 1})
         number = self._sent[0].number if self._sent else 0
         self._suspect = number or self._suspect
         if not asked:
             self._ended_at = (number, self._ended_at[1] + 1 if number == self._ended_at[0] else 1)
+
+    def _refuse(self, texts: set[bytes]) -> None:
+        """Refuses these questions, by which the store has ended again, to all who wait with them. A client that gives up sooner than a slow
+        store ends, and asks anew, is one of those: each of its questions would have the store end twice, and the next one wait for that."""
+        refused = [one for one in self._unasked if one.text in texts]
+        self._unasked = collections.deque(one for one in self._unasked if one.text not in texts)
+        for one in refused:
+            one.take(Told(self.position, NO_MEMORY))
 
     @property
     def is_running(self) -> bool:
