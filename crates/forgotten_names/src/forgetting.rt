@@ -49,9 +49,8 @@ fn kept_text(alloc: Global, world: &World, held: &[(&[u8], &[u8])]) -> Result<Ve
     write_kept(alloc, world, &test)
 }
 
-/// A world of its own, which is this one without the symbols that it does not need, where these are held in any case. Nothing is
-/// marked in it, and its names are hashed by this seed. Linear in the world; beside it the text of the new world is in memory, twice
-/// at the end.
+/// A world of its own, which is this one without the symbols that it does not need. Those in `held` are needed. Nothing is marked in
+/// it, and its names are hashed by this seed. Linear in the world; beside it the text of the new world is in memory, twice at the end.
 ///
 /// # Errors
 /// Out of memory. It is the answer too where the text of the new world is longer than that of a snapshot may be, or where a readtable

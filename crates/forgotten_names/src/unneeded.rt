@@ -185,8 +185,8 @@ pub(crate) fn needed_marks(
     Ok(marks)
 }
 
-/// The symbols that a world does not need, in the order of their homes and then of their names, where these are held in any case. Each
-/// is there as the world has its home and its name: no name is copied. Linear in the world.
+/// The symbols that a world does not need, in the order of their homes and then of their names. Those in `held` are needed, and are none
+/// of these. Each is there as the world has its home and its name: no name is copied. Linear in the world.
 pub fn forgettable<'a>(
     alloc: Global,
     world: &'a World,

@@ -5,3 +5,4 @@ pub mod Seeking
 pub mod Growing
 pub mod Namesakes
 pub mod Cut
+mod Guesses

@@ -8,8 +8,8 @@
 //! (`cut`): `sizes` says how long they are, in 24 bytes.
 //!
 //! - `sets`: `PackageSets`, a copy of them, their lengths and going back; `look_ups` and `changes`: their calls
-//! - `names`: `Names`, each once, and `name`: one of them; `pairs`: `Pairs` of numbers, each once, and the positions of
-//!   those with the same first, and `pair`: one of them
+//! - `names`: `Names`, each once, `name`: one of them, and `hints`: guesses where one is
+//! - `pairs`: `Pairs` of numbers, each once, and the positions of those with the same first, and `pair`: one of them
 //! - `chains`: `Chains`, symbols or external symbols by their names: for each name the last that has it, and for each of them
 //!   the one before. `find_inherited` goes along them, and so does `find` of `symbols`: `Symbols`, which are pairs
 //! - `seed`: `Seed`, with which both are hashed: names come from clients, who must not know where they fall
@@ -26,6 +26,7 @@
 
 mod chains;
 mod changes;
+mod hints;
 mod look_ups;
 mod name;
 mod names;

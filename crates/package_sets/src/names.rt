@@ -1,10 +1,11 @@
 //! Each name once, numbered by its position.
-ghost use Rattle.std.specs.Prelude.{◌≡◌, ◌<◌, ◌++◌, ◌∷◌, [], length, take, position, bytes_eq, None, IfOk, OnOk, OnErr};
+ghost use Rattle.std.specs.Prelude.{◌≡◌, ◌<◌, ◌++◌, ◌∷◌, [], length, take, position, bytes_eq, None, IfOk, IfSome, OnOk, OnErr};
 ghost use Rattle.package_sets.specs.Kept.{name_at};
 ghost use Rattle.package_sets.specs.Good.{AreDistinctNames};
 ghost use Rattle.package_sets.specs.Changes.{number_in, with_name};
 
 use crate::Seed;
+use crate::hints::Hints;
 use crate::name::{KeptName, SoughtName};
 use indexmap::IndexSet;
 use lisp_object::Bytes;
@@ -15,6 +16,8 @@ use std::marker::Model;
 #[derive(Drop)]
 pub struct Names {
     set: IndexSet<KeptName, Seed>,
+    // Where a name may be, so that most are found without being hashed.
+    hints: Hints,
 }
 
 impl Model for Names {
@@ -31,6 +34,33 @@ impl Model for Names {
     ghost invariant = { λ a. length a.set.keys < 2 ^ 32 };
 }
 
+// Notes where a name is that was added last, among all of them. Where there is no memory for it, it is found by its hash.
+fn note(
+    alloc: Global,
+    set: &IndexSet<KeptName, Seed>,
+    hints: &mut Hints,
+    name: &[u8],
+    number: u32,
+) {
+    if hints.is_narrow(number) {
+        widen(alloc, set, hints);
+    }
+    hints.note(name, number);
+}
+
+// Makes room for more guesses.
+fn widen(alloc: Global, set: &IndexSet<KeptName, Seed>, hints: &mut Hints) {
+    let Ok(mut wider) = hints.wider(alloc) else {
+        return;
+    };
+    let mut number: u32 = 0;
+    for name in set.iter() {
+        wider.note(name.bytes.as_slice(), number);
+        number = number.wrapping_add(1);
+    }
+    *hints = wider;
+}
+
 impl Names {
     /// No names.
     pub fn new(alloc: Global, seed: Seed) -> Names
@@ -38,6 +68,7 @@ impl Names {
     {
         Names {
             set: IndexSet::with_hasher(alloc, seed),
+            hints: Hints::new(alloc),
         }
     }
 
@@ -46,7 +77,8 @@ impl Names {
         ensures { IfOk result (λ names. names ≡ self.now) }
     {
         let set = self.set.clone()?;
-        Ok(Names { set })
+        let hints = self.hints.copy()?;
+        Ok(Names { set, hints })
     }
 
     /// How many names there are.
@@ -67,22 +99,52 @@ impl Names {
     pub fn find(&self, name: &[u8]) -> Option<u32>
         ensures { result ≡ position (bytes_eq name.now) self.now }
     {
-        match self.set.get_index_of(SoughtName { bytes: name }) {
-            Some(number) => Some(number as u32),
-            None => None,
+        match self.guessed(name) {
+            Some(number) => Some(number),
+            None => self.sought(name),
         }
     }
 
-    /// The same. The first names, `front` of them, are compared with it before it is hashed.
+    /// The same. The first names, `front` of them, are compared with it before, the last of these first.
     pub fn find_from_front(&self, front: u32, name: &[u8]) -> Option<u32>
         ensures { result ≡ position (bytes_eq name.now) self.now }
     {
-        for number in 0..self.len().min(front) {
+        self.distinctness();
+        let mut number = self.len().min(front);
+        while number > 0 {
+            number -= 1;
             if name == self.at(number) {
                 return Some(number);
             }
         }
         self.find(name)
+    }
+
+    // The number of a name, where the guess at it is right.
+    #[inline(always)]
+    fn guessed(&self, name: &[u8]) -> Option<u32>
+        ensures { IfSome result (λ n. position (bytes_eq name.now) self.now ≡ Some n) }
+    {
+        self.distinctness();
+        let Some(number) = self.hints.guess(name) else {
+            return None;
+        };
+        if number < self.len() && name == self.at(number) {
+            Some(number)
+        } else {
+            None
+        }
+    }
+
+    // The number of a name, by its hash.
+    #[inline(never)]
+    fn sought(&self, name: &[u8]) -> Option<u32>
+        ensures { result ≡ position (bytes_eq name.now) self.now }
+    {
+        match self.set.get_index_of(SoughtName { bytes: name }) {
+            Some(number) => Some(number as u32),
+            None => None,
+        }
     }
 
     /// The name of a number. Takes no memory.
@@ -102,10 +164,12 @@ impl Names {
         if self.set.len() >= u32::MAX as usize {
             return Err(AllocError);
         }
+        let number = self.set.len() as u32;
         let bytes = Bytes::from_slice(alloc, name)?;
         if let Err(_) = self.set.insert_full(KeptName { bytes }) {
             return Err(AllocError);
         }
+        note(alloc, &self.set, &mut self.hints, name, number);
         Ok(())
     }
 
@@ -122,6 +186,7 @@ impl Names {
         let Ok(added) = self.set.insert_full(KeptName { bytes }) else {
             return Err(AllocError);
         };
+        note(alloc, &self.set, &mut self.hints, name, added.0 as u32);
         Ok(added.0 as u32)
     }
 

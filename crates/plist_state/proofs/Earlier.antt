@@ -24,7 +24,7 @@ use Rattle.plist_state.proofs.Notes.{notes_of}
 -- as many states are marked in it as it has marks
 pub states_in : (e : Replaced) → IsReplaced e → length (worlds_in e).1 ≡ length e.marks.items
 states_in e kept =
-    states_many e.packages.1.marked (marks_of e.marks.items) (rest_of e.stored) e.stored.properties.entries kept.marked
+    states_many e.packages.1.marked (marks_of e.marks.items) (rest_of e.stored) e.stored.properties.items kept.marked
     ∙ length-map e.marks.items notes_of
 
 -- how many states are marked in a world
@@ -32,7 +32,7 @@ pub marks_in : (a : Inside) → IsKept a → length (worlds_of a).1 ≡ a.earlie
 marks_in a kept =
     let now : List WorldState = marked_states a.packages.1.marked (rests_at (marks_of a.marks.items) (rest_of a.stored)) in
     let own : length now ≡ length a.marks.items =
-    states_many a.packages.1.marked (marks_of a.marks.items) (rest_of a.stored) a.stored.properties.entries kept.now.marked ∙ length-map a.marks.items notes_of in
+    states_many a.packages.1.marked (marks_of a.marks.items) (rest_of a.stored) a.stored.properties.items kept.now.marked ∙ length-map a.marks.items notes_of in
     omega (arith, own, kept.earlier.count, length-append (earlier_states a.earlier.items) now)
 
 pub earlier_push : (es : List Replaced) (e : Replaced) → earlier_states (es ++ e ∷ []) ≡ earlier_states es ++ ((worlds_in e).1 ++ (worlds_in e).0 ∷ [])

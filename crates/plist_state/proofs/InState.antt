@@ -120,7 +120,7 @@ module _ (a : Inside) (ts : Tables) (grows : Grows a.packages.0 ts.0) (keeps : K
       sizes = kept.now.sizes;
       owned = owned_grown (numbered a.packages) (numbered ts) (symbol_count ts.0) counted grows keeps (rest_of a.stored).properties kept.now.owned;
       sound = subst IsSound (sym same_state) (sound_packages (state_in (numbered a.packages) (rest_of a.stored)) ts.0 kept.now.sound sound grows);
-      marked = subst (λ ss. AreKept ss (marks_of a.marks.items) (rest_of a.stored) a.stored.properties.entries) (sym marked) kept.now.marked;
+      marked = subst (λ ss. AreKept ss (marks_of a.marks.items) (rest_of a.stored) a.stored.properties.items) (sym marked) kept.now.marked;
     };
     earlier = kept.earlier;
   }

@@ -31,7 +31,7 @@ module _ (a : Inside) (tables : BTreeMap (Vec ℕ) Table) (marks : Vec (Vec Note
   pub left_kept : (said : Result Readtables ReadtableError) → Gives (λ _. readtables_of tables) r said → IsKept a
       → ((v : Readtables) → said ≡ Ok v → IsSound (record (state_in (numbered a.packages) (rest_of a.stored)) { readtables = v })) → IsKept (with_tables a tables marks)
   left_kept said gives kept sound =
-      let rows = a.stored.properties.entries in
+      let rows = a.stored.properties.items in
       record {
         now = record {
           values = kept.now.values;

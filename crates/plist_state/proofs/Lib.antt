@@ -18,6 +18,7 @@ pub mod Restored
 pub mod Unnoted
 pub mod Marking
 pub mod Earlier
+pub mod EmptyRows
 pub mod Left
 pub mod Viewed
 pub mod Pushed

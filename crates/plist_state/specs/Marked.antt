@@ -66,12 +66,12 @@ pub record AreKept (ss : List Numbered) (ms : List (List Note)) (r : NumberedRes
 
 -- each value is proper, each index is that of its row, each size that of its list, each list has its symbol, and the state is sound, now and at each mark
 pub record IsKeptPart (packages : Tables) (stored : Stored) (notes : List (Vec Note)) (noted : Sizes) : Type 0 where
-  pub values : IsProperRows stored.properties.entries
-  pub indexed : AreIndexed stored.properties.entries stored.indexes.entries
+  pub values : IsProperRows stored.properties.items
+  pub indexed : AreIndexed stored.properties.items stored.indexes.entries
   pub sizes : AreSizes (rest_of stored).properties noted
   pub owned : IsOwned (numbered packages) (rest_of stored).properties
   pub sound : IsSound (state_in (numbered packages) (rest_of stored))
-  pub marked : AreKept packages.1.marked (marks_of notes) (rest_of stored) stored.properties.entries
+  pub marked : AreKept packages.1.marked (marks_of notes) (rest_of stored) stored.properties.items
 
 -- what was replaced can be put back
 abbrev pub IsReplaced : Replaced → Type 0

@@ -1,11 +1,10 @@
 -- What contracts see of the structs.
-use Rattle.std.specs.Prelude.{ℕ, List, [], ◌∷◌, map, Option, Some, None}
+use Rattle.std.specs.Prelude.{ℕ, suc, List, [], ◌∷◌, map, Option, Some, None}
 use Rattle.std.specs.Global.{Vec}
 use Rattle.std.specs.Borrow.{Bor}
-use Rattle.std.specs.Ordering.{nat_cmp}
-use Rattle.std.specs.Map.{lookup}
+use Rattle.std.specs.List.{slice_get}
 use Rattle.std.specs.Option.{option_map_or}
-use Rattle.std.specs.BTreeMap.{BTreeMap, is_at}
+use Rattle.std.specs.BTreeMap.{BTreeMap}
 use Rattle.std.specs.FinMap as finite
 use Rattle.lisp_object.specs.Object.{Object}
 use Rattle.lisp_object.specs.Datum.{object_of}
@@ -42,21 +41,24 @@ abbrev pub items_in : Option (Bor PropertyRow) → List NumberedProperty
 items_in None = []
 items_in (Some row) = row.now.items
 
--- the rows of properties, by the numbers of their symbols
+-- the rows of properties: that of the symbol of number n stands at n
 abbrev pub Rows : Type 0
-Rows = List (ℕ × PropertyRow)
+Rows = List PropertyRow
 
--- The property lists in the rows. An empty row is none.
+-- The property lists in the rows, of which the first is that of number n. An empty row is none.
+abbrev pub lists_from : ℕ → Rows → NumberedLists
+lists_from n [] = finite.empty
+lists_from n (row ∷ rows) = with_row (lists_from (suc n) rows) n (plist_of row)
+
 abbrev pub lists_in : Rows → NumberedLists
-lists_in [] = finite.empty
-lists_in (e ∷ es) = with_row (lists_in es) e.0 (plist_of e.1)
+lists_in rows = lists_from 0 rows
 
-abbrev pub lists_of : BTreeMap ℕ PropertyRow → NumberedLists
-lists_of rows = lists_in rows.entries
+abbrev pub lists_of : Vec PropertyRow → NumberedLists
+lists_of rows = lists_in rows.items
 
 -- the row of a number
 abbrev pub row_at : Rows → ℕ → Option PropertyRow
-row_at rows i = lookup (is_at (nat_cmp i)) rows
+row_at rows i = slice_get rows i
 
 -- how many properties there is memory for in the row of a number
 abbrev pub room_at : Rows → ℕ → ℕ

@@ -17,6 +17,9 @@ use crate::undo::undo_to;
 use std::alloc::AllocError;
 use std::mem;
 
+// So many notes keep their memory.
+const MOST_SPARE: usize = 64;
+
 // What was replaced has fewer marks in all.
 const MOST_EARLIER_MARKS: usize = 4_611_686_018_427_387_904;
 
@@ -43,6 +46,20 @@ fn forget_since(sizes: &mut ListSizes, marks: &[Vec<Note>], mark: usize)
     sizes.clear();
 }
 
+// Takes all marks away. The memory of the newest notes is kept, where they were few.
+fn let_go(marks: &mut Vec<Vec<Note>>, spare: &mut Vec<Note>)
+    ensures { marks.new.items ≡ [] }
+{
+    if let Some(newest) = marks.pop() {
+        let mut notes = newest;
+        if notes.capacity() <= MOST_SPARE {
+            notes.clear();
+            *spare = notes;
+        }
+    }
+    marks.clear();
+}
+
 impl World {
     /// Marks the state as it is, so that `back_to` can go back to it, and gives its index among the marks. Nothing is
     /// copied: from then on each call that writes notes what it overwrites.
@@ -57,7 +74,9 @@ impl World {
         self.marks.reserve(1)?;
         let mark = self.earlier_marks + self.marks.len();
         self.packages.mark()?;
-        self.marks.push_reserved(Vec::new(self.alloc));
+        let mut spare = mem::replace(&mut self.spare, Vec::new(self.alloc));
+        spare.clear();
+        self.marks.push_reserved(spare);
         Ok(mark)
     }
 
@@ -140,6 +159,6 @@ impl World {
         self.earlier_marks = 0;
         self.packages.settle();
         tidy(&mut self.stored, self.marks.as_slice());
-        self.marks.clear();
+        let_go(&mut self.marks, &mut self.spare);
     }
 }

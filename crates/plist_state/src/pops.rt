@@ -16,7 +16,6 @@ use crate::note::PropertyChange;
 use crate::row_index::{Indexes, place};
 use lisp_object::Datum;
 use property_rows::Row;
-use std::collections::BTreeMap;
 
 // Takes the first item off the list that is beside an indicator in a row, and that has more, into `space`.
 fn write_rest(
@@ -58,14 +57,14 @@ fn write_rest(
 /// Takes the first item off the list that is beside an indicator of the symbol of a number, and that has more. `space` is
 /// empty, and has room for what it has.
 pub(crate) fn pop(
-    rows: &mut BTreeMap<u32, Row>,
+    rows: &mut Vec<Row>,
     indexes: &Indexes,
     number: u32,
     indicator: u32,
     space: Vec<Datum>,
 ) -> PropertyChange
-    requires values { IsProperRows rows.old.entries }
-    requires indexed { AreIndexed rows.old.entries indexes.now.entries }
+    requires values { IsProperRows rows.old.items }
+    requires indexed { AreIndexed rows.old.items indexes.now.entries }
 
     // The list has more, and `space` has room for it.
     requires more { let list = unwrap_or (value_in (lists_of rows.old) number indicator) nil in
@@ -80,10 +79,10 @@ pub(crate) fn pop(
     ensures former { IsProperChange result }
 
     // What the next change rests on.
-    ensures wider { IsWider rows.old.entries rows.new.entries }
-    ensures indexed { AreIndexed rows.new.entries indexes.now.entries }
+    ensures wider { IsWider rows.old.items rows.new.items }
+    ensures indexed { AreIndexed rows.new.items indexes.now.entries }
 {
-    let Some(row) = rows.get_mut(&number) else {
+    let Some(row) = rows.get_mut(number as usize) else {
         unreachable!()
     };
     write_rest(row, indexes, number, indicator, space)

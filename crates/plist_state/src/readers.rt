@@ -26,12 +26,12 @@ fn names(alloc: Global, tables: &BTreeMap<Vec<u8>, Readtable>) -> Result<Items<B
 }
 
 // Whether the symbol of this home and name has properties.
-fn has_properties(packages: &Packages, rows: &BTreeMap<u32, Row>, home: &[u8], name: &[u8]) -> bool
+fn has_properties(packages: &Packages, rows: &Vec<Row>, home: &[u8], name: &[u8]) -> bool
     ensures { result
         ≡ is_some (list_of (numbered packages.now) (lists_of rows.now) (home.now, name.now)) }
 {
     match packages.number_of(home, name) {
-        Some(number) => rows::has_properties(rows, number),
+        Some(number) => rows::count(rows, number) > 0,
         None => false,
     }
 }
@@ -40,7 +40,7 @@ fn has_properties(packages: &Packages, rows: &BTreeMap<u32, Row>, home: &[u8], n
 fn push_owners<'a>(
     alloc: Global,
     packages: &'a Packages,
-    rows: &BTreeMap<u32, Row>,
+    rows: &Vec<Row>,
     home: &'a [u8],
     symbols: &mut Vec<(&'a [u8], &'a [u8])>,
 ) -> Result<(), AllocError>
@@ -62,7 +62,7 @@ fn push_owners<'a>(
 fn owners<'a>(
     alloc: Global,
     packages: &'a Packages,
-    rows: &BTreeMap<u32, Row>,
+    rows: &Vec<Row>,
 ) -> Result<Vec<(&'a [u8], &'a [u8])>, AllocError>
     ensures { IfOk result (λ symbols. borrowed_symbols symbols.items
         ≡ finite.keys (lists (numbered packages.now) (lists_of rows.now))) }

@@ -2,7 +2,6 @@
 ghost use Rattle.std.specs.Prelude.{◌≡◌, ◌≤◌, true, [], map, length, Some, None, is_some, unwrap_or, IfOk, OnOk, IfErr, OnErr, IfSome, MatchOption, All, IsSome};
 ghost use Rattle.std.specs.List.{position};
 ghost use Rattle.std.specs.Option.{option_map};
-ghost use Rattle.std.specs.FinMap as finite;
 ghost use Rattle.lisp_object.specs.Datum.{object_of, is_proper};
 ghost use Rattle.property_rows.specs.Rows.{room};
 ghost use Rattle.plist_state.specs.Properties.{value_by, with_value_by, without_value_by};
@@ -20,34 +19,23 @@ use crate::row_index::{Indexes, new_order, note_back, place};
 use lisp_object::Datum;
 use property_rows::{NumberedProperty, Row};
 use std::alloc::{AllocError, Global};
-use std::collections::BTreeMap;
 
 /// The properties of the symbol of a number.
-pub(crate) fn row<'a>(rows: &'a BTreeMap<u32, Row>, number: u32) -> Option<&'a Row>
-    requires { IsProperRows rows.now.entries }
+pub(crate) fn row<'a>(rows: &'a Vec<Row>, number: u32) -> Option<&'a Row>
+    requires { IsProperRows rows.now.items }
     ensures list { map numbered_property (items_in result) ≡ row_of (lists_of rows.now) number }
     ensures proper { All (λ p. is_proper p.value ≡ true) (items_in result) }
-    ensures indexed { (indexes : _) → AreIndexed rows.now.entries indexes
+    ensures indexed { (indexes : _) → AreIndexed rows.now.items indexes
         → IsIndexedIn indexes number (items_in result) }
 {
-    rows.get(&number)
-}
-
-/// Whether the symbol of a number has properties.
-pub(crate) fn has_properties(rows: &BTreeMap<u32, Row>, number: u32) -> bool
-    ensures { result ≡ finite.contains_key (lists_of rows.now) number }
-{
-    match rows.get(&number) {
-        Some(row) => !row.is_empty(),
-        None => false,
-    }
+    rows.get(number as usize)
 }
 
 /// How many properties the symbol of a number has.
-pub(crate) fn count(rows: &BTreeMap<u32, Row>, number: u32) -> usize
+pub(crate) fn count(rows: &Vec<Row>, number: u32) -> usize
     ensures { result ≡ length (row_of (lists_of rows.now) number) }
 {
-    match rows.get(&number) {
+    match rows.get(number as usize) {
         Some(row) => row.len(),
         None => 0,
     }
@@ -55,13 +43,13 @@ pub(crate) fn count(rows: &BTreeMap<u32, Row>, number: u32) -> usize
 
 /// The value beside an indicator in the property list of the symbol of a number.
 pub(crate) fn value<'a>(
-    rows: &'a BTreeMap<u32, Row>,
+    rows: &'a Vec<Row>,
     indexes: &Indexes,
     number: u32,
     indicator: u32,
 ) -> Option<&'a Datum>
-    requires values { IsProperRows rows.now.entries }
-    requires indexed { AreIndexed rows.now.entries indexes.now.entries }
+    requires values { IsProperRows rows.now.items }
+    requires indexed { AreIndexed rows.now.items indexes.now.entries }
     ensures value { option_map (λ d. object_of d.now) result
         ≡ value_in (lists_of rows.now) number indicator }
     ensures proper { IfSome result (λ d. is_proper d.now ≡ true) }
@@ -217,37 +205,38 @@ fn revert(row: &mut Row, indexes: &mut Indexes, number: u32, change: PropertyCha
 }
 
 // An empty row for a number that has none.
-fn add_row(alloc: Global, rows: &mut BTreeMap<u32, Row>, number: u32) -> Result<(), AllocError>
-    ensures there { OnOk result (IsSome (row_at rows.new.entries number)) }
+fn add_row(alloc: Global, rows: &mut Vec<Row>, number: u32) -> Result<(), AllocError>
+    ensures there { OnOk result (IsSome (row_at rows.new.items number)) }
     ensures same { lists_of rows.new ≡ lists_of rows.old }
-    ensures wider { IsWider rows.old.entries rows.new.entries }
-    ensures indexed { (indexes : _) → AreIndexed rows.old.entries indexes
-        → AreIndexed rows.new.entries indexes }
+    ensures wider { IsWider rows.old.items rows.new.items }
+    ensures indexed { (indexes : _) → AreIndexed rows.old.items indexes
+        → AreIndexed rows.new.items indexes }
 {
-    if rows.contains_key(&number) {
+    while rows.len() <= number as usize {
+        rows.push(Row::new(alloc))?;
+    }
+    if rows[number as usize].has_memory() {
         return Ok(());
     }
     // Most symbols have one property.
     let row = Row::with_capacity(alloc, 1)?;
-    match rows.insert(number, row) {
-        Ok(_) => Ok(()),
-        Err(_) => Err(AllocError),
-    }
+    rows[number as usize] = row;
+    Ok(())
 }
 
 // Sets the value beside an indicator in the row of a number, which is there.
 fn write_at(
     alloc: Global,
-    rows: &mut BTreeMap<u32, Row>,
+    rows: &mut Vec<Row>,
     indexes: &mut Indexes,
     number: u32,
     indicator: u32,
     value: Datum,
 ) -> Result<PropertyChange, AllocError>
     requires proper { is_proper value ≡ true }
-    requires row { IsSome (row_at rows.old.entries number) }
-    requires values { IsProperRows rows.old.entries }
-    requires indexed { AreIndexed rows.old.entries indexes.old.entries }
+    requires row { IsSome (row_at rows.old.items number) }
+    requires values { IsProperRows rows.old.items }
+    requires indexed { AreIndexed rows.old.items indexes.old.entries }
     ensures ok { IfOk result (λ _. lists_of rows.new
         ≡ with_value_in (lists_of rows.old) number indicator (object_of value)) }
     ensures back { IfOk result
@@ -255,11 +244,11 @@ fn write_at(
     ensures former { IfOk result IsProperChange }
 
     // What the next change rests on.
-    ensures wider { IsWider rows.old.entries rows.new.entries }
+    ensures wider { IsWider rows.old.items rows.new.items }
     ensures err { OnErr result (lists_of rows.new ≡ lists_of rows.old) }
-    ensures indexed { AreIndexed rows.new.entries indexes.new.entries }
+    ensures indexed { AreIndexed rows.new.items indexes.new.entries }
 {
-    let Some(row) = rows.get_mut(&number) else {
+    let Some(row) = rows.get_mut(number as usize) else {
         unreachable!()
     };
     match write(alloc, row, indexes, number, indicator, value) {
@@ -271,15 +260,15 @@ fn write_at(
 /// Sets the value beside an indicator of the symbol of a number, in its place or last.
 pub(crate) fn put(
     alloc: Global,
-    rows: &mut BTreeMap<u32, Row>,
+    rows: &mut Vec<Row>,
     indexes: &mut Indexes,
     number: u32,
     indicator: u32,
     value: Datum,
 ) -> Result<PropertyChange, AllocError>
     requires proper { is_proper value ≡ true }
-    requires values { IsProperRows rows.old.entries }
-    requires indexed { AreIndexed rows.old.entries indexes.old.entries }
+    requires values { IsProperRows rows.old.items }
+    requires indexed { AreIndexed rows.old.items indexes.old.entries }
     ensures ok { IfOk result (λ _. lists_of rows.new
         ≡ with_value_in (lists_of rows.old) number indicator (object_of value)) }
     ensures back { IfOk result
@@ -287,9 +276,9 @@ pub(crate) fn put(
     ensures former { IfOk result IsProperChange }
 
     // What the next change rests on.
-    ensures wider { IsWider rows.old.entries rows.new.entries }
+    ensures wider { IsWider rows.old.items rows.new.items }
     ensures err { OnErr result (lists_of rows.new ≡ lists_of rows.old) }
-    ensures indexed { AreIndexed rows.new.entries indexes.new.entries }
+    ensures indexed { AreIndexed rows.new.items indexes.new.entries }
 {
     add_row(alloc, rows, number)?;
     write_at(alloc, rows, indexes, number, indicator, value)
@@ -297,7 +286,7 @@ pub(crate) fn put(
 
 /// Puts an item before the list that is beside an indicator of the symbol of a number. `empty` is NIL.
 pub(crate) fn push(
-    rows: &mut BTreeMap<u32, Row>,
+    rows: &mut Vec<Row>,
     indexes: &Indexes,
     number: u32,
     indicator: u32,
@@ -306,8 +295,8 @@ pub(crate) fn push(
 ) -> Result<PropertyChange, AllocError>
     requires first { is_proper first ≡ true }
     requires empty { IsEmptyList empty }
-    requires values { IsProperRows rows.old.entries }
-    requires indexed { AreIndexed rows.old.entries indexes.now.entries }
+    requires values { IsProperRows rows.old.items }
+    requires indexed { AreIndexed rows.old.items indexes.now.entries }
     requires list { holds_pair (value_in (lists_of rows.old) number indicator) ≡ true }
     ensures ok { IfOk result (λ _. lists_of rows.new
         ≡ with_pushed_in (lists_of rows.old) number indicator (object_of first)) }
@@ -316,11 +305,11 @@ pub(crate) fn push(
     ensures former { IfOk result IsProperChange }
 
     // What the next change rests on.
-    ensures wider { IsWider rows.old.entries rows.new.entries }
+    ensures wider { IsWider rows.old.items rows.new.items }
     ensures err { OnErr result (lists_of rows.new ≡ lists_of rows.old) }
-    ensures indexed { AreIndexed rows.new.entries indexes.now.entries }
+    ensures indexed { AreIndexed rows.new.items indexes.now.entries }
 {
-    let Some(row) = rows.get_mut(&number) else {
+    let Some(row) = rows.get_mut(number as usize) else {
         unreachable!()
     };
     match write_first(row, indexes, number, indicator, first, empty) {
@@ -331,13 +320,13 @@ pub(crate) fn push(
 
 /// Takes the property of an indicator out of the list of the symbol of a number, if it is there.
 pub(crate) fn remove(
-    rows: &mut BTreeMap<u32, Row>,
+    rows: &mut Vec<Row>,
     indexes: &Indexes,
     number: u32,
     indicator: u32,
 ) -> Option<PropertyChange>
-    requires values { IsProperRows rows.old.entries }
-    requires indexed { AreIndexed rows.old.entries indexes.now.entries }
+    requires values { IsProperRows rows.old.items }
+    requires indexed { AreIndexed rows.old.items indexes.now.entries }
     ensures after { lists_of rows.new
         ≡ without_value_in (lists_of rows.old) number indicator }
     ensures had { is_some result
@@ -345,10 +334,10 @@ pub(crate) fn remove(
     ensures back { IfSome result
         (GoesBack (row_of (lists_of rows.old) number) (row_of (lists_of rows.new) number)) }
     ensures former { IfSome result IsProperChange }
-    ensures wider { IsWider rows.old.entries rows.new.entries }
-    ensures indexed { AreIndexed rows.new.entries indexes.now.entries }
+    ensures wider { IsWider rows.old.items rows.new.items }
+    ensures indexed { AreIndexed rows.new.items indexes.now.entries }
 {
-    match rows.get_mut(&number) {
+    match rows.get_mut(number as usize) {
         Some(row) => cut(row, indexes, number, indicator),
         None => None,
     }
@@ -356,35 +345,35 @@ pub(crate) fn remove(
 
 /// Takes a change of the property list of the symbol of a number back. There is memory for what it was.
 pub(crate) fn take_back(
-    rows: &mut BTreeMap<u32, Row>,
+    rows: &mut Vec<Row>,
     indexes: &mut Indexes,
     number: u32,
     change: PropertyChange,
 )
     requires former { IsProperChange change }
-    requires values { IsProperRows rows.old.entries }
-    requires indexed { AreIndexed rows.old.entries indexes.old.entries }
+    requires values { IsProperRows rows.old.items }
+    requires indexed { AreIndexed rows.old.items indexes.old.entries }
     requires room { length (list_before change (row_of (lists_of rows.old) number))
-        ≤ room_at rows.old.entries number }
+        ≤ room_at rows.old.items number }
     ensures after { lists_of rows.new
         ≡ with_row (lists_of rows.old) number (list_before change (row_of (lists_of rows.old) number)) }
-    ensures wider { IsWider rows.old.entries rows.new.entries }
-    ensures indexed { AreIndexed rows.new.entries indexes.new.entries }
+    ensures wider { IsWider rows.old.items rows.new.items }
+    ensures indexed { AreIndexed rows.new.items indexes.new.entries }
 {
-    if let Some(row) = rows.get_mut(&number) {
+    if let Some(row) = rows.get_mut(number as usize) {
         revert(row, indexes, number, change);
     }
 }
 
 /// Moves the properties of the symbol of a number together, if many were taken out between them. What was taken out cannot be
 /// taken back in its place then.
-pub(crate) fn tidy(rows: &mut BTreeMap<u32, Row>, number: u32)
+pub(crate) fn tidy(rows: &mut Vec<Row>, number: u32)
     ensures same { lists_of rows.new ≡ lists_of rows.old }
-    ensures wider { IsWider rows.old.entries rows.new.entries }
-    ensures indexed { (indexes : _) → AreIndexed rows.old.entries indexes
-        → AreIndexed rows.new.entries indexes }
+    ensures wider { IsWider rows.old.items rows.new.items }
+    ensures indexed { (indexes : _) → AreIndexed rows.old.items indexes
+        → AreIndexed rows.new.items indexes }
 {
-    if let Some(row) = rows.get_mut(&number) {
+    if let Some(row) = rows.get_mut(number as usize) {
         row.tidy();
     }
 }

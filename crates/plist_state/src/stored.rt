@@ -33,7 +33,7 @@ use std::collections::BTreeMap;
 /// A row that was emptied stays, so that to go back takes no memory for a row: the symbol has no property list then.
 #[derive(Drop)]
 pub(crate) struct Stored {
-    pub(crate) properties: BTreeMap<u32, Row>,
+    pub(crate) properties: Vec<Row>,
     pub(crate) indexes: Indexes,
     pub(crate) readtables: BTreeMap<Vec<u8>, Readtable>,
     pub(crate) current_package: Vec<u8>,
@@ -59,12 +59,12 @@ fn first_readtables(alloc: Global) -> Result<BTreeMap<Vec<u8>, Readtable>, Alloc
 /// What the first world has besides its packages.
 pub(crate) fn first_stored(alloc: Global) -> Result<Stored, AllocError>
     ensures first { IfOk result (λ stored. rest_of stored ≡ first_numbered) }
-    ensures values { IfOk result (λ stored. IsProperRows stored.properties.entries) }
-    ensures indexed { IfOk result (λ stored. AreIndexed stored.properties.entries stored.indexes.entries) }
+    ensures values { IfOk result (λ stored. IsProperRows stored.properties.items) }
+    ensures indexed { IfOk result (λ stored. AreIndexed stored.properties.items stored.indexes.entries) }
 {
     let readtables = first_readtables(alloc)?;
     Ok(Stored {
-        properties: BTreeMap::new(alloc),
+        properties: Vec::new(alloc),
         indexes: BTreeMap::new(alloc),
         readtables,
         current_package: Vec::from_slice(alloc, COMMON_LISP_USER)?,
@@ -74,12 +74,7 @@ pub(crate) fn first_stored(alloc: Global) -> Result<Stored, AllocError>
 }
 
 // Whether a value that was set need not be noted: the one that it overwrote is overwritten as earlier changes are undone.
-fn needs_no_note(
-    rows: &BTreeMap<u32, Row>,
-    marks: &[Vec<Note>],
-    number: u32,
-    change: &PropertyChange,
-) -> bool
+fn needs_no_note(rows: &Vec<Row>, marks: &[Vec<Note>], number: u32, change: &PropertyChange) -> bool
     ensures { result ≡ true → (t u : NumberedRest) → u.properties ≡ lists_of rows.now
         → undone (Property number change.now) u ≡ t → Continues (marks_of marks.now) t (marks_of marks.now) u }
 {
@@ -110,15 +105,15 @@ pub(crate) fn put(
     value: Datum,
 ) -> Result<(), AllocError>
     requires proper { is_proper value ≡ true }
-    requires values { IsProperRows stored.old.properties.entries }
-    requires indexed { AreIndexed stored.old.properties.entries stored.old.indexes.entries }
+    requires values { IsProperRows stored.old.properties.items }
+    requires indexed { AreIndexed stored.old.properties.items stored.old.indexes.entries }
     ensures ok { let r = rest_of stored.old in
         OnOk result (rest_of stored.new ≡ record r {
           properties = with_value_in r.properties number indicator (object_of value);
         }) }
     ensures err { OnErr result (rest_of stored.new ≡ rest_of stored.old) }
-    ensures wider { IsWider stored.old.properties.entries stored.new.properties.entries }
-    ensures indexed { AreIndexed stored.new.properties.entries stored.new.indexes.entries }
+    ensures wider { IsWider stored.old.properties.items stored.new.properties.items }
+    ensures indexed { AreIndexed stored.new.properties.items stored.new.indexes.entries }
     ensures marked { Continues (marks_of marks.old.items) (rest_of stored.old)
         (marks_of marks.new.items) (rest_of stored.new) }
 {
@@ -150,8 +145,8 @@ pub(crate) fn push(
     first: Datum,
 ) -> Result<(), AllocError>
     requires first { is_proper first ≡ true }
-    requires values { IsProperRows stored.old.properties.entries }
-    requires indexed { AreIndexed stored.old.properties.entries stored.old.indexes.entries }
+    requires values { IsProperRows stored.old.properties.items }
+    requires indexed { AreIndexed stored.old.properties.items stored.old.indexes.entries }
     requires list { holds_pair (value_in (rest_of stored.old).properties number indicator) ≡ true }
 
     // The property has the item first; or memory ran out, and it is as it was.
@@ -162,8 +157,8 @@ pub(crate) fn push(
     ensures err { OnErr result (rest_of stored.new ≡ rest_of stored.old) }
 
     // What the next change rests on.
-    ensures wider { IsWider stored.old.properties.entries stored.new.properties.entries }
-    ensures indexed { AreIndexed stored.new.properties.entries stored.new.indexes.entries }
+    ensures wider { IsWider stored.old.properties.items stored.new.properties.items }
+    ensures indexed { AreIndexed stored.new.properties.items stored.new.indexes.entries }
     ensures marked { Continues (marks_of marks.old.items) (rest_of stored.old)
         (marks_of marks.new.items) (rest_of stored.new) }
 {
@@ -192,8 +187,8 @@ fn shorten(
     indicator: u32,
     count: usize,
 ) -> Result<(), AllocError>
-    requires values { IsProperRows stored.old.properties.entries }
-    requires indexed { AreIndexed stored.old.properties.entries stored.old.indexes.entries }
+    requires values { IsProperRows stored.old.properties.items }
+    requires indexed { AreIndexed stored.old.properties.items stored.old.indexes.entries }
     requires count { let old = value_in (rest_of stored.old).properties number indicator in
         element_count (unwrap_or old nil) ≡ count }
     requires more { 1 < count }
@@ -206,8 +201,8 @@ fn shorten(
     ensures err { OnErr result (rest_of stored.new ≡ rest_of stored.old) }
 
     // What the next change rests on.
-    ensures wider { IsWider stored.old.properties.entries stored.new.properties.entries }
-    ensures indexed { AreIndexed stored.new.properties.entries stored.new.indexes.entries }
+    ensures wider { IsWider stored.old.properties.items stored.new.properties.items }
+    ensures indexed { AreIndexed stored.new.properties.items stored.new.indexes.entries }
     ensures marked { Continues (marks_of marks.old.items) (rest_of stored.old)
         (marks_of marks.new.items) (rest_of stored.new) }
 {
@@ -232,8 +227,8 @@ pub(crate) fn pop(
     number: u32,
     indicator: u32,
 ) -> Result<(), AllocError>
-    requires values { IsProperRows stored.old.properties.entries }
-    requires indexed { AreIndexed stored.old.properties.entries stored.old.indexes.entries }
+    requires values { IsProperRows stored.old.properties.items }
+    requires indexed { AreIndexed stored.old.properties.items stored.old.indexes.entries }
     requires list { holds_pair (value_in (rest_of stored.old).properties number indicator) ≡ true }
 
     // The property has the rest; or memory ran out, and it is as it was.
@@ -244,8 +239,8 @@ pub(crate) fn pop(
     ensures err { OnErr result (rest_of stored.new ≡ rest_of stored.old) }
 
     // What the next change rests on.
-    ensures wider { IsWider stored.old.properties.entries stored.new.properties.entries }
-    ensures indexed { AreIndexed stored.new.properties.entries stored.new.indexes.entries }
+    ensures wider { IsWider stored.old.properties.items stored.new.properties.items }
+    ensures indexed { AreIndexed stored.new.properties.items stored.new.indexes.entries }
     ensures marked { Continues (marks_of marks.old.items) (rest_of stored.old)
         (marks_of marks.new.items) (rest_of stored.new) }
 {
@@ -262,10 +257,10 @@ pub(crate) fn pop(
 
 // Moves the properties of the symbol of a number together, if there is no mark: then nothing that was taken out comes back.
 fn tidy_unmarked(stored: &mut Stored, marks: &[Vec<Note>], number: u32)
-    requires { AreIndexed stored.old.properties.entries stored.old.indexes.entries }
+    requires { AreIndexed stored.old.properties.items stored.old.indexes.entries }
     ensures same { rest_of stored.new ≡ rest_of stored.old }
-    ensures wider { IsWider stored.old.properties.entries stored.new.properties.entries }
-    ensures indexed { AreIndexed stored.new.properties.entries stored.new.indexes.entries }
+    ensures wider { IsWider stored.old.properties.items stored.new.properties.items }
+    ensures indexed { AreIndexed stored.new.properties.items stored.new.indexes.entries }
 {
     if marks.is_empty() {
         rows::tidy(&mut stored.properties, number);
@@ -280,8 +275,8 @@ pub(crate) fn remove(
     number: u32,
     indicator: u32,
 ) -> Result<bool, AllocError>
-    requires values { IsProperRows stored.old.properties.entries }
-    requires indexed { AreIndexed stored.old.properties.entries stored.old.indexes.entries }
+    requires values { IsProperRows stored.old.properties.items }
+    requires indexed { AreIndexed stored.old.properties.items stored.old.indexes.entries }
 
     // The property is gone, and whether it was there; or memory ran out, and it is as it was.
     ensures ok { let r = rest_of stored.old in
@@ -295,8 +290,8 @@ pub(crate) fn remove(
     ensures err { OnErr result (rest_of stored.new ≡ rest_of stored.old) }
 
     // What the next change rests on.
-    ensures wider { IsWider stored.old.properties.entries stored.new.properties.entries }
-    ensures indexed { AreIndexed stored.new.properties.entries stored.new.indexes.entries }
+    ensures wider { IsWider stored.old.properties.items stored.new.properties.items }
+    ensures indexed { AreIndexed stored.new.properties.items stored.new.indexes.entries }
     ensures marked { Continues (marks_of marks.old.items) (rest_of stored.old)
         (marks_of marks.new.items) (rest_of stored.new) }
 {
@@ -317,10 +312,10 @@ pub(crate) fn remove(
 
 // Moves what is left of the property lists together from which these notes took properties out.
 fn tidy_noted(stored: &mut Stored, notes: &[Note])
-    requires { AreIndexed stored.old.properties.entries stored.old.indexes.entries }
+    requires { AreIndexed stored.old.properties.items stored.old.indexes.entries }
     ensures same { rest_of stored.new ≡ rest_of stored.old }
-    ensures wider { IsWider stored.old.properties.entries stored.new.properties.entries }
-    ensures indexed { AreIndexed stored.new.properties.entries stored.new.indexes.entries }
+    ensures wider { IsWider stored.old.properties.items stored.new.properties.items }
+    ensures indexed { AreIndexed stored.new.properties.items stored.new.indexes.entries }
 {
     for note in notes {
         if let Some(number) = note.shortens() {
@@ -331,10 +326,10 @@ fn tidy_noted(stored: &mut Stored, notes: &[Note])
 
 /// Moves what is left of the property lists together from which properties were taken out since these marks.
 pub(crate) fn tidy(stored: &mut Stored, marks: &[Vec<Note>])
-    requires { AreIndexed stored.old.properties.entries stored.old.indexes.entries }
+    requires { AreIndexed stored.old.properties.items stored.old.indexes.entries }
     ensures same { rest_of stored.new ≡ rest_of stored.old }
-    ensures wider { IsWider stored.old.properties.entries stored.new.properties.entries }
-    ensures indexed { AreIndexed stored.new.properties.entries stored.new.indexes.entries }
+    ensures wider { IsWider stored.old.properties.items stored.new.properties.items }
+    ensures indexed { AreIndexed stored.new.properties.items stored.new.indexes.entries }
 {
     for notes in marks {
         tidy_noted(stored, notes.as_slice());

@@ -14,12 +14,12 @@ use crate::{rows, tables};
 
 fn undo(stored: &mut Stored, note: Note)
     requires note { IsNoted note }
-    requires values { IsProperRows stored.old.properties.entries }
-    requires indexed { AreIndexed stored.old.properties.entries stored.old.indexes.entries }
-    requires room { Fits stored.old.properties.entries (undone note (rest_of stored.old)) }
+    requires values { IsProperRows stored.old.properties.items }
+    requires indexed { AreIndexed stored.old.properties.items stored.old.indexes.entries }
+    requires room { Fits stored.old.properties.items (undone note (rest_of stored.old)) }
     ensures after { rest_of stored.new ≡ undone note (rest_of stored.old) }
-    ensures wider { IsWider stored.old.properties.entries stored.new.properties.entries }
-    ensures indexed { AreIndexed stored.new.properties.entries stored.new.indexes.entries }
+    ensures wider { IsWider stored.old.properties.items stored.new.properties.items }
+    ensures indexed { AreIndexed stored.new.properties.items stored.new.indexes.entries }
 {
     match note {
         Note::Property { number, change } => {
@@ -36,12 +36,12 @@ fn undo(stored: &mut Stored, note: Note)
 }
 
 fn undo_all(stored: &mut Stored, notes: Vec<Note>)
-    requires leads { LeadsBack notes.items (rest_of stored.old) stored.old.properties.entries }
-    requires values { IsProperRows stored.old.properties.entries }
-    requires indexed { AreIndexed stored.old.properties.entries stored.old.indexes.entries }
+    requires leads { LeadsBack notes.items (rest_of stored.old) stored.old.properties.items }
+    requires values { IsProperRows stored.old.properties.items }
+    requires indexed { AreIndexed stored.old.properties.items stored.old.indexes.entries }
     ensures after { rest_of stored.new ≡ all_undone notes.items (rest_of stored.old) }
-    ensures wider { IsWider stored.old.properties.entries stored.new.properties.entries }
-    ensures indexed { AreIndexed stored.new.properties.entries stored.new.indexes.entries }
+    ensures wider { IsWider stored.old.properties.items stored.new.properties.items }
+    ensures indexed { AreIndexed stored.new.properties.items stored.new.indexes.entries }
 {
     let mut notes = notes;
     while let Some(note) = notes.pop() {
@@ -53,9 +53,9 @@ fn undo_all(stored: &mut Stored, notes: Vec<Note>)
 pub(crate) fn undo_to(stored: &mut Stored, marks: &mut Vec<Vec<Note>>, mark: usize)
     requires mark { mark < length marks.old.items }
     requires journal { IsJournal (marks_of marks.old.items) (rest_of stored.old)
-        stored.old.properties.entries }
-    requires values { IsProperRows stored.old.properties.entries }
-    requires indexed { AreIndexed stored.old.properties.entries stored.old.indexes.entries }
+        stored.old.properties.items }
+    requires values { IsProperRows stored.old.properties.items }
+    requires indexed { AreIndexed stored.old.properties.items stored.old.indexes.entries }
 
     // The state is that of the mark, and the marks before it stay.
     ensures past { rests_at (marks_of marks.new.items) (rest_of stored.new)
@@ -66,9 +66,9 @@ pub(crate) fn undo_to(stored: &mut Stored, marks: &mut Vec<Vec<Note>>, mark: usi
 
     // What the next change rests on.
     ensures journal { IsJournal (marks_of marks.new.items) (rest_of stored.new)
-        stored.new.properties.entries }
-    ensures wider { IsWider stored.old.properties.entries stored.new.properties.entries }
-    ensures indexed { AreIndexed stored.new.properties.entries stored.new.indexes.entries }
+        stored.new.properties.items }
+    ensures wider { IsWider stored.old.properties.items stored.new.properties.items }
+    ensures indexed { AreIndexed stored.new.properties.items stored.new.indexes.entries }
 {
     loop {
         let Some(newest) = marks.pop() else {

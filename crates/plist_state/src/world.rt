@@ -35,6 +35,8 @@ pub struct World {
     // What was replaced while there are marks that lead back to it, the first first, and how many marks that are.
     pub(crate) earlier: Vec<Replaced>,
     pub(crate) earlier_marks: usize,
+    // Memory of notes that were let go, for those of the next mark.
+    pub(crate) spare: Vec<Note>,
 }
 
 // A call, so that a crate above does not see what is kept at each exit of a function that owns a world.
@@ -48,6 +50,7 @@ impl Drop for World {
             sizes: _,
             earlier: _,
             earlier_marks: _,
+            spare: _,
         } = self;
     }
 }
@@ -90,6 +93,7 @@ impl World {
             sizes: BTreeMap::new(alloc),
             earlier: Vec::new(alloc),
             earlier_marks: 0,
+            spare: Vec::new(alloc),
         })
     }
 
@@ -107,6 +111,7 @@ impl World {
             alloc: _,
             earlier: _,
             earlier_marks: _,
+            spare: _,
         } = self;
         Replaced {
             packages,

@@ -17,7 +17,7 @@ use std::alloc::{AllocError, Global};
 use std::test::Fail;
 use user_macros::{MacroFunctions, Macros, NoFunctions};
 
-/// A world without the symbols that it does not need, where these are held in any case; and how many went.
+/// A world without the symbols that it does not need, of which those in `held` are none; and how many went.
 ///
 /// - `sound`, `again`: it is a world, and nothing more would go from it.
 /// - `count`, `none`: so many symbols are gone, and if there were none, it is the same world.

@@ -1,6 +1,6 @@
 //! Rows of properties: lists from which a property is taken out, and to which it comes back, without those after it being
 //! moved. What is taken out leaves its slot, to which it may come back; slots that are gone are skipped, until the row is packed.
-ghost use Rattle.std.specs.Prelude.{◌≡◌, ◌+◌, ◌-◌, ◌<◌, ◌≤◌, ◌==◌, [], ◌∷◌, ◌++◌, length, take, is_ok, if◌then◌else◌, IfOk, IsOk, slice_index_or, slice_set};
+ghost use Rattle.std.specs.Prelude.{◌≡◌, ◌+◌, ◌-◌, ◌<◌, ◌≤◌, [], false, ◌∷◌, ◌++◌, length, take, is_ok, if◌then◌else◌, IfOk, IsOk, slice_index_or, slice_set};
 ghost use Rattle.std.specs.List.{insert, remove, position};
 ghost use Rattle.property_rows.specs.Slots.{no_property, with_value, has};
 ghost use Rattle.property_rows.specs.Rows.{room};
@@ -40,6 +40,22 @@ impl Model for Row {
 }
 
 impl Row {
+    /// An empty one.
+    pub fn new(alloc: Global) -> Row
+        ensures { result.items ≡ [] }
+    {
+        Row {
+            slots: Vec::new(alloc),
+        }
+    }
+
+    /// Whether there is memory for a property.
+    pub fn has_memory(&self) -> bool
+        ensures { result ≡ false → room self.now ≡ 0 }
+    {
+        self.slots.capacity() > 0
+    }
+
     /// An empty one, with memory for so many properties.
     pub fn with_capacity(alloc: Global, count: usize) -> Result<Row, AllocError>
         ensures { IfOk result (λ row. row.items ≡ []) }
@@ -54,13 +70,6 @@ impl Row {
         ensures { result ≡ length self.now.items }
     {
         self.slots.len() - gone(self.slots.as_slice())
-    }
-
-    /// Whether there are none.
-    pub fn is_empty(&self) -> bool
-        ensures { result ≡ (length self.now.items == 0) }
-    {
-        self.len() == 0
     }
 
     /// The indicator at an index.

@@ -75,7 +75,10 @@ fn first_lines<T: NameTest>(alloc: Global, world: &World, test: &T) -> Result<Ve
 }
 
 /// The text of the world with those of the names made in its packages that a test keeps: `write`, for a world that has these
-/// names alone. What is external, imported or used is written whatever the test says.
+/// names alone. What is external, imported or used is written whatever the test says, and so are the property lists.
+///
+/// So the text is that of a world only where the test keeps each name that is written elsewhere: of a symbol that is external or imported,
+/// that has properties, is an indicator or stands in a value. Any other text is refused where it is read.
 ///
 /// # Errors
 /// Out of memory.

@@ -4,6 +4,7 @@ use Rattle.std.specs.FinMap as finite
 use Rattle.package_table.specs.Numbers.{numbered}
 use Rattle.plist_state.specs.Lists.{named}
 use Rattle.plist_state.specs.Shown.{lists_of}
+use Rattle.plist_state.proofs.ListRows.{has_counted}
 use Rattle.plist_state.proofs.Named.{some_named}
 use Rattle.plist_state.proofs.readers.has_properties.Goals as goal
 
@@ -11,7 +12,7 @@ pub returns-in-Some : goal.returns-in-Some
 returns-in-Some c =
     let s = numbered c.args.packages.now in
     let m = lists_of c.args.rows.now in
-    c.has_properties.ensures ∙ sym (some_named s (finite.get m c.in-Some.number))
+    has_counted c.args.rows.now.items c.in-Some.number _ c.count.ensures ∙ sym (some_named s (finite.get m c.in-Some.number))
     ∙ ap (λ o. is_some (option_map (named s) (option_and_then (finite.get m) o))) c.in-Some.ensures
 
 pub returns-in-None : goal.returns-in-None

@@ -1,45 +1,43 @@
-use Rattle.std.proofs.Common.{◌≡◌, [], cond, None, Some, is_some, refl, sym, ap, subst, ◌∙◌}
-use Rattle.std.specs.Option.{option_map_or}
-use Rattle.plist_state.specs.Shown.{plist_of, row_at}
-use Rattle.plist_state.proofs.ListRows.{number_tied, put_insert, grown, written_same, IsWritten, row-lists_in, no_row}
-use Rattle.plist_state.specs.Indexed.{IsIndexedIn}
-use Rattle.plist_state.proofs.Indexing.{IsIndexed-nil}
-use Rattle.plist_state.proofs.Placing.{are_indexed, still_indexed}
+use Rattle.std.proofs.Common.{◌<◌, length, arith}
+use Rattle.plist_state.proofs.EmptyRows.{within, alike_same, alike_both, alike_push, alike_still, alike_remade, within_remade}
 use Rattle.plist_state.proofs.rows.add_row.Goals as goal
 
-pub returns-then-contains_key-clause-there : goal.returns-then-contains_key-clause-there
-returns-then-contains_key-clause-there c = sym c.contains_key.ensures ∙ c.if-contains_key.true
+pub loop-rows-init : goal.loop-rows-init
+loop-rows-init c = alike_same c.args.rows.now.items
 
-pub returns-in-Ok-clause-there : goal.returns-in-Ok-clause-there
-returns-in-Ok-clause-there c =
-    let x = c.args.number in
-    let rows = c.args.rows.now.entries in
-    let there : row_at c.insert.new.self.entries x ≡ Some c.in_ok-row.row =
-    put_insert rows c.insert.new.self.entries x c.in_ok-row.row c.in-Ok.ensures.entries x ∙ ap (λ b. cond b (Some c.in_ok-row.row) (row_at rows x)) (number_tied x) in
-    ap is_some there
+pub loop-rows-preserved : goal.loop-rows-preserved
+loop-rows-preserved c =
+    alike_both c.args.rows.now.items c.loop-rows.rows.items c.push.new.self.items c.loop-rows.invariant
+    (alike_push c.loop-rows.rows.items c.push.new.self.items c.new.result c.in_ok-push.ensures.items c.new.ensures)
 
-pub returns-in-Ok-clause-same : goal.returns-in-Ok-clause-same
-returns-in-Ok-clause-same c =
-    let rows = c.args.rows.now.entries in
-    let x = c.args.number in
-    let none : row_at rows x ≡ None = no_row rows x c.contains_key.result c.contains_key.ensures c.if-contains_key.false in
-    let w : IsWritten rows c.insert.new.self.entries x [] = grown rows _ x c.in_ok-row.row c.in-Ok.ensures.entries none c.in_ok-row.ensures in
-    written_same rows _ x [] w (sym (row-lists_in rows x ∙ ap (λ o. option_map_or plist_of o []) none))
+pub returns-in_err-push-clause-same : goal.returns-in_err-push-clause-same
+returns-in_err-push-clause-same c = (alike_still c.args.rows.now.items c.loop-rows.rows.items c.push.new.self.items c.loop-rows.invariant c.in_err-push.ensures.items).lists
 
-pub returns-in-Ok-clause-wider : goal.returns-in-Ok-clause-wider
-returns-in-Ok-clause-wider c =
-    let rows = c.args.rows.now.entries in
-    let x = c.args.number in
-    let none : row_at rows x ≡ None = no_row rows x c.contains_key.result c.contains_key.ensures c.if-contains_key.false in
-    (grown rows _ x c.in_ok-row.row c.in-Ok.ensures.entries none c.in_ok-row.ensures).wider
+pub returns-in_err-push-clause-wider : goal.returns-in_err-push-clause-wider
+returns-in_err-push-clause-wider c = (alike_still c.args.rows.now.items c.loop-rows.rows.items c.push.new.self.items c.loop-rows.invariant c.in_err-push.ensures.items).wider
 
-pub returns-in-Ok-clause-indexed : goal.returns-in-Ok-clause-indexed
-returns-in-Ok-clause-indexed c = λ indexes all.
-    let rows = c.args.rows.now.entries in
-    let x = c.args.number in
-    let row = c.in_ok-row.row in
-    are_indexed rows c.insert.new.self.entries indexes indexes x row all (put_insert rows c.insert.new.self.entries x row c.in-Ok.ensures.entries)
-    (subst (IsIndexedIn indexes x) (sym c.in_ok-row.ensures) (λ i is. IsIndexed-nil i.entries)) (λ q other. refl)
+pub returns-in_err-push-clause-indexed : goal.returns-in_err-push-clause-indexed
+returns-in_err-push-clause-indexed c = (alike_still c.args.rows.now.items c.loop-rows.rows.items c.push.new.self.items c.loop-rows.invariant c.in_err-push.ensures.items).indexed
+
+pub returns-then-has_memory-clause-there : goal.returns-then-has_memory-clause-there
+returns-then-has_memory-clause-there c =
+    within c.loop-rows.rows.items c.args.number (omega (arith, c.loop-rows-test.false, c.len.ensures, c.loop-rows.rows.ok.0))
+
+pub returns-clause-there : goal.returns-clause-there
+returns-clause-there c =
+    within_remade c.loop-rows.rows.items c.args.number c.in_ok-row.row (omega (arith, c.loop-rows-test.false, c.len.ensures, c.loop-rows.rows.ok.0))
+
+pub returns-clause-same : goal.returns-clause-same
+returns-clause-same c =
+    let less : c.args.number < length c.loop-rows.rows.items = omega (arith, c.loop-rows-test.false, c.len.ensures, c.loop-rows.rows.ok.0) in
+    (alike_remade c.args.rows.now.items c.loop-rows.rows.items c.args.number c.index.result.now c.in_ok-row.row c.loop-rows.invariant less c.index.ensures (c.has_memory.ensures c.if-has_memory.false) c.in_ok-row.ensures).lists
+
+pub returns-clause-wider : goal.returns-clause-wider
+returns-clause-wider c =
+    let less : c.args.number < length c.loop-rows.rows.items = omega (arith, c.loop-rows-test.false, c.len.ensures, c.loop-rows.rows.ok.0) in
+    (alike_remade c.args.rows.now.items c.loop-rows.rows.items c.args.number c.index.result.now c.in_ok-row.row c.loop-rows.invariant less c.index.ensures (c.has_memory.ensures c.if-has_memory.false) c.in_ok-row.ensures).wider
 
 pub returns-clause-indexed : goal.returns-clause-indexed
-returns-clause-indexed c = λ indexes all. still_indexed c.args.rows.now.entries c.insert.new.self.entries indexes c.in-Err.ensures.err all
+returns-clause-indexed c =
+    let less : c.args.number < length c.loop-rows.rows.items = omega (arith, c.loop-rows-test.false, c.len.ensures, c.loop-rows.rows.ok.0) in
+    (alike_remade c.args.rows.now.items c.loop-rows.rows.items c.args.number c.index.result.now c.in_ok-row.row c.loop-rows.invariant less c.index.ensures (c.has_memory.ensures c.if-has_memory.false) c.in_ok-row.ensures).indexed

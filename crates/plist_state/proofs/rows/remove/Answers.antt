@@ -1,61 +1,56 @@
-use Rattle.std.proofs.Common.{◌≡◌, [], is_some, sym, ap, subst, ◌∙◌, refl, ℕ}
+use Rattle.std.proofs.Common.{◌≡◌, [], is_some, sym, ap, subst, ◌∙◌, refl, Some}
 use Rattle.std.specs.Prelude.{IfSome}
-use Rattle.property_rows.specs.Rows.{PropertyRow}
 use Rattle.plist_state.specs.Properties.{value_by, without_value_by}
 use Rattle.plist_state.specs.Lists.{NumberedPlist, same_number, row_of}
-use Rattle.plist_state.specs.Shown.{lists_of, lists_in}
+use Rattle.plist_state.specs.Shown.{lists_in}
 use Rattle.plist_state.specs.Undoing.{list_before}
-use Rattle.plist_state.proofs.ListRows.{written, lists_made, list_now, row_shown, none_shown, proper_shown, with_row_same, some_in}
-use Rattle.std.specs.BTreeMap.{BTreeMap}
-use Rattle.plist_state.proofs.ListRows.{put_set}
-use Rattle.plist_state.proofs.Placing.{are_indexed, still_indexed}
+use Rattle.plist_state.proofs.ListRows.{lent_mut, lent_shown, none_lent, put_lent, written, lists_made, list_now, proper_shown, with_row_same, some_in}
+use Rattle.plist_state.proofs.Placing.{are_indexed}
 use Rattle.plist_state.proofs.rows.remove.Goals as goal
 
 pub returns-in-Some-clause-after : goal.returns-in-Some-clause-after
 returns-in-Some-clause-after c =
-    lists_made c.args.rows.now.entries _ c.args.number c.in-Some.row.now c.cut.new.row c.in-Some.ensures.value (c.get_mut.follows.holds c.cut.new.row).0 c.cut.ensures.room c.cut.ensures.values
+    lists_made c.args.rows.now.items c.args.number c.in-Some.row c.cut.new.row c.in-Some.ensures.item c.cut.ensures.room c.cut.ensures.values
     (λ ps. without_value_by same_number ps c.args.indicator) c.cut.ensures.after
 
 pub returns-in-Some-clause-had : goal.returns-in-Some-clause-had
 returns-in-Some-clause-had c =
     c.cut.ensures.had
-    ∙ ap (λ ps. is_some (value_by same_number ps c.args.indicator)) (sym (row_shown c.args.rows.now.entries c.args.number c.in-Some.row.now c.in-Some.ensures.value))
+    ∙ ap (λ ps. is_some (value_by same_number ps c.args.indicator)) (sym (lent_shown c.args.rows.now.items c.args.number c.in-Some.row c.in-Some.ensures.item))
 
 pub returns-in-Some-clause-back : goal.returns-in-Some-clause-back
 returns-in-Some-clause-back c =
-    let new = list_now c.args.rows.now.entries _ c.args.number c.in-Some.row.now c.cut.new.row c.in-Some.ensures.value (c.get_mut.follows.holds c.cut.new.row).0 c.cut.ensures.room c.cut.ensures.values in
-    let old = row_shown c.args.rows.now.entries c.args.number c.in-Some.row.now c.in-Some.ensures.value in
+    let new = list_now c.args.rows.now.items c.args.number c.in-Some.row c.cut.new.row c.in-Some.ensures.item c.cut.ensures.room c.cut.ensures.values in
+    let old = lent_shown c.args.rows.now.items c.args.number c.in-Some.row c.in-Some.ensures.item in
     subst (λ (p : NumberedPlist × NumberedPlist). IfSome c.cut.result (λ change. list_before change p.0 ≡ p.1)) (λ i. (sym new i, sym old i)) c.cut.ensures.back
 
 pub returns-in-Some-clause-former : goal.returns-in-Some-clause-former
 returns-in-Some-clause-former c =
-    c.cut.ensures.former (proper_shown c.args.rows.now.entries c.args.number c.in-Some.row.now c.in-Some.ensures.value c.requires.values)
+    c.cut.ensures.former (proper_shown c.args.rows.now.items c.args.number c.in-Some.row.now (lent_mut c.args.rows.now.items c.args.number (Some c.in-Some.row) c.in-Some.ensures.item) c.requires.values)
 
 pub returns-in-Some-clause-wider : goal.returns-in-Some-clause-wider
 returns-in-Some-clause-wider c =
-    (written c.args.rows.now.entries _ c.args.number c.in-Some.row.now c.cut.new.row c.in-Some.ensures.value (c.get_mut.follows.holds c.cut.new.row).0 c.cut.ensures.room c.cut.ensures.values).wider
+    (written c.args.rows.now.items c.args.number c.in-Some.row c.cut.new.row c.in-Some.ensures.item c.cut.ensures.room c.cut.ensures.values).wider
 
 pub returns-in-None-clause-after : goal.returns-in-None-clause-after
 returns-in-None-clause-after c =
-    let rows = c.args.rows.now.entries in
+    let rows = c.args.rows.now.items in
     let x = c.args.number in
-    let none : row_of (lists_in rows) x ≡ [] = none_shown rows c.args.number c.in-None.ensures.value in
-    ap lists_of c.get_mut.follows.holds-at-none
-    ∙ sym (with_row_same (lists_in rows) x _ (some_in rows) (ap (λ ps. without_value_by same_number ps c.args.indicator) none ∙ sym none))
+    let none : row_of (lists_in rows) x ≡ [] = none_lent rows x c.in-None.ensures.item in
+    sym (with_row_same (lists_in rows) x _ (some_in rows) (ap (λ ps. without_value_by same_number ps c.args.indicator) none ∙ sym none))
 
 pub returns-in-None-clause-had : goal.returns-in-None-clause-had
 returns-in-None-clause-had c =
-    sym (ap (λ ps. is_some (value_by same_number ps c.args.indicator)) (none_shown c.args.rows.now.entries c.args.number c.in-None.ensures.value))
+    sym (ap (λ ps. is_some (value_by same_number ps c.args.indicator)) (none_lent c.args.rows.now.items c.args.number c.in-None.ensures.item))
 
 pub cut-requires : goal.cut-requires
-cut-requires c = c.requires.indexed c.args.number c.in-Some.row.now (sym c.in-Some.ensures.value)
+cut-requires c = c.requires.indexed c.args.number c.in-Some.row.now (sym (lent_mut c.args.rows.now.items c.args.number (Some c.in-Some.row) c.in-Some.ensures.item))
 
 pub returns-in-Some-clause-indexed : goal.returns-in-Some-clause-indexed
 returns-in-Some-clause-indexed c =
-    are_indexed c.args.rows.now.entries _ c.args.indexes.now.entries c.args.indexes.now.entries c.args.number c.cut.new.row c.requires.indexed
-    (put_set c.args.rows.now.entries _ c.args.number c.in-Some.row.now c.cut.new.row (sym c.in-Some.ensures.value) (c.get_mut.follows.holds c.cut.new.row).0)
+    are_indexed c.args.rows.now.items _ c.args.indexes.now.entries c.args.indexes.now.entries c.args.number c.cut.new.row c.requires.indexed
+    (put_lent c.args.rows.now.items c.args.number c.in-Some.row c.cut.new.row c.in-Some.ensures.item)
     c.cut.ensures.indexed (λ q other. refl)
 
 pub returns-in-None-clause-indexed : goal.returns-in-None-clause-indexed
-returns-in-None-clause-indexed c =
-    still_indexed c.args.rows.now.entries _ c.args.indexes.now.entries (ap (λ (m : BTreeMap ℕ PropertyRow). m.entries) c.get_mut.follows.holds-at-none) c.requires.indexed
+returns-in-None-clause-indexed c = c.requires.indexed

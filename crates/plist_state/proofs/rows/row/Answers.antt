@@ -4,7 +4,7 @@ use Rattle.std.specs.Borrow.{Bor}
 use Rattle.property_rows.specs.Rows.{PropertyRow}
 use Rattle.plist_state.specs.Shown.{Rows, row_at, items_in}
 use Rattle.plist_state.specs.Indexed.{Indexes, IsIndexedIn, AreIndexed}
-use Rattle.plist_state.proofs.ListRows.{list_found, proper_found}
+use Rattle.plist_state.proofs.ListRows.{lent, list_found, proper_found}
 use Rattle.plist_state.proofs.Indexing.{IsIndexed-nil}
 use Rattle.plist_state.proofs.rows.row.Goals as goal
 
@@ -13,10 +13,10 @@ indexed_found rows indexes x None is all = λ i there. IsIndexed-nil i.entries
 indexed_found rows indexes x (Some row) is all = all x row.now (sym is)
 
 pub returns-clause-list : goal.returns-clause-list
-returns-clause-list c = list_found c.args.rows.now.entries c.args.number c.get.result c.get.ensures.value
+returns-clause-list c = list_found c.args.rows.now.items c.args.number c.get.result (lent c.args.rows.now.items c.deref.result.now c.args.number c.get.result c.deref.ensures.value c.get.ensures.lookup)
 
 pub returns-clause-proper : goal.returns-clause-proper
-returns-clause-proper c = proper_found c.args.rows.now.entries c.args.number c.get.result c.get.ensures.value c.requires
+returns-clause-proper c = proper_found c.args.rows.now.items c.args.number c.get.result (lent c.args.rows.now.items c.deref.result.now c.args.number c.get.result c.deref.ensures.value c.get.ensures.lookup) c.requires
 
 pub returns-clause-indexed : goal.returns-clause-indexed
-returns-clause-indexed c = λ indexes all. indexed_found c.args.rows.now.entries indexes c.args.number c.get.result c.get.ensures.value all
+returns-clause-indexed c = λ indexes all. indexed_found c.args.rows.now.items indexes c.args.number c.get.result (lent c.args.rows.now.items c.deref.result.now c.args.number c.get.result c.deref.ensures.value c.get.ensures.lookup) all

@@ -13,7 +13,7 @@ use Rattle.plist_state.proofs.stored.remove.Goals as goal
 
 pub returns-then-is_none-clause-ok : goal.returns-then-is_none-clause-ok
 returns-then-is_none-clause-ok c =
-    let rows : Rows = c.args.stored.now.properties.entries in
+    let rows : Rows = c.args.stored.now.properties.items in
     let x : ℕ = c.args.number in
     let i : ℕ = c.args.indicator in
     let none : is_some c.value.result ≡ false = search rules in
@@ -31,7 +31,7 @@ returns-clause-marked c =
     subst (λ (u : NumberedRest). Continues ms before ns u) (sym c.tidy_unmarked.ensures.same)
     (property_noted_as ms (marks_of c.reserve_note.new.marks.items) ns c.in_ok-reserve_note.ensures.same
     c.args.number c.count-count.result c.in-Some.change c.as_noted-change.result alike c.push_note.ensures c.as_noted-change.ensures.proper
-    before c.args.stored.now.properties.entries c.remove.new.rows.entries _ c.count-count.ensures
+    before c.args.stored.now.properties.items c.remove.new.rows.items _ c.count-count.ensures
     c.in-Some.ensures.after c.in-Some.ensures.back)
 
 pub returns-clause-ok : goal.returns-clause-ok
@@ -40,4 +40,4 @@ returns-clause-ok c =
 
 pub returns-clause-wider : goal.returns-clause-wider
 returns-clause-wider c =
-    wider_both c.args.stored.now.properties.entries c.remove.new.rows.entries _ c.in-Some.ensures.wider c.tidy_unmarked.ensures.wider
+    wider_both c.args.stored.now.properties.items c.remove.new.rows.items _ c.in-Some.ensures.wider c.tidy_unmarked.ensures.wider

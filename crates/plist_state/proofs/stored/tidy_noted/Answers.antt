@@ -11,8 +11,8 @@ use Rattle.plist_state.proofs.stored.tidy_noted.Goals as goal
 abbrev IsTidied : Stored → Stored → Type 0
 IsTidied old new =
     (rest_of new ≡ rest_of old)
-    × IsWider old.properties.entries new.properties.entries
-    × AreIndexed new.properties.entries new.indexes.entries
+    × IsWider old.properties.items new.properties.items
+    × AreIndexed new.properties.items new.indexes.entries
 
 pub loop-note-preserved : goal.loop-note-preserved
 loop-note-preserved c =
@@ -21,7 +21,7 @@ loop-note-preserved c =
     elim c.match-shortens.branch [
       | in-Some w ↦ subst (IsTidied old) (sym w.stored-is) (
         ap (λ (m : NumberedLists). record (rest_of s) { properties = m }) w.tidy.ensures.same ∙ c.loop-note.invariant.0,
-        wider_both old.properties.entries s.properties.entries w.tidy.new.rows.entries c.loop-note.invariant.1 w.tidy.ensures.wider,
+        wider_both old.properties.items s.properties.items w.tidy.new.rows.items c.loop-note.invariant.1 w.tidy.ensures.wider,
         w.tidy.ensures.indexed s.indexes.entries c.loop-note.invariant.2,
       )
       | in_default w ↦ subst (IsTidied old) (sym w.stored-is) c.loop-note.invariant

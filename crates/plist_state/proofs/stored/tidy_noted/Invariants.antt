@@ -8,5 +8,5 @@ use Rattle.plist_state.proofs.stored.tidy_noted.Given as goal
 abbrev pub invariant-loop-note : goal.invariant-loop-note
 invariant-loop-note l =
     (rest_of l.stored ≡ rest_of l.initial.stored)
-    × IsWider l.initial.stored.properties.entries l.stored.properties.entries
-    × AreIndexed l.stored.properties.entries l.stored.indexes.entries
+    × IsWider l.initial.stored.properties.items l.stored.properties.items
+    × AreIndexed l.stored.properties.items l.stored.indexes.entries

@@ -10,5 +10,5 @@ pub take_back-requires-clause-room : goal.take_back-requires-clause-room
 take_back-requires-clause-room c =
     let rows = c.args.stored.now.properties in
     let x = c.in-Property.number in
-    subst (λ (ps : NumberedPlist). length ps ≤ room_at rows.entries x) (row-with_row (lists_of rows) x (list_before c.in-Property.change (row_of (lists_of rows) x)))
-    (subst (λ note. Fits rows.entries (undone note (rest_of c.args.stored.now))) c.in-Property.is c.requires.room x)
+    subst (λ (ps : NumberedPlist). length ps ≤ room_at rows.items x) (row-with_row (lists_of rows) x (list_before c.in-Property.change (row_of (lists_of rows) x)))
+    (subst (λ note. Fits rows.items (undone note (rest_of c.args.stored.now))) c.in-Property.is c.requires.room x)

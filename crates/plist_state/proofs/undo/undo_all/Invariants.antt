@@ -10,9 +10,9 @@ use Rattle.plist_state.proofs.undo.undo_all.Given as goal
 abbrev pub invariant-loop-note : goal.invariant-loop-note
 invariant-loop-note l =
     (all_undone l.notes.items (rest_of l.stored) ≡ all_undone l.initial.notes.items (rest_of l.initial.stored))
-    × LeadsBack l.notes.items (rest_of l.stored) l.stored.properties.entries
-    × IsWider l.initial.stored.properties.entries l.stored.properties.entries
-    × AreIndexed l.stored.properties.entries l.stored.indexes.entries
+    × LeadsBack l.notes.items (rest_of l.stored) l.stored.properties.items
+    × IsWider l.initial.stored.properties.items l.stored.properties.items
+    × AreIndexed l.stored.properties.items l.stored.indexes.entries
 
 abbrev pub decreases-loop-note : goal.decreases-loop-note
 decreases-loop-note l = length l.notes.items

@@ -12,7 +12,7 @@ use Rattle.plist_state.proofs.undo.undo_to.Goals as goal
 pub undo_all-requires-clause-leads : goal.undo_all-requires-clause-leads
 undo_all-requires-clause-leads c =
     let t : NumberedRest = rest_of c.loop-newest.stored in
-    (leads c.pop.new.self.items c.in-Some.newest c.loop-newest.marks.items c.in-Some.ensures.items t (all_undone c.in-Some.newest.items t) refl c.loop-newest.stored.properties.entries c.loop-newest.invariant.3).0
+    (leads c.pop.new.self.items c.in-Some.newest c.loop-newest.marks.items c.in-Some.ensures.items t (all_undone c.in-Some.newest.items t) refl c.loop-newest.stored.properties.items c.loop-newest.invariant.3).0
 
 pub returns-then-len-mark-clause-past : goal.returns-then-len-mark-clause-past
 returns-then-len-mark-clause-past c =
@@ -28,8 +28,8 @@ pub returns-then-len-mark-clause-journal : goal.returns-then-len-mark-clause-jou
 returns-then-len-mark-clause-journal c =
     let left : List (Vec Note) = c.pop.new.self.items in
     let u : NumberedRest = rest_of c.undo_all.new.stored in
-    let rows : Rows = c.loop-newest.stored.properties.entries in
-    journal_wider (marks_of left) u rows c.undo_all.new.stored.properties.entries c.undo_all.ensures.wider
+    let rows : Rows = c.loop-newest.stored.properties.items in
+    journal_wider (marks_of left) u rows c.undo_all.new.stored.properties.items c.undo_all.ensures.wider
     (leads left c.in-Some.newest c.loop-newest.marks.items c.in-Some.ensures.items (rest_of c.loop-newest.stored) u c.undo_all.ensures.after rows c.loop-newest.invariant.3).1
 
 pub loop-newest-preserved : goal.loop-newest-preserved
@@ -38,8 +38,8 @@ loop-newest-preserved c =
     let m : Vec Note = c.in-Some.newest in
     let u : NumberedRest = rest_of c.undo_all.new.stored in
     let t : NumberedRest = rest_of c.loop-newest.stored in
-    let rows : Rows = c.loop-newest.stored.properties.entries in
-    let later : Rows = c.undo_all.new.stored.properties.entries in
+    let rows : Rows = c.loop-newest.stored.properties.items in
+    let later : Rows = c.undo_all.new.stored.properties.items in
     let fewer : length c.loop-newest.marks.items ≡ length left + 1 = ap length c.in-Some.ensures.items ∙ length-append left (m ∷ []) in
     let is_length : length left ≡ c.len.result = sym c.pop.new.self.ok.0 ∙ sym c.len.ensures in (
       u ∷ c.loop-newest.invariant.0,

@@ -11,9 +11,9 @@ abbrev pub invariant-loop-newest : goal.invariant-loop-newest
 invariant-loop-newest l =
     (rest : List NumberedRest) × (rests_at (marks_of l.initial.marks.items) (rest_of l.initial.stored) ≡ rests_at (marks_of l.marks.items) (rest_of l.stored) ++ rest)
     × (l.mark < length l.marks.items)
-    × IsJournal (marks_of l.marks.items) (rest_of l.stored) l.stored.properties.entries
-    × IsWider l.initial.stored.properties.entries l.stored.properties.entries
-    × AreIndexed l.stored.properties.entries l.stored.indexes.entries
+    × IsJournal (marks_of l.marks.items) (rest_of l.stored) l.stored.properties.items
+    × IsWider l.initial.stored.properties.items l.stored.properties.items
+    × AreIndexed l.stored.properties.items l.stored.indexes.entries
 
 abbrev pub decreases-loop-newest : goal.decreases-loop-newest
 decreases-loop-newest l = length l.marks.items

@@ -71,7 +71,7 @@ invariant_of-self-2 c =
     let ts : List Numbered = a.packages.1.marked in
     let ms : List (List Note) = marks_of a.marks.items in
     let r : NumberedRest = rest_of a.stored in
-    let rows : Rows = a.stored.properties.entries in
+    let rows : Rows = a.stored.properties.items in
     let ns : List (List Note) = marks_of c.undo_to.new.marks.items in
     let u : NumberedRest = rest_of c.undo_to.new.stored in
     record {
@@ -82,8 +82,8 @@ invariant_of-self-2 c =
             (subst (λ (vs : List (Vec Note)). slice_get (rests_at (marks_of vs) r) own ≡ Some u) (sym c.as_slice.ensures.value) c.undo_to.ensures.now) c.self.invariant.now.sizes;
         owned = owned_at ts ms r rows c.self.invariant.now.marked own (numbered c.back_to.new.self) u c.back_to.ensures.now c.undo_to.ensures.now;
         sound = sound_at ts ms r rows c.self.invariant.now.marked own (numbered c.back_to.new.self) u c.back_to.ensures.now c.undo_to.ensures.now;
-        marked = subst (λ us. AreKept us ns u c.undo_to.new.stored.properties.entries) (sym c.back_to.ensures.past)
-            (kept_back ts ms r rows c.self.invariant.now.marked own ns u c.undo_to.ensures.past c.undo_to.new.stored.properties.entries c.undo_to.ensures.journal);
+        marked = subst (λ us. AreKept us ns u c.undo_to.new.stored.properties.items) (sym c.back_to.ensures.past)
+            (kept_back ts ms r rows c.self.invariant.now.marked own ns u c.undo_to.ensures.past c.undo_to.new.stored.properties.items c.undo_to.ensures.journal);
       };
       earlier = c.self.invariant.earlier;
     }
@@ -95,7 +95,7 @@ returns c =
     let ts : List Numbered = a.packages.1.marked in
     let ms : List (List Note) = marks_of a.marks.items in
     let r : NumberedRest = rest_of a.stored in
-    let rows : Rows = a.stored.properties.entries in
+    let rows : Rows = a.stored.properties.items in
     let ns : List (List Note) = marks_of c.undo_to.new.marks.items in
     let u : NumberedRest = rest_of c.undo_to.new.stored in
     let past : List WorldState = earlier_states a.earlier.items in

@@ -21,10 +21,10 @@ invariant_of-self-2 c =
     let ts : List Numbered = a.packages.1.marked in
     let ms : List (List Note) = marks_of a.marks.items in
     let r : NumberedRest = rest_of a.stored in
-    let rows : Rows = a.stored.properties.entries in
+    let rows : Rows = a.stored.properties.items in
     let changed : c.mark.new.self ≡ with_mark a.packages = c.in_ok-mark.ensures.ok.1 in
     let items : marks_of c.push_reserved.new.self.items ≡ ms ++ [] ∷ [] =
-    ap marks_of (c.push_reserved.ensures.items ∙ ap (λ xs. xs ++ c.new.result ∷ []) c.in_ok-reserve.ensures.items) ∙ map_push notes_of a.marks.items c.new.result ∙ ap (λ n. ms ++ n ∷ []) c.new.ensures.items in
+    ap marks_of (c.push_reserved.ensures.items ∙ ap (λ xs. xs ++ c.clear.new.self ∷ []) c.in_ok-reserve.ensures.items) ∙ map_push notes_of a.marks.items c.clear.new.self ∙ ap (λ n. ms ++ n ∷ []) c.clear.ensures.items in
     record {
       now = record {
         values = c.self.invariant.now.values;
@@ -48,8 +48,8 @@ returns-clause-ok c =
     let ss : List WorldState = marked_states ts (rests_at ms r) in
     let changed : c.mark.new.self ≡ with_mark a.packages = c.in_ok-mark.ensures.ok.1 in
     let items : marks_of c.push_reserved.new.self.items ≡ ms ++ [] ∷ [] =
-    ap marks_of (c.push_reserved.ensures.items ∙ ap (λ xs. xs ++ c.new.result ∷ []) c.in_ok-reserve.ensures.items) ∙ map_push notes_of a.marks.items c.new.result ∙ ap (λ n. ms ++ n ∷ []) c.new.ensures.items in
-    let states : marked_states (ts ++ t ∷ []) (rests_at (ms ++ [] ∷ []) r) ≡ ss ++ state_in t r ∷ [] = states_push ts ms r a.stored.properties.entries c.self.invariant.now.marked t in
+    ap marks_of (c.push_reserved.ensures.items ∙ ap (λ xs. xs ++ c.clear.new.self ∷ []) c.in_ok-reserve.ensures.items) ∙ map_push notes_of a.marks.items c.clear.new.self ∙ ap (λ n. ms ++ n ∷ []) c.clear.ensures.items in
+    let states : marked_states (ts ++ t ∷ []) (rests_at (ms ++ [] ∷ []) r) ≡ ss ++ state_in t r ∷ [] = states_push ts ms r a.stored.properties.items c.self.invariant.now.marked t in
     let past : List WorldState = earlier_states a.earlier.items in
     let now : ◌≡◌ {A = Worlds} (state_in (numbered c.mark.new.self) r, past ++ marked_states c.mark.new.self.1.marked (rests_at (marks_of c.push_reserved.new.self.items) r)) (state_in t r, past ++ marked_states (ts ++ t ∷ []) (rests_at (ms ++ [] ∷ []) r)) =
     λ i. (state_in (numbered (changed i)) r, past ++ marked_states (changed i).1.marked (rests_at (items i) r)) in

@@ -70,8 +70,8 @@ invariant_of-self c =
         sizes = subst (λ (q : NumberedRest). AreSizes q.properties a.sizes.entries) (sym c.in_err-push.ensures.err) c.self.invariant.now.sizes;
         owned = kept_rest c.push.result (λ q. IsOwned s q.properties) r made u c.push.ensures.ok c.push.ensures.err c.self.invariant.now.owned
             (owned_put s (symbol_count s.0) c.numbering.ensures r.properties x n _ owner_is numbers c.self.invariant.now.owned);
-        marked = kept_continued a.packages.1.marked (marks_of a.marks.items) r a.stored.properties.entries c.self.invariant.now.marked (marks_of c.push.new.marks.items) u c.push.new.stored.properties.entries
-            c.push.ensures.marked (fits_now a.stored.properties.entries r refl) c.push.ensures.wider;
+        marked = kept_continued a.packages.1.marked (marks_of a.marks.items) r a.stored.properties.items c.self.invariant.now.marked (marks_of c.push.new.marks.items) u c.push.new.stored.properties.items
+            c.push.ensures.marked (fits_now a.stored.properties.items r refl) c.push.ensures.wider;
         sound = kept_rest c.push.result (λ q. IsSound (state_in s q)) r made u c.push.ensures.ok c.push.ensures.err c.self.invariant.now.sound
             (subst IsSound (sym (state_listed s (symbol_count s.0) c.numbering.ensures x n owner_is r (λ ps. with_pushed_by same_number ps j v) (λ ps. with_pushed_by same_symbol ps i v) same))
             (sound_put (state_in s r) x i (pushed v (property (state_in s r) x i)) c.self.invariant.now.sound at_home indicator value));
@@ -112,8 +112,8 @@ invariant_of-self-2 c =
             (subst (λ (q : NumberedRest). pair_size (value_in q.properties n j) ≡ Some c.args.size) (sym c.in_ok-push.ensures.ok) (size_pushed r.properties n j v c.args.size size_is));
         owned = kept_rest c.push.result (λ q. IsOwned s q.properties) r made u c.push.ensures.ok c.push.ensures.err c.self.invariant.now.owned
             (owned_put s (symbol_count s.0) c.numbering.ensures r.properties x n _ owner_is numbers c.self.invariant.now.owned);
-        marked = kept_continued a.packages.1.marked (marks_of a.marks.items) r a.stored.properties.entries c.self.invariant.now.marked (marks_of c.push.new.marks.items) u c.push.new.stored.properties.entries
-            c.push.ensures.marked (fits_now a.stored.properties.entries r refl) c.push.ensures.wider;
+        marked = kept_continued a.packages.1.marked (marks_of a.marks.items) r a.stored.properties.items c.self.invariant.now.marked (marks_of c.push.new.marks.items) u c.push.new.stored.properties.items
+            c.push.ensures.marked (fits_now a.stored.properties.items r refl) c.push.ensures.wider;
         sound = kept_rest c.push.result (λ q. IsSound (state_in s q)) r made u c.push.ensures.ok c.push.ensures.err c.self.invariant.now.sound
             (subst IsSound (sym (state_listed s (symbol_count s.0) c.numbering.ensures x n owner_is r (λ ps. with_pushed_by same_number ps j v) (λ ps. with_pushed_by same_symbol ps i v) same))
             (sound_put (state_in s r) x i (pushed v (property (state_in s r) x i)) c.self.invariant.now.sound at_home indicator value));

@@ -55,8 +55,8 @@ invariant_of-self c =
             (c.forget.ensures made.properties (others_with r.properties n j a.sizes.entries c.self.invariant.now.sizes v));
         owned = kept_rest c.put.result (λ q. IsOwned s q.properties) r made u c.put.ensures.ok c.put.ensures.err c.self.invariant.now.owned
             (owned_put s (symbol_count s.0) c.numbering.ensures r.properties x n _ c.number-owner.ensures numbers c.self.invariant.now.owned);
-        marked = kept_continued a.packages.1.marked (marks_of a.marks.items) r a.stored.properties.entries c.self.invariant.now.marked (marks_of c.put.new.marks.items) u c.put.new.stored.properties.entries
-            c.put.ensures.marked (fits_now a.stored.properties.entries r refl) c.put.ensures.wider;
+        marked = kept_continued a.packages.1.marked (marks_of a.marks.items) r a.stored.properties.items c.self.invariant.now.marked (marks_of c.put.new.marks.items) u c.put.new.stored.properties.items
+            c.put.ensures.marked (fits_now a.stored.properties.items r refl) c.put.ensures.wider;
         sound = kept_rest c.put.result (λ q. IsSound (state_in s q)) r made u c.put.ensures.ok c.put.ensures.err c.self.invariant.now.sound
             (subst IsSound (sym (state_listed s (symbol_count s.0) c.numbering.ensures x n c.number-owner.ensures r (λ ps. with_value_by same_number ps j v) (λ ps. with_value ps i v) same))
             (sound_put (state_in s r) x i v c.self.invariant.now.sound at_home indicator value));

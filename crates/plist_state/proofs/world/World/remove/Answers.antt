@@ -74,8 +74,8 @@ invariant_of-self c =
         owned = kept_rest c.remove.result (λ q. IsOwned s q.properties) r made u c.remove.ensures.ok c.remove.ensures.err c.self.invariant.now.owned
             (owned_put s (symbol_count s.0) c.numbering.ensures r.properties x n _ owner_is
             (all_without same_number (λ p. IsNumber s p.0) row j (c.self.invariant.now.owned.indicators n)) c.self.invariant.now.owned);
-        marked = kept_continued a.packages.1.marked (marks_of a.marks.items) r a.stored.properties.entries c.self.invariant.now.marked (marks_of c.remove.new.marks.items) u c.remove.new.stored.properties.entries
-            c.remove.ensures.marked (fits_now a.stored.properties.entries r refl) c.remove.ensures.wider;
+        marked = kept_continued a.packages.1.marked (marks_of a.marks.items) r a.stored.properties.items c.self.invariant.now.marked (marks_of c.remove.new.marks.items) u c.remove.new.stored.properties.items
+            c.remove.ensures.marked (fits_now a.stored.properties.items r refl) c.remove.ensures.wider;
         sound = kept_rest c.remove.result (λ q. IsSound (state_in s q)) r made u c.remove.ensures.ok c.remove.ensures.err c.self.invariant.now.sound
             (subst IsSound (sym (state_listed s (symbol_count s.0) c.numbering.ensures x n owner_is r (λ ps. without_value_by same_number ps j) (λ ps. without_value ps i) same))
             (sound_removed (state_in s r) x i c.self.invariant.now.sound at_home));

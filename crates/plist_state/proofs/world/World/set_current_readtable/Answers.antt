@@ -29,10 +29,10 @@ invariant_of-self-2 c =
         sizes = c.self.invariant.now.sizes;
         owned = c.self.invariant.now.owned;
         sound = subst (λ n. IsSound (record s { current_readtable = n })) (sym named) (sound_in_readtable s c.args.name.now c.self.invariant.now.sound there);
-        marked = kept_continued a.packages.1.marked (marks_of a.marks.items) r a.stored.properties.entries c.self.invariant.now.marked (marks_of c.push_note.new.marks.items) u a.stored.properties.entries
+        marked = kept_continued a.packages.1.marked (marks_of a.marks.items) r a.stored.properties.items c.self.invariant.now.marked (marks_of c.push_note.new.marks.items) u a.stored.properties.items
             (continues_noted (marks_of a.marks.items) _ (marks_of c.push_note.new.marks.items) (InReadtable c.replace-before.result) r u c.in_ok-name.ensures.same c.push_note.ensures tt
             (λ i. record r { current_readtable = (c.replace-before.ensures.value i).items }))
-            (fits_now a.stored.properties.entries r refl) (wider_same a.stored.properties.entries a.stored.properties.entries refl);
+            (fits_now a.stored.properties.items r refl) (wider_same a.stored.properties.items a.stored.properties.items refl);
       };
       earlier = c.self.invariant.earlier;
     }

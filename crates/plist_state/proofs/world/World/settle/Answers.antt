@@ -27,8 +27,8 @@ invariant_of-self c =
         sizes = subst (λ (q : NumberedRest). AreSizes q.properties a.sizes.entries) (sym rest) c.self.invariant.now.sizes;
         owned = subst (λ (p : Numbered × NumberedRest). IsOwned p.0 p.1.properties) (sym both) c.self.invariant.now.owned;
         sound = subst (λ (p : Numbered × NumberedRest). IsSound (state_in p.0 p.1)) (sym both) c.self.invariant.now.sound;
-        marked = kept_none c.settle.new.self.1.marked (marks_of c.clear-2.new.self.items) u c.tidy.new.stored.properties.entries
-            (ap (λ (ts : Tables). ts.1.marked) packages) (ap marks_of c.clear-2.ensures.items);
+        marked = kept_none c.settle.new.self.1.marked (marks_of c.let_go.new.marks.items) u c.tidy.new.stored.properties.items
+            (ap (λ (ts : Tables). ts.1.marked) packages) (ap marks_of c.let_go.ensures);
       };
       earlier = replaced_none c.clear.new.self.items c.clear.ensures.items;
     }
@@ -40,6 +40,6 @@ returns c =
     let u : NumberedRest = rest_of c.tidy.new.stored in
     let rest : u ≡ r = c.tidy.ensures.same in
     let packages : c.settle.new.self ≡ without_marks a.packages = c.settle.ensures in
-    let now : ◌≡◌ {A = Worlds} (state_in (numbered c.settle.new.self) u, earlier_states c.clear.new.self.items ++ marked_states c.settle.new.self.1.marked (rests_at (marks_of c.clear-2.new.self.items) u)) (state_in (numbered a.packages) r, []) =
-    λ i. (state_in (numbered (packages i)) (rest i), earlier_states (c.clear.ensures.items i) ++ marked_states (packages i).1.marked (rests_at (marks_of c.clear-2.new.self.items) (rest i))) in
+    let now : ◌≡◌ {A = Worlds} (state_in (numbered c.settle.new.self) u, earlier_states c.clear.new.self.items ++ marked_states c.settle.new.self.1.marked (rests_at (marks_of c.let_go.new.marks.items) u)) (state_in (numbered a.packages) r, []) =
+    λ i. (state_in (numbered (packages i)) (rest i), earlier_states (c.clear.ensures.items i) ++ marked_states (packages i).1.marked (rests_at (marks_of c.let_go.new.marks.items) (rest i))) in
     now ∙ ap (λ (w : Worlds). (w.0, [])) c.self.view_is

@@ -73,8 +73,8 @@ invariant_of-self c =
             (c.forget.ensures made.properties (others_with r.properties n j a.sizes.entries c.self.invariant.now.sizes rest));
         owned = kept_rest c.pop.result (λ q. IsOwned s q.properties) r made u c.pop.ensures.ok c.pop.ensures.err c.self.invariant.now.owned
             (owned_put s (symbol_count s.0) c.numbering.ensures r.properties x n _ owner_is numbers c.self.invariant.now.owned);
-        marked = kept_continued a.packages.1.marked (marks_of a.marks.items) r a.stored.properties.entries c.self.invariant.now.marked (marks_of c.pop.new.marks.items) u c.pop.new.stored.properties.entries
-            c.pop.ensures.marked (fits_now a.stored.properties.entries r refl) c.pop.ensures.wider;
+        marked = kept_continued a.packages.1.marked (marks_of a.marks.items) r a.stored.properties.items c.self.invariant.now.marked (marks_of c.pop.new.marks.items) u c.pop.new.stored.properties.items
+            c.pop.ensures.marked (fits_now a.stored.properties.items r refl) c.pop.ensures.wider;
         sound = kept_rest c.pop.result (λ q. IsSound (state_in s q)) r made u c.pop.ensures.ok c.pop.ensures.err c.self.invariant.now.sound
             (subst IsSound (sym (state_listed s (symbol_count s.0) c.numbering.ensures x n owner_is r (λ ps. with_popped_by same_number ps j) (λ ps. with_popped_by same_symbol ps i) same))
             (sound_put (state_in s r) x i (popped (property (state_in s r) x i)) c.self.invariant.now.sound at_home indicator value));

@@ -24,7 +24,7 @@ invariant_of-result c =
         indexed = c.in_ok-first_stored.ensures.indexed;
         sizes = no_sizes r.properties c.new-2.result.entries c.new-2.ensures.empty;
         owned = subst (λ (q : NumberedRest). IsOwned (numbered ps) q.properties) (sym c.in_ok-first_stored.ensures.first) (owned_empty (numbered ps));
-        marked = kept_none ps.1.marked (marks_of c.new.result.items) r c.in_ok-first_stored.field-0.properties.entries c.in_ok-packages.ensures.marked (ap marks_of c.new.ensures.items);
+        marked = kept_none ps.1.marked (marks_of c.new.result.items) r c.in_ok-first_stored.field-0.properties.items c.in_ok-packages.ensures.marked (ap marks_of c.new.ensures.items);
         sound = subst IsSound (sym (first_state (numbered ps) r c.in_ok-packages.ensures.table c.in_ok-first_stored.ensures.first)) first_sound;
       };
       earlier = replaced_none c.new-3.result.items c.new-3.ensures.items;

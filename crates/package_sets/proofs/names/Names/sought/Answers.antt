@@ -1,7 +1,7 @@
 use Rattle.std.proofs.Common.{sym, ap, ◌∙◌, position}
 use Rattle.std.specs.Prelude.{bytes_eq}
 use Rattle.package_sets.proofs.Places.{position-map}
-use Rattle.package_sets.proofs.names.Names.find.Goals as goal
+use Rattle.package_sets.proofs.names.Names.sought.Goals as goal
 
 pub returns-in-Some : goal.returns-in-Some
 returns-in-Some c =
