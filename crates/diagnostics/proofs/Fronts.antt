@@ -2,7 +2,7 @@
 use Rattle.std.proofs.Common.{◌≡◌, ◌⊎◌, inl, inr, ℕ, List, [], ◌++◌, append_assoc, Option, None, Some, Result, Ok, Err, OnOk, OnErr, true, false, true≢false, sym, ap, ◌∙◌, append-nil}
 use Rattle.std.specs.Result.{is_err}
 use Rattle.std.specs.Io.KnownBytes.{Keeps}
-use Rattle.prevalence_store.specs.calls.Streams.{Writes, WritesPart}
+use Rattle.sessions.specs.Streams.{Writes, WritesPart}
 use Rattle.diagnostics.specs.Texts.{WritesFront, WritesText}
 use Rattle.diagnostics.specs.declared.fault.Unwritten.{Unwritten}
 

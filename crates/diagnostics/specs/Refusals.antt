@@ -1,9 +1,9 @@
 -- The refusal that ended a session, and what is told of it.
 use Rattle.std.specs.Prelude.{◌≡◌, ℕ, ◌+◌, ◌-◌, ◌^◌, min, List, [], ◌∷◌, ◌++◌, Option, None, Some, codes, decimal}
 use Rattle.lisp_object.specs.Refusal.{name_of}
-use Rattle.prevalence_store.specs.declared.outcome.Ended.{Ended}
-use Rattle.prevalence_store.specs.declared.outcome.Ended.TheVariants as ways
-use Rattle.prevalence_store.specs.declared.outcome.Place.{Place}
+use Rattle.sessions.specs.declared.ending.Ended.{Ended}
+use Rattle.sessions.specs.declared.ending.Ended.TheVariants as ways
+use Rattle.sessions.specs.declared.ending.Place.{Place}
 use Rattle.diagnostics.specs.declared.refusal.Refusal.{Refusal}
 use Rattle.diagnostics.specs.declared.refusal.Spots.{Spots}
 

@@ -1,6 +1,6 @@
 -- How a text is written to a stream.
 use Rattle.std.specs.Prelude.{◌≡◌, ℕ, List, ◌++◌, Option, Some, Result, OnOk, OnErr}
-use Rattle.prevalence_store.specs.calls.Streams.{Writes, WritesPart}
+use Rattle.sessions.specs.Streams.{Writes, WritesPart}
 use Rattle.diagnostics.specs.declared.fault.Unwritten.{Unwritten}
 
 -- what was written is the first part of this text, perhaps all of it

@@ -1,6 +1,6 @@
 // The line of a fault, that with its cause, and how a text is written.
 ghost use Rattle.std.specs.Prelude.{◌≢◌, ℕ, List, [], ◌∷◌, ◌++◌, All};
-ghost use Rattle.prevalence_store.specs.meaning.Answers.{refusal_line};
+ghost use Rattle.sessions.specs.Answers.{refusal_line};
 ghost use Rattle.diagnostics.specs.Faults.{IsFaultText};
 ghost use Rattle.diagnostics.specs.Texts.{WritesOut, WritesText};
 

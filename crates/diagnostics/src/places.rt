@@ -2,7 +2,7 @@
 ghost use Rattle.std.specs.Prelude.{◌≡◌, ◌+◌, ◌≤◌, ℕ, List, [], ◌∷◌, ◌++◌, length, take, IfSome};
 ghost use Rattle.diagnostics.specs.Places.{IsMoved, IsMovedFrom, IsSpotAfter, Keeps};
 
-use prevalence_store::Place;
+use sessions::Place;
 use std::alloc::{AllocError, Global};
 use std::cell::{Cell, RefCell};
 use std::io::Read;

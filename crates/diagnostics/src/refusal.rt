@@ -7,7 +7,7 @@ use crate::fault::{Unwritten, write_text};
 use crate::places::{Places, Spot};
 use arrayvec::ArrayString;
 use lisp_object::refusal::name_of;
-use prevalence_store::{Ended, Place};
+use sessions::{Ended, Place};
 use std::alloc::{AllocError, Global};
 use std::fmt;
 use std::fmt::Write as WriteText;

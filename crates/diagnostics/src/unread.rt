@@ -7,7 +7,7 @@ use lisp_object::refusal::{
     DOT_CONTEXT, END_OF_FILE, FORM_TOO_LONG, INVALID_CHARACTER, INVALID_TRAIT, NO_DISPATCH,
     NUMERIC_ARGUMENT, OUT_OF_PROFILE, STRAY_CLOSE, TEXT_LEFT_OVER, TOO_DEEP, name_of,
 };
-use prevalence_store::Place;
+use sessions::Place;
 use std::alloc::{AllocError, Global};
 use std::fmt::Write as WriteText;
 use std::io::Write;

@@ -7,8 +7,9 @@ ghost use Rattle.examples.specs.Doubling.{doubled, doubling};
 use crate::folder::{HALF_LIMIT, StoreError};
 use disk_trait::MemoryDisk;
 use lisp_object::Datum;
-use prevalence_store::{Ending, Mode, Store};
+use prevalence_store::{Mode, Store};
 use readtable_core::FnName;
+use sessions::{Ending, serve};
 use std::alloc::{AllocError, Global};
 use std::io::Write;
 use user_macros::{Answer, Call, Gather, Gathered, MacroFn, MacroFunctions, Macros, Meaning};
@@ -76,11 +77,11 @@ pub fn serve_doubled<W: Write>(alloc: Global, output: &mut W) -> Result<(), Stor
     if macros.register(names[0], function).is_err() {
         return Err(StoreError::Memory(AllocError));
     }
-    serve(alloc, macros, output)
+    serve_forms(alloc, macros, output)
 }
 
 // Serves the forms with these macro functions.
-fn serve<M: MacroFunctions + Drop, W: Write>(
+fn serve_forms<M: MacroFunctions + Drop, W: Write>(
     alloc: Global,
     macros: M,
     output: &mut W,
@@ -92,7 +93,7 @@ fn serve<M: MacroFunctions + Drop, W: Write>(
         Err(unopened) => return Err(StoreError::Refused(unopened.number)),
     };
     let mut input = INPUT;
-    let ending = store.serve(&mut input, output, Mode::Current, 0);
+    let ending = serve(&mut store, &mut input, output, Mode::Current, 0);
     let _closed = store.close();
     match ending {
         Ending::Store(number) => Err(StoreError::Refused(number)),

@@ -17,7 +17,7 @@ use Rattle.message_laws.proofs.Together.{near_on}
 use Rattle.feeding_laws.proofs.Stands.{near_back}
 use Rattle.plist_state.specs.State.{WorldState}
 use Rattle.prevalence_store.specs.calls.Store.{StoreView}
-use Rattle.prevalence_store.specs.calls.Streams.{Writes}
+use Rattle.sessions.specs.Streams.{Writes}
 use Rattle.messages.specs.Answers.{Round, begun}
 use Rattle.messages.specs.Calls.{BeginsMessages}
 use Rattle.messages.specs.Position.{number_in, position}

@@ -11,7 +11,7 @@ use Rattle.message_session.specs.Answers.{answers_of, each_frame, message_number
 use Rattle.plist_state.specs.Sound.{IsSound}
 use Rattle.plist_state.specs.State.{WorldState}
 use Rattle.prevalence_store.specs.calls.Store.{StoreView}
-use Rattle.prevalence_store.specs.calls.Streams.{Writes}
+use Rattle.sessions.specs.Streams.{Writes}
 use Rattle.messages.specs.declared.request.Request.{Request}
 use Rattle.messages.specs.Answers.{begun}
 use Rattle.messages.specs.Position.{position}

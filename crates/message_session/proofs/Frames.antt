@@ -12,7 +12,7 @@ use Rattle.message_session.proofs.Rounds.{bytes_of_both, first_after, more_after
 use Rattle.message_session.proofs.Streams.{none_written, writes_both}
 use Rattle.plist_state.specs.State.{WorldState}
 use Rattle.prevalence_store.specs.calls.Store.{StoreView}
-use Rattle.prevalence_store.specs.calls.Streams.{Writes}
+use Rattle.sessions.specs.Streams.{Writes}
 use Rattle.user_macros.specs.Functions.{Functions}
 
 -- ---- frames in bytes

@@ -8,7 +8,7 @@ use Rattle.message_session.specs.declared.ended.Ended.TheVariants.{End, NoFrame,
 use Rattle.message_session.proofs.Streams.{writes_both}
 use Rattle.plist_state.specs.State.{WorldState}
 use Rattle.prevalence_store.specs.calls.Store.{StoreView}
-use Rattle.prevalence_store.specs.calls.Streams.{Writes}
+use Rattle.sessions.specs.Streams.{Writes}
 use Rattle.user_macros.specs.Functions.{Functions}
 
 module _ (functions : Functions) (last : ℕ) (w : WorldState) {D R : Type 0} (state : D → State) (store : StoreView D R) (held between written : Option (List ℕ)) (told : List ℕ) (bytes : List Sent → List ℕ)

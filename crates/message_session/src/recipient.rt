@@ -4,11 +4,12 @@ ghost use Rattle.std.specs.Option.{option_map};
 ghost use Rattle.message_frames.specs.Frames.{position_bytes, sent};
 ghost use Rattle.message_session.specs.Account.{Account, AreStored, IsToldIn, first_account, with_frames};
 ghost use Rattle.plist_state.specs.State.{WorldState};
-ghost use Rattle.prevalence_store.specs.calls.Streams.{Writes, WritesPart};
+ghost use Rattle.sessions.specs.Streams.{Writes, WritesPart};
 
 use disk_trait::Disk;
 use message_frames::Frame;
-use prevalence_store::{OutputFault, Store};
+use prevalence_store::Store;
+use sessions::OutputFault;
 use std::io::Write;
 use user_macros::MacroFunctions;
 

@@ -13,7 +13,7 @@ use Rattle.prevalence_store.specs.meaning.Acceptance.{IsFormNumber, accepts}
 use Rattle.messages.specs.Answers.{answered, begun}
 use Rattle.messages.specs.Position.{own_text}
 use Rattle.messages.specs.Calls.{AnswersRequests, AreLeft, IsOwnRefused, RefusesOwn}
-use Rattle.prevalence_store.specs.steps.Failure.{failure_number, of_unlogged}
+use Rattle.prevalence_store.specs.steps.Failure.{failure_number}
 use Rattle.session_words.specs.declared.mode.Mode.{Mode}
 use Rattle.session_words.specs.declared.mode.Mode.TheVariants.{Rescue}
 use Rattle.user_macros.specs.Functions.{Functions}
@@ -38,7 +38,7 @@ module _ (functions : Functions)
     }
 
     by_cause : (cause : Unlogged) → AreLeft functions state old new world (answered functions (begun last world) requests) cause
-        → AreRefusedBy functions state old new world last requests (failure_number (of_unlogged cause))
+        → AreRefusedBy functions state old new world last requests (failure_number cause)
     by_cause Full left = record {
       device = λ is. absurd (omega (arith, is));
       unchanged = λ _. left.unchanged refl;

@@ -25,7 +25,7 @@ use Rattle.messages.specs.Calls.{AnswersRequests, AreLeft, Fail, entries_by, lef
 use Rattle.messages.specs.Rounds.{IsMade as IsMadeBy, round_in, told_in}
 use Rattle.messages.specs.Turn.{AreReplied, MakesReplies, front, round_of}
 use Rattle.prevalence_store.specs.steps.Batch.{FailsBatch, IsEmpty, StoresBatch, entries_in, entries_of}
-use Rattle.prevalence_store.specs.steps.Failure.{failure_number, is_device_failure, of_unlogged}
+use Rattle.prevalence_store.specs.steps.Failure.{failure_number, is_device_failure}
 use Rattle.prevalence_store.specs.steps.Together.{IsMade, IsNotMade}
 use Rattle.user_macros.specs.Functions.{Functions}
 
@@ -128,7 +128,7 @@ module _ (functions : Functions) (turn : FirstRequests) (w : WorldState) where
         record { unchanged = λ calm. absurd (cc); full = λ full. absurd (cc); stopped = λ _. failed_in stopped.left stopped.records stopped.makes.0 stopped.makes.1 stopped.fails }
 
     pub replies_unlogged : (cause : Unlogged) → IsNotMade functions state old new w (λ left records. (made : Result Replies ℕ) × MakesReplies functions turn w left records made) cause
-        → AnswersRequests functions state old new w turn.last (front functions turn w) (Err (failure_number (of_unlogged cause)))
+        → AnswersRequests functions state old new w turn.last (front functions turn w) (Err (failure_number cause))
     replies_unlogged cause unmade = inr (cause, refl, left_by cause unmade)
 
 -- requests that are not answered leave the store as it is, or the device failed

@@ -25,7 +25,7 @@ use Rattle.prevalence_store.specs.meaning.Acceptance.{accepts, after, read_in}
 use Rattle.messages.specs.Answers.{Round, answered, begun, each_request}
 use Rattle.messages.specs.Position.{is_hidden, own_form, own_text, position, position_property}
 use Rattle.messages.specs.Rounds.{told_in}
-use Rattle.prevalence_store.specs.steps.Failure.{failure_number, is_device_failure, of_unlogged}
+use Rattle.prevalence_store.specs.steps.Failure.{failure_number, is_device_failure}
 use Rattle.user_macros.specs.Functions.{Functions}
 
 -- where no message wrote nothing is left of requests
@@ -106,7 +106,7 @@ module _ (functions : Functions) {D R : Type 0} (state : D → State) (old new :
   AnswersRequests last requests (Ok replies) = AreAnswered functions state old new world (answered functions (begun last world) requests) replies
   AnswersRequests last requests (Err number) =
       (RefusesOwn functions (begun last world) requests number × (new ≡ old))
-      ⊎ ((cause : Unlogged) × (number ≡ failure_number (of_unlogged cause)) × AreLeft functions state old new world (answered functions (begun last world) requests) cause)
+      ⊎ ((cause : Unlogged) × (number ≡ failure_number cause) × AreLeft functions state old new world (answered functions (begun last world) requests) cause)
 
   -- the form that sets the position to 0 was accepted, and logged if it wrote
   abbrev pub SetsFirst : Type 0

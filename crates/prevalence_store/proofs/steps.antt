@@ -1,5 +1,6 @@
 -- From what the functions below the calls do to what the calls answer.
 pub mod Fitting
+pub mod Settings
 pub mod Committing
 pub mod ForgettingForms
 pub mod Grouping
@@ -9,19 +10,4 @@ pub mod Turning
 pub mod Loading
 pub mod Replays
 pub mod Refusing
-pub mod Pendings
-pub mod Endings
-pub mod FormAnswers
-pub mod Pacing
-pub mod Renewing
-pub mod Pieces
-pub mod Places
-pub mod PlainForms
-pub mod EndedAt
-pub mod Answering
-pub mod Inputs
-pub mod Gathering
-pub mod Counting
-pub mod Gathered
 pub mod Storing
-pub mod Handing

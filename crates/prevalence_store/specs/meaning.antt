@@ -2,6 +2,5 @@
 pub mod Forgetting
 pub mod Acceptance
 pub mod Files
-pub mod Answers
 pub mod Version1
 pub mod BeforeOperators

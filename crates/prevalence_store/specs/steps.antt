@@ -5,11 +5,3 @@ pub mod Setting
 pub mod Batch
 pub mod Group
 pub mod Open
-pub mod Input
-pub mod Output
-pub mod Answer
-pub mod Schedule
-pub mod Course
-pub mod Serve
-pub mod Gather
-pub mod Standing

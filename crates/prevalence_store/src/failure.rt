@@ -1,6 +1,6 @@
-// Why a form was not accepted.
+// Why a form was not added to a batch, and why a batch was not logged.
 ghost use Rattle.std.specs.Prelude.{◌≡◌};
-ghost use Rattle.prevalence_store.specs.steps.Failure.{failure_number, of_unlogged};
+ghost use Rattle.prevalence_store.specs.steps.Failure.{failure_number};
 
 use lisp_object::refusal::{DEVICE, LOG_FULL, NO_MEMORY};
 
@@ -27,7 +27,7 @@ pub enum Unlogged {
 impl Unlogged {
     /// The number of the refusal.
     pub fn number(self) -> u16
-        ensures { result ≡ failure_number (of_unlogged self) }
+        ensures { result ≡ failure_number self }
     {
         match self {
             Unlogged::Full => LOG_FULL,
@@ -35,17 +35,4 @@ impl Unlogged {
             Unlogged::OutOfMemory => NO_MEMORY,
         }
     }
-}
-
-/// Why a form that was read was not accepted, as clauses have it: an `Unadded`, or an `Unlogged`.
-#[derive(Clone, Copy)]
-pub enum Failure {
-    /// Evaluation refused it, with this number.
-    Refused(u16),
-    /// Its record would pass the half's limit.
-    Full,
-    /// The device failed.
-    DeviceFault,
-    /// There was no memory.
-    OutOfMemory,
 }

@@ -1,18 +1,14 @@
-//! The theorem over any calls in a row and over any openings after them, that what is answered is stored, that files mean one
-//! world, and that files of version 1 mean what they meant.
-ghost use Rattle.std.specs.Prelude.{◌≡◌, ◌↔◌, ℕ, ◌+◌, Bool, true, List, [], ◌∷◌, ◌++◌, take, Some, Ok, Err};
+//! The theorem over any calls in a row and over any openings after them, that files mean one world, and that files of version 1 mean
+//! what they meant.
+ghost use Rattle.std.specs.Prelude.{◌≡◌, ◌↔◌, ℕ, ◌+◌, Bool, true, List, [], ◌++◌, take, Some, Ok, Err};
 ghost use Rattle.disk_trait.specs.Disk.{Image, IsFresh, IsHonest, Throughout};
 ghost use Rattle.gate_log.specs.Layout.{LogRecord};
-ghost use Rattle.prevalence_store.specs.meaning.Acceptance.{Acceptance, accepts, after, IsFormNumber};
+ghost use Rattle.prevalence_store.specs.meaning.Acceptance.{Acceptance, accepts, IsFormNumber};
 ghost use Rattle.prevalence_store.specs.meaning.Files.{MeansWorld};
 ghost use Rattle.prevalence_store.specs.meaning.Version1.{accepts1, MeansWorld1};
 ghost use Rattle.session_words.specs.declared.mode.Mode.{Mode};
-ghost use Rattle.prevalence_store.specs.calls.Account.{Account, AreStored, call_of, with_forms};
 ghost use Rattle.prevalence_store.specs.calls.Open.{IsNoWord, IsUnopened, limit_of};
-ghost use Rattle.prevalence_store.specs.calls.Store.{StoreView};
-ghost use Rattle.prevalence_store.specs.Theorem.{Call, Headline, IsAfterSome, IsStoppedBetween};
-ghost use Rattle.prevalence_store.specs.Theorem.{Keeps, KeepsSome, MeansSome, Reopens, Run};
-ghost use Rattle.prevalence_store.specs.Theorem.{acknowledged_of, disk_after, forms_of};
+ghost use Rattle.prevalence_store.specs.Theorem.{Call, Headline, IsAfterSome, IsStoppedBetween, Keeps, KeepsSome, MeansSome, Reopens, Run, acknowledged_of, disk_after, forms_of};
 ghost use Rattle.plist_state.specs.State.{WorldState, initial};
 ghost use Rattle.user_macros.specs.Functions.{Functions};
 
@@ -67,25 +63,6 @@ pub fn headline<D: Disk>()
         → (D.state crashed).reads ≡ image → IsHonest (D.state crashed)
         → (refused : IsUnopened functions D.state crashed true limit number back)
         → IsNoWord (limit_of limit) image refused.fault }
-{}
-
-/// While lines are handed to a recipient, nothing happens to the disk.
-///
-/// - `is_call`: what was done since lines were last handed on is a call of the store, which has acknowledged all their forms, and ends where
-///   the next one begins. So what is said of calls in a row is said of a session at each moment, while it writes too.
-/// - `opened`: whatever a crash then leaves, a store that is opened on it has the world after all these forms.
-pub fn what_is_answered_is_stored<D: Disk, R>()
-    ensures is_call { (functions : Functions) (account : Account D) (store : StoreView D R) (lines : List ℕ) (forms : ℕ)
-        → IsHonest (D.state account.disk)
-        → (stored : AreStored functions D.state account store lines forms)
-        → Run functions D.state account.disk (Some account.now) (call_of functions D.state account store lines forms stored ∷ [])
-        × ((with_forms forms store account).now ≡ stored.far.world) × IsHonest (D.state store.disk) }
-    ensures opened { (functions : Functions) (account : Account D) (store : StoreView D R) (lines : List ℕ) (forms : ℕ)
-        → (crashed opened : D) (image : Image) (now : WorldState)
-        → IsHonest (D.state account.disk)
-        → (stored : AreStored functions D.state account store lines forms)
-        → (D.state store.disk).may_leave image → (D.state crashed).reads ≡ image
-        → Reopens functions (D.state crashed) (D.state opened) now → now ≡ stored.far.world }
 {}
 
 /// Openings in a row, after any calls: also where the last call met a device fault, or the process was stopped in it and

@@ -17,7 +17,7 @@ use std::alloc::{AllocError, Global};
 use user_macros::MacroFunctions;
 
 /// The readtable under which a text is read.
-pub(crate) fn readtable_in(world: &World, mode: Mode) -> &Readtable
+pub fn readtable_in(world: &World, mode: Mode) -> &Readtable
     ensures { result.now ≡ table_in world.now.0 mode }
 {
     world.soundness();
@@ -28,7 +28,7 @@ pub(crate) fn readtable_in(world: &World, mode: Mode) -> &Readtable
 }
 
 /// The package in which a text is read.
-pub(crate) fn package_in(world: &World, mode: Mode) -> &[u8]
+pub fn package_in(world: &World, mode: Mode) -> &[u8]
     ensures name { result.now ≡ package_in world.now.0 mode }
     ensures is_package { IsPackage world.now.0.packages result.now }
 {
@@ -40,7 +40,7 @@ pub(crate) fn package_in(world: &World, mode: Mode) -> &[u8]
 }
 
 /// The base of the numbers of a text.
-pub(crate) fn base_in(world: &World, mode: Mode) -> u8
+pub fn base_in(world: &World, mode: Mode) -> u8
     ensures base { result ≡ base_in world.now.0 mode }
     ensures lowest_base { 2 ≤ result }
     ensures highest_base { result ≤ 36 }

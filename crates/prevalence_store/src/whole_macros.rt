@@ -1,5 +1,6 @@
 // The macro functions of a store.
-ghost use Rattle.std.specs.Prelude.{◌≡◌};
+ghost use Rattle.std.specs.Prelude.{◌≡◌, true};
+ghost use Rattle.user_macros.specs.Functions.{are_registered};
 
 use plist_state::Seed;
 use std::marker::Model;
@@ -31,5 +32,14 @@ impl<R: MacroFunctions> WholeMacros<R> {
         ensures { result.now ≡ R.meant self.now }
     {
         self.functions.meaning()
+    }
+
+    /// The functions themselves.
+    pub fn functions(&self) -> &R
+        ensures value { result.now ≡ self.now }
+        ensures answers { R.answers result.now }
+        ensures whole { are_registered R.Meaning.functions (R.functions result.now) ≡ true }
+    {
+        &self.functions
     }
 }

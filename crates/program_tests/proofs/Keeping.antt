@@ -5,7 +5,7 @@ use Rattle.std.proofs.lemmas.List.{length-take-le, take-append-drop}
 use Rattle.disk_trait.specs.Disk.{Image, State}
 use Rattle.plist_state.specs.State.{WorldState, initial}
 use Rattle.prevalence_store.specs.Theorem.{Call, Keeps, Run, disk_after, world_after}
-use Rattle.prevalence_store.specs.calls.Account.{Account, AreStored, AreUnderWay, with_forms}
+use Rattle.sessions.specs.Account.{Account, AreStored, AreUnderWay, with_forms}
 use Rattle.prevalence_store.specs.calls.Store.{StoreView}
 use Rattle.session_words.specs.declared.mode.Mode.TheVariants.{Current}
 use Rattle.store_laws.specs.Batches.{MeansCalls}

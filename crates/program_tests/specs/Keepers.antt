@@ -5,7 +5,7 @@ use Rattle.std.specs.Option.{option_map}
 use Rattle.disk_trait.specs.Disk.{Image, State}
 use Rattle.plist_state.specs.State.{WorldState, initial}
 use Rattle.prevalence_store.specs.Theorem.{Call, disk_after}
-use Rattle.prevalence_store.specs.calls.Account.{Account, first_account}
+use Rattle.sessions.specs.Account.{Account, first_account}
 use Rattle.prevalence_store.specs.calls.Store.{StoreView, store_view_code}
 use Rattle.session_words.specs.declared.mode.Mode.TheVariants.{Current}
 use Rattle.store_laws.specs.Batches.{MeansCalls}

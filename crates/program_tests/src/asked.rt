@@ -6,7 +6,8 @@ use crate::lines::{
 };
 use disk_trait::{Disk, Half, MemoryDisk};
 use fixed_macros::Fixed;
-use prevalence_store::{Ended, Ending, Mode, Step, Store, Wanted};
+use prevalence_store::{Mode, Step, Store};
+use sessions::{Ended, Ending, Wanted, serve, serve_wanted};
 use six_functions::SixFunctions;
 use std::alloc::Global;
 
@@ -25,20 +26,25 @@ pub enum Ask<'a> {
     Run(&'a [Step<'a>]),
 }
 
-fn serve(alloc: Global, store: &mut TestStore, every: u64, input: &[u8]) -> (Ending, Vec<u8>) {
+fn answers_to(
+    alloc: Global,
+    store: &mut TestStore,
+    every: u64,
+    input: &[u8],
+) -> (Ending, Vec<u8>) {
     let (mut reader, mut writer) = (input, Vec::new(alloc));
-    let ending = store.serve(&mut reader, &mut writer, Mode::Current, every);
+    let ending = serve(store, &mut reader, &mut writer, Mode::Current, every);
     (ending, writer)
 }
 
-fn serve_wanted(
+fn wanted_answers_to(
     alloc: Global,
     store: &mut TestStore,
     wanted: Wanted,
     input: &[u8],
 ) -> (Ended, Vec<u8>) {
     let (mut reader, mut writer) = (input, Vec::new(alloc));
-    let ended = store.serve_wanted(&mut reader, &mut writer, wanted);
+    let ended = serve_wanted(store, &mut reader, &mut writer, wanted);
     (ended, writer)
 }
 
@@ -53,12 +59,12 @@ fn run_steps(alloc: Global, store: &mut TestStore, steps: &[Step<'_>]) -> Result
 fn told(alloc: Global, store: &mut TestStore, ask: Ask<'_>) -> Result<Vec<u8>, Trouble> {
     match ask {
         Ask::Serve(every, input) => {
-            let (ending, mut text) = serve(alloc, store, every, input);
+            let (ending, mut text) = answers_to(alloc, store, every, input);
             ending_line(&mut text, ending)?;
             Ok(text)
         }
         Ask::Wanted(wanted, input) => {
-            let (ended, mut text) = serve_wanted(alloc, store, wanted, input);
+            let (ended, mut text) = wanted_answers_to(alloc, store, wanted, input);
             ended_line(&mut text, ended)?;
             Ok(text)
         }

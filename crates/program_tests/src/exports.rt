@@ -8,7 +8,8 @@ use crate::same::have_same_export;
 use crate::troubled_disks::{AMPLE, Trouble};
 use disk_trait::{Disk, MemoryDisk};
 use plist_state::World;
-use prevalence_store::{Ended, Mode, Store, Wanted};
+use prevalence_store::{Mode, Store};
+use sessions::{Ended, Wanted, serve, serve_wanted};
 use std::alloc::{AllocError, Global};
 use std::test::Fail;
 use user_macros::{MacroFunctions, Macros, NoFunctions};
@@ -44,7 +45,7 @@ fn taken_in<D: Disk, M: MacroFunctions>(
     };
     let mut reader = exported.forms.as_slice();
     let mut answers = Vec::new(alloc);
-    let ended = store.serve_wanted(&mut reader, &mut answers, wanted);
+    let ended = serve_wanted(store, &mut reader, &mut answers, wanted);
     world.soundness();
     export_is_taken::<D, M>();
     Ok(is_at_end(ended))
@@ -60,7 +61,7 @@ fn taken_from<D: Disk, M: MacroFunctions>(
 ) -> Result<(bool, u64), Trouble> {
     let mut reader = input;
     let mut answers = Vec::new(alloc);
-    let _ended = one.serve(&mut reader, &mut answers, Mode::Current, 0);
+    let _ended = serve(one, &mut reader, &mut answers, Mode::Current, 0);
     match one.world() {
         Some(world) => {
             let is_taken = taken_in(alloc, world, other)?;

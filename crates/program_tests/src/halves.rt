@@ -2,7 +2,8 @@
 
 use crate::asked::{Ask, left_after};
 use crate::lines::Trouble;
-use prevalence_store::{Mode, Step, Wanted};
+use prevalence_store::{Mode, Step};
+use sessions::Wanted;
 use std::alloc::Global;
 use std::test::Fail;
 

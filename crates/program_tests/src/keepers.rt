@@ -3,15 +3,14 @@ ghost use Rattle.std.specs.Option.{option_map};
 ghost use Rattle.std.specs.Prelude.{◌≡◌, ℕ, ◌+◌, ◌<◌, ◌-◌, ◌^◌, [], Some, IfSome, IsSome};
 ghost use Rattle.disk_trait.specs.Disk.{IsHonest};
 ghost use Rattle.plist_state.specs.State.{WorldState};
-ghost use Rattle.prevalence_store.specs.calls.Account.{Account, AreStored, with_forms};
+ghost use Rattle.sessions.specs.Account.{Account, AreStored, with_forms};
 ghost use Rattle.program_tests.specs.Keepers.{HasDone, IsKept, account_of, first_of};
 
 use crate::again::{AMPLE, reopen_failed};
 use disk_trait::{Disk, MemoryDisk, OnceDisk};
 use plist_state::World;
-use prevalence_store::{
-    Ended, Mode, OutputFault, Recipient, SessionForm, Store, Wanted, WholeMacros,
-};
+use prevalence_store::{Mode, Store, WholeMacros};
+use sessions::{Ended, OutputFault, Recipient, SessionForm, Wanted, serve_wanted};
 use std::alloc::Global;
 use std::io::Read;
 use std::marker::Model;
@@ -172,7 +171,7 @@ fn kept_account<D: Disk, M: MacroFunctions, I: Read>(
     };
     store.keeps_its_world();
     let mut keeper = Keeper::new(alloc, store, reader);
-    let ended = store.serve_wanted(reader, &mut keeper, wanted);
+    let ended = serve_wanted(store, reader, &mut keeper, wanted);
     keeper.is_kept();
     sessions::<D, M>();
     match keeper.into_bytes() {

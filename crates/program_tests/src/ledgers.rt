@@ -2,14 +2,15 @@
 ghost use Rattle.std.specs.Prelude.{◌≡◌, ◌≤◌, ◌<◌, ◌-◌, ◌^◌, ℕ, Some, IsSome, length};
 ghost use Rattle.disk_trait.specs.Disk.{Image, IsHonest};
 ghost use Rattle.plist_state.specs.State.{WorldState};
-ghost use Rattle.prevalence_store.specs.calls.Account.{first_account};
+ghost use Rattle.sessions.specs.Account.{first_account};
 ghost use Rattle.session_ledger.specs.Went.{Went, calls_in, disk_at};
 ghost use Rattle.store_laws.specs.Batches.{MeansCalls};
 
 use crate::again::AMPLE;
 use disk_trait::{Disk, MemoryDisk};
-use prevalence_store::{Ended, Mode, Store, Wanted};
+use prevalence_store::{Mode, Store};
 use session_ledger::{serve_recorded, what_went_out_is_there};
+use sessions::{Ended, Wanted};
 use std::alloc::Global;
 use std::io::{Read, Write};
 use std::test::Fail;

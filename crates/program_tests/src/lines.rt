@@ -2,7 +2,8 @@
 
 use disk_trait::{DeviceFault, Half};
 use lisp_object::Datum;
-use prevalence_store::{Ended, Ending, Outcome, Place};
+use prevalence_store::Outcome;
+use sessions::{Ended, Ending, Place};
 use std::alloc::AllocError;
 use std::io::Write;
 

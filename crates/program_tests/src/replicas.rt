@@ -1,12 +1,13 @@
 //! Two stores that are handed the same input: one in sessions without groups, the other in sessions with groups, or the other way round.
 ghost use Rattle.std.specs.Prelude.{◌≡◌, ◌<◌, ◌-◌, ◌^◌, ℕ, IfSome, IsTrue, Some};
 ghost use Rattle.plist_state.specs.State.{WorldState};
-ghost use Rattle.prevalence_store.specs.declared.outcome.Place.{Place};
+ghost use Rattle.sessions.specs.declared.ending.Place.{Place};
 ghost use Rattle.store_laws.specs.Outcomes.{IsByInput};
 
 use crate::troubled_disks::{AMPLE, Trouble};
 use disk_trait::{Disk, MemoryDisk};
-use prevalence_store::{Ended, Mode, Store, Wanted};
+use prevalence_store::{Mode, Store};
+use sessions::{Ended, Wanted, serve_wanted};
 use std::alloc::Global;
 use std::test::Fail;
 use store_laws::{groups_change_nothing, one_outcome};
@@ -49,10 +50,10 @@ fn answered_twice<D: Disk, E: Disk, M: MacroFunctions>(
     };
     let mut reader = input;
     let mut answers = Vec::new(alloc);
-    let ended = one.serve_wanted(&mut reader, &mut answers, plain);
+    let ended = serve_wanted(one, &mut reader, &mut answers, plain);
     let mut others_reader = input;
     let mut others_answers = Vec::new(alloc);
-    let others_ended = other.serve_wanted(&mut others_reader, &mut others_answers, grouped);
+    let others_ended = serve_wanted(other, &mut others_reader, &mut others_answers, grouped);
     if !is_complete(ended) || !is_complete(others_ended) {
         return None;
     }
@@ -98,10 +99,10 @@ fn stopped_twice<D: Disk, E: Disk, M: MacroFunctions>(
     };
     let mut reader = input;
     let mut answers = Vec::new(alloc);
-    let ended = one.serve_wanted(&mut reader, &mut answers, grouped);
+    let ended = serve_wanted(one, &mut reader, &mut answers, grouped);
     let mut others_reader = input;
     let mut others_answers = Vec::new(alloc);
-    let others_ended = other.serve_wanted(&mut others_reader, &mut others_answers, plain);
+    let others_ended = serve_wanted(other, &mut others_reader, &mut others_answers, plain);
     if !is_stopped(ended) || !is_stopped(others_ended) {
         return None;
     }

@@ -4,9 +4,9 @@ use Rattle.std.specs.Option.{option_map}
 use Rattle.disk_trait.specs.Disk.{Image, State}
 use Rattle.plist_state.specs.State.{WorldState}
 use Rattle.prevalence_store.specs.Theorem.{Call, disk_after, world_after}
-use Rattle.prevalence_store.specs.calls.Account.{Account, AreStored, AreUnderWay, call_of, with_forms}
+use Rattle.sessions.specs.Account.{Account, AreStored, AreUnderWay, call_of, with_forms}
 use Rattle.prevalence_store.specs.calls.Store.{StoreView}
-use Rattle.prevalence_store.specs.calls.Streams.{Writes, WritesPart}
+use Rattle.sessions.specs.Streams.{Writes, WritesPart}
 use Rattle.session_ledger.specs.Ledger.{Agrees, IsAccountOf, account_from, account_past, named_first}
 use Rattle.session_ledger.specs.Went.{Outgoing, Went, calls_in, disk_at, handings_of, out_of}
 use Rattle.store_laws.specs.Batches.{MeansCalls}

@@ -3,7 +3,7 @@ use Rattle.std.specs.Prelude.{◌≡◌, ℕ, List, [], ◌∷◌, Option, Some,
 use Rattle.std.specs.Coded.{Coded, code_by, coded×, coded_ℕ, coded_list}
 use Rattle.std.specs.Option.{option_map}
 use Rattle.disk_trait.specs.Disk.{State}
-use Rattle.prevalence_store.specs.calls.Account.{Account, with_forms}
+use Rattle.sessions.specs.Account.{Account, with_forms}
 use Rattle.prevalence_store.specs.calls.Store.{StoreView, store_view_code}
 use Rattle.store_laws.specs.Sessions.{account_after}
 use Rattle.session_ledger.specs.Went.{GoesOut, handings_of}

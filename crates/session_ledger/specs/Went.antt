@@ -2,9 +2,9 @@
 use Rattle.std.specs.Prelude.{◌≡◌, ℕ, List, [], ◌∷◌, ◌++◌, take, Option}
 use Rattle.disk_trait.specs.Disk.{State}
 use Rattle.prevalence_store.specs.Theorem.{Call}
-use Rattle.prevalence_store.specs.calls.Account.{Account, AreUnderWay}
+use Rattle.sessions.specs.Account.{Account, AreUnderWay}
 use Rattle.prevalence_store.specs.calls.Store.{StoreView}
-use Rattle.prevalence_store.specs.calls.Streams.{Writes}
+use Rattle.sessions.specs.Streams.{Writes}
 use Rattle.store_laws.specs.Sessions.{AreHanded, Handing, account_after, call_since, calls_of}
 use Rattle.user_macros.specs.Functions.{Functions}
 

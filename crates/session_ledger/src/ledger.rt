@@ -1,15 +1,16 @@
 // The ledger of a session, its only way to the output.
 ghost use Rattle.std.specs.Prelude.{◌≡◌, ℕ, List, Option, None, Some, IsSome};
 ghost use Rattle.plist_state.specs.State.{WorldState};
-ghost use Rattle.prevalence_store.specs.calls.Account.{Account, AreUnderWay, first_account};
-ghost use Rattle.prevalence_store.specs.calls.Serve.{ServesWanted};
+ghost use Rattle.sessions.specs.Account.{Account, AreUnderWay, first_account};
+ghost use Rattle.sessions.specs.Serve.{ServesWanted};
 ghost use Rattle.session_ledger.specs.Ledger.{Agrees, account_from, named_first};
 ghost use Rattle.session_ledger.specs.Went.{Went};
 
 use crate::proof_log::ProofLog;
 use disk_trait::Disk;
 use plist_state::World;
-use prevalence_store::{Ended, OutputFault, Recipient, SessionForm, Store, Wanted, WholeMacros};
+use prevalence_store::{Store, WholeMacros};
+use sessions::{Ended, OutputFault, Recipient, SessionForm, Wanted, serve_wanted};
 use std::io::Read;
 use std::marker::{Brand, Model, PhantomData};
 use store_laws::sessions;
@@ -135,7 +136,7 @@ where
         past: ProofLog::new(),
         of: PhantomData,
     };
-    let ended = store.serve_wanted(input, &mut ledger, wanted);
+    let ended = serve_wanted(store, input, &mut ledger, wanted);
     let Ledger {
         output,
         past: _,

@@ -4,7 +4,7 @@ use Rattle.disk_trait.specs.Disk.{State}
 use Rattle.clap.specs.Words.{Text}
 use Rattle.lisp_object.specs.declared.refusal.TheConstants.{DEVICE, INPUT, NO_MEMORY}
 use Rattle.user_macros.specs.Functions.{Functions}
-use Rattle.prevalence_store.specs.declared.outcome.Ended.{Ended}
+use Rattle.sessions.specs.declared.ending.Ended.{Ended}
 use Rattle.session_words.specs.declared.wanted.Wanted.{Wanted}
 use Rattle.store_commands.specs.Commands.{IsEarlyFault, IsUntouched, Performs, PerformsAtTerminal, PerformsInTurn, TellsUnopened}
 use Rattle.store_commands.specs.Sessions.{AreSessions}

@@ -6,20 +6,20 @@ use Rattle.plist_state.specs.State.{WorldState, initial}
 use Rattle.session_words.specs.declared.mode.Mode.{Mode}
 use Rattle.prevalence_store.specs.declared.open_fault.OpenFault.{OpenFault}
 use Rattle.prevalence_store.specs.declared.open_fault.OpenFault.TheVariants as opening
-use Rattle.prevalence_store.specs.declared.outcome.Ending.TheVariants.{End, Reader, Store}
-use Rattle.prevalence_store.specs.declared.outcome.Ended.{Ended}
-use Rattle.prevalence_store.specs.declared.outcome.Ended.TheVariants as ways
-use Rattle.prevalence_store.specs.declared.outcome.Ended.TheVariants.{Unaccepted, Unreadable}
-use Rattle.prevalence_store.specs.declared.outcome.Place.{Place}
+use Rattle.sessions.specs.declared.ending.Ending.TheVariants.{End, Reader, Store}
+use Rattle.sessions.specs.declared.ending.Ended.{Ended}
+use Rattle.sessions.specs.declared.ending.Ended.TheVariants as ways
+use Rattle.sessions.specs.declared.ending.Ended.TheVariants.{Unaccepted, Unreadable}
+use Rattle.sessions.specs.declared.ending.Place.{Place}
 use Rattle.session_words.specs.declared.wanted.Wanted.{Wanted}
 use Rattle.user_macros.specs.Functions.{Functions}
-use Rattle.prevalence_store.specs.calls.Pace.{Pace}
+use Rattle.sessions.specs.Pace.{Pace}
 use Rattle.prevalence_store.specs.calls.Open.{fault_number}
 use Rattle.lisp_object.specs.Object.{Object}
 use Rattle.lisp_operators.specs.Evaluation.{Evaluation}
 use Rattle.lisp_reading.specs.Reading.{empty, refused}
-use Rattle.prevalence_store.specs.meaning.Answers.{Progress, after_forms, begun, evaluated, last_line, one_form, one_form_more, onward, refusal_line}
-use Rattle.prevalence_store.specs.calls.Serve.{IsUnaccepted, Serves, ServesInput, ServesWanted}
+use Rattle.sessions.specs.Answers.{Progress, after_forms, begun, evaluated, last_line, one_form, one_form_more, onward, refusal_line}
+use Rattle.sessions.specs.Serve.{IsUnaccepted, Serves, ServesInput, ServesWanted}
 use Rattle.prevalence_store.specs.calls.Store.{StoreView}
 use Rattle.prevalence_store.specs.meaning.Acceptance.{between, read_in}
 use Rattle.store_commands.specs.Commands.{is_of_opening}

@@ -8,13 +8,13 @@ use Rattle.plist_state.specs.State.{initial}
 use Rattle.world_text.specs.Snapshot.{snapshot}
 use Rattle.world_forms.specs.Forms.{forms}
 use Rattle.user_macros.specs.Functions.{Functions}
-use Rattle.prevalence_store.specs.declared.outcome.Ended.{Ended}
-use Rattle.prevalence_store.specs.declared.outcome.Ended.TheVariants.{End, Store, Unaccepted, Unreadable}
+use Rattle.sessions.specs.declared.ending.Ended.{Ended}
+use Rattle.sessions.specs.declared.ending.Ended.TheVariants.{End, Store, Unaccepted, Unreadable}
 use Rattle.session_words.specs.declared.wanted.Wanted.{Wanted}
 use Rattle.store_commands.specs.Commands.{CarriesOut, DoesOn, IsEarlyFault, IsUntouched, Performs, TaskBreaksOff, TaskReads, TaskWrites, TellsUnopened}
 use Rattle.store_commands.specs.Report.{IsExport, IsReport, IsSnapshot, IsUpgrade, half_line, position_line, version_line}
 use Rattle.prevalence_store.specs.calls.Open.{IsUnopened}
-use Rattle.prevalence_store.specs.calls.Serve.{ServesWanted}
+use Rattle.sessions.specs.Serve.{ServesWanted}
 use Rattle.store_commands.specs.Session.{AnswersInput, IsSession, IsStatusAfter, ReadsToEnd, half_limit}
 use Rattle.store_commands.specs.Status.{HasFaultNumber, IsFaultNumber, TakesWords}
 use Rattle.store_commands.specs.Told.{IsToldOf, left_out_of}

@@ -3,7 +3,7 @@ use Rattle.std.specs.Prelude.{◌≡◌, ℕ, List, [], ◌∷◌, Option, Some}
 use Rattle.disk_trait.specs.Disk.{State, IsHonest}
 use Rattle.plist_state.specs.State.{WorldState}
 use Rattle.prevalence_store.specs.Theorem.{Call, Run}
-use Rattle.prevalence_store.specs.calls.Account.{Account, AreUnderWay, first_account}
+use Rattle.sessions.specs.Account.{Account, AreUnderWay, first_account}
 use Rattle.prevalence_store.specs.calls.Store.{StoreView}
 use Rattle.session_words.specs.declared.mode.Mode.{Mode}
 use Rattle.user_macros.specs.Functions.{Functions}

@@ -10,7 +10,7 @@ use Rattle.world_text.specs.Snapshot.{snapshot}
 use Rattle.world_forms.specs.Forms.{forms}
 use Rattle.user_macros.specs.Functions.{Functions}
 use Rattle.prevalence_store.specs.calls.Open.{IsUnopened}
-use Rattle.prevalence_store.specs.declared.outcome.Ended.{Ended}
+use Rattle.sessions.specs.declared.ending.Ended.{Ended}
 use Rattle.session_words.specs.declared.wanted.Wanted.{Wanted}
 use Rattle.store_commands.specs.Report.{DumpsWorld, IsExport, IsReport, IsSnapshot, IsUpgrade, TellsHalf, TellsHalfAndPosition, TellsVersion, WritesForms, half_line, position_line, version_line}
 use Rattle.store_commands.specs.Session.{AnswersInput, IsBrokenOff, IsSession, IsStatusAfter, ReadsToEnd, half_limit}

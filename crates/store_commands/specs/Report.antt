@@ -14,7 +14,7 @@ use Rattle.prevalence_store.specs.calls.Snapshot.{Snapshots}
 use Rattle.prevalence_store.specs.calls.Store.{StoreView}
 use Rattle.prevalence_store.specs.declared.outcome.Outcome.{Outcome}
 use Rattle.prevalence_store.specs.declared.outcome.Outcome.TheVariants.{Accepted, Snapshotted, Refused}
-use Rattle.prevalence_store.specs.calls.Streams.{Writes}
+use Rattle.sessions.specs.Streams.{Writes}
 use Rattle.messages.specs.Position.{position}
 use Rattle.store_commands.specs.Texts.{TellsText}
 use Rattle.store_commands.specs.Session.{half_limit}

@@ -6,8 +6,8 @@ use Rattle.clap.specs.declared.error.kind.ErrorKind.TheVariants.{DisplayHelp, Di
 use Rattle.disk_trait.specs.declared.host.HostError.{HostError}
 use Rattle.disk_trait.specs.declared.host.HostError.TheVariants as host
 use Rattle.lisp_object.specs.declared.refusal.TheConstants.{DEVICE, DAMAGED, OUTPUT, NO_MEMORY}
-use Rattle.prevalence_store.specs.declared.outcome.Ended.{Ended}
-use Rattle.prevalence_store.specs.declared.outcome.Ended.TheVariants.{End, Store, Unaccepted, Unreadable}
+use Rattle.sessions.specs.declared.ending.Ended.{Ended}
+use Rattle.sessions.specs.declared.ending.Ended.TheVariants.{End, Store, Unaccepted, Unreadable}
 use Rattle.diagnostics.specs.declared.fault.Unwritten.{Unwritten}
 use Rattle.store_commands.specs.declared.status.Status.{Status}
 use Rattle.store_commands.specs.declared.status.Status.TheVariants.{Done, Helped, FormRefused, Unanswered, WordsRefused, LeftOut, Fault}

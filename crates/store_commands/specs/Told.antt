@@ -1,9 +1,9 @@
 -- What is told on standard error as the program ends.
 use Rattle.std.specs.Prelude.{◌≡◌, ◌⊎◌, ℕ, List, [], Option, codes}
-use Rattle.prevalence_store.specs.declared.outcome.Ended.{Ended}
-use Rattle.prevalence_store.specs.declared.outcome.Ended.TheVariants as ways
+use Rattle.sessions.specs.declared.ending.Ended.{Ended}
+use Rattle.sessions.specs.declared.ending.Ended.TheVariants as ways
 use Rattle.diagnostics.specs.Faults.{IsFaultText}
-use Rattle.prevalence_store.specs.calls.Streams.{Writes, WritesPart}
+use Rattle.sessions.specs.Streams.{Writes, WritesPart}
 use Rattle.diagnostics.specs.Refusals.{line_of}
 use Rattle.diagnostics.specs.declared.refusal.Refusal.{Refusal}
 use Rattle.store_commands.specs.declared.status.Status.{Status}

@@ -3,7 +3,7 @@ ghost use Rattle.std.specs.Prelude.{◌≡◌};
 
 use crate::given::Given;
 use diagnostics::{Places, Spot};
-use prevalence_store::Place;
+use sessions::Place;
 use std::cell::Cell;
 use std::io;
 use std::io::{Read, Write};

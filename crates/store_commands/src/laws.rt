@@ -3,9 +3,9 @@ ghost use Rattle.std.specs.Prelude.{◌≡◌, ◌≤◌, ℕ, List, Option, Som
 ghost use Rattle.clap.specs.Words.{Text};
 ghost use Rattle.disk_trait.specs.Disk.{Image, IsHonest};
 ghost use Rattle.plist_state.specs.State.{WorldState};
-ghost use Rattle.prevalence_store.specs.calls.Account.{Account, AreUnderWay, first_account};
+ghost use Rattle.sessions.specs.Account.{Account, AreUnderWay, first_account};
 ghost use Rattle.prevalence_store.specs.calls.Store.{StoreView};
-ghost use Rattle.prevalence_store.specs.declared.outcome.Ended.{Ended};
+ghost use Rattle.sessions.specs.declared.ending.Ended.{Ended};
 ghost use Rattle.session_ledger.specs.Went.{calls_in, disk_at};
 ghost use Rattle.session_words.specs.declared.mode.Mode.{Mode};
 ghost use Rattle.session_words.specs.declared.wanted.Wanted.{Wanted};

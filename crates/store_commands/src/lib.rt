@@ -8,7 +8,7 @@
 //!   `export` and `report`). What the store is opened with is handed to them as an `Opening` (module `opening`).
 //! - What goes out of a session goes through a ledger (session_ledger), so it is known that it is stored by then:
 //!   `what_a_session_wrote_is_there` (module `laws`).
-//! - `sessions_on` serves sessions in a row (module `sessions`), and `terminal` has the input that asks for them, with its prompts.
+//! - `sessions_on` serves sessions in a row (module `in_a_row`), and `terminal` has the input that asks for them, with its prompts.
 //! - `output` has the output of the program, which tells of forms that were refused: the place of each and the part for which it was, on a stream
 //!   of its own.
 //! - `recipient` has who gets the lines of sessions in a row, and may keep account of each; `sessions_go_on` (module `laws`): what follows
@@ -34,6 +34,7 @@ mod export;
 mod folders;
 mod given;
 mod half_line;
+mod in_a_row;
 mod laws;
 mod looking;
 mod on_disk;
@@ -42,7 +43,6 @@ mod output;
 mod recipient;
 mod report;
 mod session;
-mod sessions;
 mod snapshot;
 mod status;
 mod terminal;
@@ -59,6 +59,7 @@ pub use diagnostics::{
 pub use export::export_on;
 pub use folders::{Folders, TellsCause, holds_store, open_folder};
 pub use half_line::write_half_line;
+pub use in_a_row::sessions_on;
 pub use laws::{existing_stores_are_open, sessions_go_on, what_a_session_wrote_is_there};
 pub use looking::Looking;
 pub use opening::{HALF_LIMIT, Opening};
@@ -66,7 +67,6 @@ pub use output::SessionOutput;
 pub use recipient::SessionRecipient;
 pub use report::{report_on, status_of_output};
 pub use session::serve_on;
-pub use sessions::sessions_on;
 pub use snapshot::snapshot_on;
 pub use status::Status;
 pub use terminal::{Sessions, Terminal};

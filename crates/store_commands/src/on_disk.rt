@@ -18,7 +18,8 @@ use crate::upgrade::upgrade_on;
 use command_words::Task;
 use diagnostics::Places;
 use disk_trait::Disk;
-use prevalence_store::{Unopened, Wanted};
+use prevalence_store::Unopened;
+use sessions::Wanted;
 use std::io::Write;
 use user_macros::MacroFunctions;
 

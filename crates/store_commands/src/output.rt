@@ -5,7 +5,8 @@ use crate::recipient::SessionRecipient;
 use diagnostics::{Places, RefusalTeller};
 use disk_trait::Disk;
 use plist_state::World;
-use prevalence_store::{Mode, OutputFault, Recipient, SessionForm, Store, WholeMacros};
+use prevalence_store::{Mode, Store, WholeMacros};
+use sessions::{OutputFault, Recipient, SessionForm};
 use std::io::Write;
 use user_macros::MacroFunctions;
 

@@ -1,10 +1,11 @@
 // Who gets the lines of sessions in a row.
 ghost use Rattle.std.specs.Prelude.{◌≡◌, None, Some};
-ghost use Rattle.prevalence_store.specs.calls.Account.{Account, AreUnderWay};
+ghost use Rattle.sessions.specs.Account.{Account, AreUnderWay};
 ghost use Rattle.store_commands.specs.Accounts.{BeginsAccount};
 
 use disk_trait::Disk;
-use prevalence_store::{Mode, Recipient, Store};
+use prevalence_store::{Mode, Store};
+use sessions::Recipient;
 use std::io::{Read, Write};
 use user_macros::MacroFunctions;
 

@@ -9,8 +9,9 @@ ghost use Rattle.store_commands.specs.Session.{IsSession, half_limit};
 use crate::opening::Opening;
 use crate::recipient::SessionRecipient;
 use disk_trait::Disk;
-use prevalence_store::{Ended, Unopened, Wanted};
+use prevalence_store::Unopened;
 use session_ledger::serve_recorded;
+use sessions::{Ended, Wanted};
 use std::io::Read;
 use user_macros::MacroFunctions;
 

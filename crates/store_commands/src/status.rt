@@ -5,7 +5,7 @@ ghost use Rattle.store_commands.specs.Status.{code_of, status_of_ended, status_o
 use clap::error::ErrorKind;
 use disk_trait::HostError;
 use lisp_object::refusal::{DEVICE, NO_MEMORY};
-use prevalence_store::Ended;
+use sessions::Ended;
 
 /// How the program ended.
 #[derive(Clone, Copy, Debug, PartialEq, Eq)]

@@ -6,7 +6,7 @@ ghost use Rattle.store_commands.specs.Status.{IsQuiet};
 use crate::status::Status;
 use diagnostics::{Places, Refusal, write_fault_with_cause, write_refusal, write_text};
 use disk_trait::HostError;
-use prevalence_store::Ended;
+use sessions::Ended;
 use std::io::Write;
 
 /// The line after a strict session that answered nothing of a text.

@@ -5,12 +5,12 @@ use Rattle.disk_trait.specs.Disk.{State}
 use Rattle.lisp_object.specs.declared.refusal.TheConstants.{OUTPUT}
 use Rattle.plist_state.specs.State.{WorldState}
 use Rattle.session_words.specs.declared.mode.Mode.{Mode}
-use Rattle.prevalence_store.specs.declared.outcome.Ended.TheVariants.{Store}
-use Rattle.prevalence_store.specs.declared.outcome.Ending.TheVariants as ending
+use Rattle.sessions.specs.declared.ending.Ended.TheVariants.{Store}
+use Rattle.sessions.specs.declared.ending.Ending.TheVariants as ending
 use Rattle.session_words.specs.declared.wanted.Wanted.{Wanted}
 use Rattle.prevalence_store.specs.meaning.Acceptance.{read_in}
-use Rattle.prevalence_store.specs.meaning.Answers.{Progress, after_forms, last_line}
-use Rattle.prevalence_store.specs.calls.Serve.{Ends, IsAfter, IsUnwritten, Serves, ServesWanted, StaysOrEnds, StaysRefused}
+use Rattle.sessions.specs.Answers.{Progress, after_forms, last_line}
+use Rattle.sessions.specs.Serve.{Ends, IsAfter, IsUnwritten, Serves, ServesWanted, StaysOrEnds, StaysRefused}
 use Rattle.prevalence_store.specs.calls.Store.{StoreView}
 use Rattle.store_laws.specs.Outcomes.{BreaksOff, HasForms, answers}
 use Rattle.user_macros.specs.Functions.{Functions}

@@ -3,7 +3,7 @@ use Rattle.std.proofs.Common.{◌≡◌, ℕ, List, [], ◌∷◌, ◌++◌, map
 use Rattle.disk_trait.specs.Disk.{State, IsHonest}
 use Rattle.plist_state.specs.State.{WorldState}
 use Rattle.prevalence_store.specs.Theorem.{Call, Headline, Run}
-use Rattle.prevalence_store.specs.calls.Account.{Account, AreStored, AreUnderWay, call_of, with_forms}
+use Rattle.sessions.specs.Account.{Account, AreStored, AreUnderWay, call_of, with_forms}
 use Rattle.prevalence_store.specs.calls.Store.{StoreView}
 use Rattle.store_laws.specs.Batches.{AreTogether, InWholeCalls}
 use Rattle.store_laws.specs.Histories.{Happened, called}

@@ -9,8 +9,8 @@ use Rattle.lisp_operators.specs.Evaluation.{Evaluation}
 use Rattle.plist_state.specs.State.{WorldState}
 use Rattle.session_words.specs.declared.mode.Mode.{Mode}
 use Rattle.prevalence_store.specs.meaning.Acceptance.{between, read_in, transacted}
-use Rattle.prevalence_store.specs.meaning.Answers.{Progress, after_forms, begun, evaluated, last_line, one_form, one_form_more, onward}
-use Rattle.prevalence_store.specs.calls.Serve.{IsUnaccepted}
+use Rattle.sessions.specs.Answers.{Progress, after_forms, begun, evaluated, last_line, one_form, one_form_more, onward}
+use Rattle.sessions.specs.Serve.{IsUnaccepted}
 use Rattle.store_laws.specs.Outcomes.{EndsAtRefusal, HasForms, answers}
 use Rattle.user_macros.specs.Functions.{Functions}
 

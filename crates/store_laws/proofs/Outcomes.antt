@@ -4,16 +4,16 @@ use Rattle.disk_trait.specs.Disk.{State}
 use Rattle.lisp_reading.specs.Reading.{refused}
 use Rattle.plist_state.specs.State.{WorldState}
 use Rattle.session_words.specs.declared.mode.Mode.{Mode}
-use Rattle.prevalence_store.specs.declared.outcome.Ended.{Ended}
-use Rattle.prevalence_store.specs.declared.outcome.Ended.TheVariants.{End, Unreadable, Unaccepted, Store}
-use Rattle.prevalence_store.specs.declared.outcome.Ending.TheVariants as ending
-use Rattle.prevalence_store.specs.declared.outcome.Place.{Place}
+use Rattle.sessions.specs.declared.ending.Ended.{Ended}
+use Rattle.sessions.specs.declared.ending.Ended.TheVariants.{End, Unreadable, Unaccepted, Store}
+use Rattle.sessions.specs.declared.ending.Ending.TheVariants as ending
+use Rattle.sessions.specs.declared.ending.Place.{Place}
 use Rattle.session_words.specs.declared.wanted.Wanted.{Wanted}
 use Rattle.prevalence_store.specs.meaning.Acceptance.{read_in}
-use Rattle.prevalence_store.specs.meaning.Answers.{Progress, after_forms, last_line, one_form}
-use Rattle.prevalence_store.specs.calls.Serve.{HasRead, IsAfter, Serves, ServesInput, ServesWanted, StaysRefused, StaysStopped, pace_wanted}
+use Rattle.sessions.specs.Answers.{Progress, after_forms, last_line, one_form}
+use Rattle.sessions.specs.Serve.{HasRead, IsAfter, Serves, ServesInput, ServesWanted, StaysRefused, StaysStopped, pace_wanted}
 use Rattle.prevalence_store.specs.calls.Store.{StoreView}
-use Rattle.prevalence_store.specs.calls.Streams.{Writes}
+use Rattle.sessions.specs.Streams.{Writes}
 use Rattle.store_laws.specs.Outcomes.{Completes, IsByInput, IsEndBy, StopsAtRefusal}
 use Rattle.user_macros.specs.Functions.{Functions}
 use Rattle.store_laws.proofs.InputForms.{one_refusal, refused_last}

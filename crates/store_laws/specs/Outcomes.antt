@@ -6,13 +6,13 @@ use Rattle.gate_log.specs.Layout.{LogRecord}
 use Rattle.lisp_reading.specs.Reading.{Outcome as Reading, form, empty, refused}
 use Rattle.plist_state.specs.State.{WorldState}
 use Rattle.session_words.specs.declared.mode.Mode.{Mode}
-use Rattle.prevalence_store.specs.declared.outcome.Ended.{Ended}
-use Rattle.prevalence_store.specs.declared.outcome.Ended.TheVariants.{End, Unreadable, Unaccepted, Store}
+use Rattle.sessions.specs.declared.ending.Ended.{Ended}
+use Rattle.sessions.specs.declared.ending.Ended.TheVariants.{End, Unreadable, Unaccepted, Store}
 use Rattle.prevalence_store.specs.meaning.Acceptance.{read_in}
-use Rattle.prevalence_store.specs.meaning.Answers.{Progress, after_forms, last_line, one_form}
-use Rattle.prevalence_store.specs.calls.Serve.{IsAfter}
+use Rattle.sessions.specs.Answers.{Progress, after_forms, last_line, one_form}
+use Rattle.sessions.specs.Serve.{IsAfter}
 use Rattle.prevalence_store.specs.calls.Store.{StoreView}
-use Rattle.prevalence_store.specs.calls.Streams.{Writes}
+use Rattle.sessions.specs.Streams.{Writes}
 use Rattle.user_macros.specs.Functions.{Functions}
 
 -- The input has so many forms, each read in the world that the ones before it left, and this came of them: what is left is discarded

@@ -2,7 +2,7 @@
 use Rattle.std.specs.Prelude.{◌≡◌, ℕ, List, [], ◌∷◌, ◌++◌, map, Some}
 use Rattle.disk_trait.specs.Disk.{State}
 use Rattle.prevalence_store.specs.Theorem.{Call, Headline, Run}
-use Rattle.prevalence_store.specs.calls.Account.{Account, AreStored, AreUnderWay, call_of, with_forms}
+use Rattle.sessions.specs.Account.{Account, AreStored, AreUnderWay, call_of, with_forms}
 use Rattle.prevalence_store.specs.calls.Store.{StoreView}
 use Rattle.store_laws.specs.Batches.{AreTogether, InWholeCalls}
 use Rattle.store_laws.specs.Histories.{Happened, called}

@@ -1,13 +1,13 @@
 //! An input has one outcome.
 ghost use Rattle.std.specs.Prelude.{◌≡◌, ℕ, List, [], Option, Some, true, false};
 ghost use Rattle.plist_state.specs.State.{WorldState};
-ghost use Rattle.prevalence_store.specs.calls.Serve.{ServesWanted};
+ghost use Rattle.sessions.specs.Serve.{ServesWanted};
 ghost use Rattle.prevalence_store.specs.calls.Store.{StoreView};
 ghost use Rattle.session_words.specs.declared.mode.Mode.{Mode};
-ghost use Rattle.prevalence_store.specs.declared.outcome.Ended.{Ended};
-ghost use Rattle.prevalence_store.specs.declared.outcome.Place.{Place};
+ghost use Rattle.sessions.specs.declared.ending.Ended.{Ended};
+ghost use Rattle.sessions.specs.declared.ending.Place.{Place};
 ghost use Rattle.session_words.specs.declared.wanted.Wanted.{Wanted};
-ghost use Rattle.prevalence_store.specs.meaning.Answers.{Progress};
+ghost use Rattle.sessions.specs.Answers.{Progress};
 ghost use Rattle.store_laws.specs.Outcomes.{BreaksOff, Completes, HasForms, IsByInput, StopsAtRefusal};
 ghost use Rattle.user_macros.specs.Functions.{Functions};
 

@@ -2,14 +2,15 @@
 ghost use Rattle.std.specs.Prelude.{◌≡◌, List, [], ◌∷◌, ◌++◌};
 ghost use Rattle.disk_trait.specs.Disk.{IsHonest};
 ghost use Rattle.prevalence_store.specs.Theorem.{Keeps};
-ghost use Rattle.prevalence_store.specs.calls.Account.{Account, AreStored, AreUnderWay, with_forms};
+ghost use Rattle.sessions.specs.Account.{Account, AreStored, AreUnderWay, with_forms};
 ghost use Rattle.prevalence_store.specs.calls.Store.{StoreView};
 ghost use Rattle.store_laws.specs.Sessions.{AreCalls, AreHanded, Handing, account_after, call_since, calls_of};
 ghost use Rattle.user_macros.specs.Functions.{Functions};
 
 use crate::batch::batches;
 use disk_trait::Disk;
-use prevalence_store::{headline, what_is_answered_is_stored};
+use prevalence_store::headline;
+use sessions::what_is_answered_is_stored;
 
 /// What was done each time before lines were handed to the recipient of a session, one time after the other, is calls of the store in a
 /// row, each of which has acknowledged all its forms. So `headline` holds of them, wherever they are parted: at any moment after the lines

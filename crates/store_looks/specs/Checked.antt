@@ -16,8 +16,8 @@ use Rattle.lisp_object.specs.Refusal.{name_of}
 use Rattle.lisp_object.specs.declared.refusal.TheConstants.{OUTPUT}
 use Rattle.log_look.specs.declared.sight.Sight.{Sight}
 use Rattle.plist_state.specs.State.{WorldState, initial}
-use Rattle.prevalence_store.specs.calls.Streams.{Writes}
-use Rattle.prevalence_store.specs.declared.outcome.Place.{Place}
+use Rattle.sessions.specs.Streams.{Writes}
+use Rattle.sessions.specs.declared.ending.Place.{Place}
 use Rattle.store_commands.specs.Status.{IsOfWords}
 use Rattle.store_commands.specs.declared.status.Status.{Status}
 use Rattle.store_commands.specs.declared.status.Status.TheVariants as statuses

@@ -5,7 +5,7 @@ ghost use Rattle.store_looks.specs.Checked.{counts_line, counts_object, counts_t
 
 use diagnostics::{Refusal, Spots, write_refusal};
 use lisp_object::refusal::name_of;
-use prevalence_store::Place;
+use sessions::Place;
 use std::alloc::{AllocError, Global};
 use store_reports::{Notation, push_figure, push_number_member, push_string_member};
 

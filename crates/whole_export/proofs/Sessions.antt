@@ -7,15 +7,15 @@ use Rattle.disk_trait.specs.Disk.{State}
 use Rattle.lisp_reading.specs.Reading.{empty}
 use Rattle.plist_state.specs.State.{WorldState, initial}
 use Rattle.user_macros.specs.Functions.{Functions}
-use Rattle.prevalence_store.specs.calls.Serve.{ServesWanted}
+use Rattle.sessions.specs.Serve.{ServesWanted}
 use Rattle.prevalence_store.specs.calls.Store.{StoreView}
 use Rattle.session_words.specs.declared.mode.Mode.{Mode}
 use Rattle.session_words.specs.declared.mode.Mode.TheVariants.{Current}
-use Rattle.prevalence_store.specs.declared.outcome.Ended.{Ended}
-use Rattle.prevalence_store.specs.declared.outcome.Ended.TheVariants.{End, Unreadable, Unaccepted, Store}
+use Rattle.sessions.specs.declared.ending.Ended.{Ended}
+use Rattle.sessions.specs.declared.ending.Ended.TheVariants.{End, Unreadable, Unaccepted, Store}
 use Rattle.session_words.specs.declared.wanted.Wanted.{Wanted}
 use Rattle.prevalence_store.specs.meaning.Acceptance.{read_in}
-use Rattle.prevalence_store.specs.meaning.Answers.{Progress, after_forms, one_form, one_form_more, onward}
+use Rattle.sessions.specs.Answers.{Progress, after_forms, one_form, one_form_more, onward}
 use Rattle.store_laws.specs.Outcomes.{EndsAtRefusal, HasForms, IsEndBy}
 use Rattle.store_laws.proofs.Outcomes.{completed, fewer_first, one_count, stopped}
 use Rattle.session_words.specs.declared.content.Content.TheVariants.{World}

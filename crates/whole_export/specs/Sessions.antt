@@ -1,8 +1,8 @@
 -- How a session over the text of an export ends.
 use Rattle.std.specs.Prelude.{◌≡◌, Option, Some}
 use Rattle.plist_state.specs.State.{WorldState}
-use Rattle.prevalence_store.specs.declared.outcome.Ended.{Ended}
-use Rattle.prevalence_store.specs.declared.outcome.Ended.TheVariants.{End, Store}
+use Rattle.sessions.specs.declared.ending.Ended.{Ended}
+use Rattle.sessions.specs.declared.ending.Ended.TheVariants.{End, Store}
 
 -- The store has the world at the end of the input. Or a fault ended the session, or the want of room or memory; no refusal does.
 abbrev pub EndsWith : Option WorldState → WorldState → Ended → Type 0

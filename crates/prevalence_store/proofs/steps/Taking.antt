@@ -1,8 +1,9 @@
--- What became of a form, by what logging its record did to the store.
-use Rattle.std.proofs.Common.{◌≡◌, ℕ, ◌+◌, Bool, true, false, List, [], ◌∷◌, ◌++◌, length, Some, Result, Ok, Err, OnOk, OnErr, refl, sym, ap, subst, ◌∙◌, arith}
+-- What logging a form did to the store.
+use Rattle.std.proofs.Common.{◌≡◌, ℕ, ◌+◌, Bool, true, false, List, [], ◌∷◌, ◌++◌, length, length-append, Some, Result, Ok, Err, OnOk, refl, ap, ◌∙◌, arith}
 use Rattle.std.specs.List.{AllByRecursion, flat_map}
+use Rattle.std.proofs.lemmas.List.{length-map, map-append}
 use Rattle.disk_trait.specs.Disk.{State, IsHonest, IsSound}
-use Rattle.gate_log.specs.Layout.{IsLogRecord, LogRecord, open_record}
+use Rattle.gate_log.specs.Layout.{IsLogRecord, open_record}
 use Rattle.lisp_object.specs.Object.{Object}
 use Rattle.lisp_operators.specs.Evaluated.{done}
 use Rattle.lisp_operators.specs.declared.evaluated.Evaluated.{Evaluated}
@@ -10,64 +11,41 @@ use Rattle.lisp_reading.specs.Reading.{form}
 use Rattle.plist_state.specs.State.{WorldState}
 use Rattle.prevalence_store.specs.declared.batch.Batch.{Batch}
 use Rattle.prevalence_store.specs.declared.batch.BatchRecord.{BatchRecord}
-use Rattle.prevalence_store.specs.declared.failure.Failure.{Failure}
-use Rattle.prevalence_store.specs.declared.failure.Failure.TheVariants.{Refused, Full, DeviceFault, OutOfMemory}
-use Rattle.prevalence_store.specs.declared.failure.Unlogged.{Unlogged}
-use Rattle.prevalence_store.specs.declared.failure.Unlogged.TheVariants as unlogged
 use Rattle.session_words.specs.declared.mode.Mode.{Mode}
-use Rattle.prevalence_store.specs.declared.session.answer.Reply.{Reply}
 use Rattle.prevalence_store.specs.meaning.Acceptance.{after, logged, read_in, records_of, transacted}
-use Rattle.prevalence_store.specs.calls.Execute.{Stores, SurvivesAs, taken_in}
+use Rattle.prevalence_store.specs.calls.Execute.{Stores}
 use Rattle.prevalence_store.specs.calls.ExecuteAll.{LogsAll}
 use Rattle.prevalence_store.specs.calls.Store.{StoreView}
-use Rattle.prevalence_store.specs.steps.Answer.{IsLeft, IsReplyTo, TakesReply}
-use Rattle.prevalence_store.specs.steps.Batch.{StoresBatch, TakesBatch, TakesForm, entries_in, entries_of}
-use Rattle.prevalence_store.specs.steps.Failure.{IsCause, is_device, of_unlogged}
-use Rattle.prevalence_store.proofs.steps.Counting.{room_is}
+use Rattle.prevalence_store.specs.steps.Batch.{IsEmpty, entries_in, entries_of, entry_of}
 use Rattle.prevalence_store.proofs.steps.Grouping.{of_value}
-use Rattle.prevalence_store.proofs.Surviving.{unchanged_survives}
 use Rattle.user_macros.specs.Functions.{Functions}
 
 -- the bytes of the record of a form
 pub one_size : (mode : Mode) (text : List ℕ) → length (flat_map open_record (logged mode text ∷ [])) ≡ 6 + length text
-one_size mode text = let none : 0 + (6 + length text) ≡ 6 + length text = omega arith in room_is (logged mode text ∷ []) ∙ none
+one_size mode text = omega (arith, length-append text [])
 
--- a form that was added to a batch of none
-alone : (begun new : Batch) (taken : List LogRecord) → begun.records.items ≡ [] → entries_in new ≡ entries_in begun ++ taken → entries_in new ≡ taken
-alone begun new taken none is = is ∙ ap (λ (forms : List BatchRecord). entries_of forms ++ taken) none
+-- as many records as forms that wrote
+pub count_entries : (batch : Batch) → length (entries_in batch) ≡ length batch.records.items
+count_entries batch = length-map batch.records.items entry_of
+
+-- a form more
+pub entries_push : (forms : List BatchRecord) (last : BatchRecord) (mode : Mode) (own : List ℕ) → last.mode ≡ mode → last.text.items ≡ own → entries_of (forms ++ last ∷ []) ≡ entries_of forms ++ logged mode own ∷ []
+entries_push forms last mode own mode_is is = map-append entry_of forms (last ∷ []) ∙ (λ i. entries_of forms ++ logged (mode_is i) (is i) ∷ [])
+
+-- a batch of none has no records
+pub none_in : (batch : Batch) → IsEmpty batch → entries_in batch ≡ []
+none_in batch none = ap entries_of none
 
 -- what follows of a result
 pub ok_on : {T E : Type 0} (result : Result T E) {P Q : Type 0} → (P → Q) → OnOk result P → OnOk result Q
 ok_on (Ok value) f is = f is
 ok_on (Err error) f is = tt
 
-pub err_on : {T E : Type 0} (result : Result T E) {P Q : Type 0} → (P → Q) → OnErr result P → OnErr result Q
-err_on (Ok value) f is = tt
-err_on (Err error) f is = f is
-
 module _ (functions : Functions) where
   -- the record of a form makes the world that the form left, and fits the log
   pub one_record : (mode : Mode) (w v : WorldState) (text : List ℕ) (x : Object) (e : Evaluated) → read_in functions w mode text ≡ form x 0 (length text) (length text)
       → transacted functions.names w x ≡ Ok (done e v) → (after functions w (records_of e.wrote mode text) ≡ Some v) × AllByRecursion IsLogRecord (records_of e.wrote mode text)
   one_record mode w v text x e whole valued = let is = of_value functions mode w text x (Ok (done e v)) valued whole in (is.again, is.fit)
-
-  -- what the log gets of a form, by what became of it
-  abbrev pub entries_to : Mode → List ℕ → Result Evaluated Failure → List LogRecord
-  entries_to mode own (Ok e) = records_of e.wrote mode own
-  entries_to mode own (Err failure) = []
-
-  -- it is in the batch, makes the world that the form left, and fits the log
-  pub reply_made : (mode : Mode) (w v : WorldState) (own : List ℕ) (x : Object) (begun new : Batch) (reply : Reply) (answer : Result Evaluated Failure) → IsReplyTo functions.names mode x own w v begun new reply answer
-      → begun.records.items ≡ [] → read_in functions w mode own ≡ form x 0 (length own) (length own)
-      → (entries_in new ≡ entries_to mode own answer) × (after functions w (entries_to mode own answer) ≡ Some v) × AllByRecursion IsLogRecord (entries_to mode own answer)
-  reply_made mode w v own x begun new reply (Ok e) is none whole =
-      let made = one_record mode w v own x e whole is.0 in
-      (alone begun new (records_of e.wrote mode own) none is.2, made.0, made.1)
-  reply_made mode w v own x begun new reply (Err (Refused number)) is none whole =
-      (ap (λ (b : Batch). entries_in b) is.2 ∙ ap entries_of none, ap (λ s. Some s) (sym is.1), tt)
-  reply_made mode w v own x begun new reply (Err Full) is none whole = absurd is
-  reply_made mode w v own x begun new reply (Err DeviceFault) is none whole = absurd is
-  reply_made mode w v own x begun new reply (Err OutOfMemory) is none whole = absurd is
 
   module _ {D R : Type 0} (state : D → State) (sound : (d : D) → IsHonest (state d) → IsSound (state d)) (old new : StoreView D R) where
     -- ---- one form
@@ -90,93 +68,3 @@ module _ (functions : Functions) where
         failures = all.failures;
       }
       stored_one false v all = (all.nothing refl, all.left)
-
-      module _ (x : Object) where
-        -- of which nothing is left
-        nothing_survives : (failure : Failure) → is_device failure ≡ false → new ≡ old → (u : WorldState) → SurvivesAs functions state old new u (taken_in mode text (Err failure)) 0
-        nothing_survives (Refused number) is same u = unchanged_survives functions state sound old new u same
-        nothing_survives Full is same u = unchanged_survives functions state sound old new u same
-        nothing_survives OutOfMemory is same u = unchanged_survives functions state sound old new u same
-        nothing_survives DeviceFault is same u = absurd (cc)
-
-        pub takes_nothing : (failure : Failure) → is_device failure ≡ false → new ≡ old
-            → ((u : WorldState) → old.world ≡ Some u → IsCause (transacted functions.names u x) old.size old.limit (length text) failure) → TakesForm functions state old new mode text x (Err failure)
-        takes_nothing failure calm same cause = record {
-          accepted = λ u known. tt;
-          cause = cause;
-          unchanged = λ _. same;
-          fault = λ device. absurd (cc);
-          survives = nothing_survives failure calm same;
-        }
-
-        -- which was evaluated in the world of the store
-        module _ (w v : WorldState) (known : old.world ≡ Some w) (e : Evaluated) (valued : transacted functions.names w x ≡ Ok (done e v)) where
-          here : (u : WorldState) → old.world ≡ Some u → w ≡ u
-          here u is = cc
-
-          takes_value : StoresBatch functions state old new w v (records_of e.wrote mode text) → TakesForm functions state old new mode text x (Ok e)
-          takes_value stores = record {
-            accepted = λ u is. (v, ap (λ a. transacted functions.names a x) (sym (here u is)) ∙ valued, stored_one e.wrote v stores.logs);
-            cause = λ u is. tt;
-            unchanged = tt;
-            fault = tt;
-            survives = λ u is. subst (λ a. SurvivesAs functions state old new a (records_of e.wrote mode text) (length (records_of e.wrote mode text))) (here u is) stores.survives is;
-          }
-
-          -- and whose record was not logged
-          by_wrote : (wrote : Bool) → e.wrote ≡ wrote → (cause : Unlogged) {T : Type 0} → TakesBatch functions state old new w v (records_of wrote mode text) {T = T} (Err cause)
-              → IsCause (transacted functions.names w x) old.size old.limit (length text) (of_unlogged cause) × SurvivesAs functions state old new w (taken_in mode text (Err (of_unlogged cause))) 0
-          by_wrote wrote is unlogged.OutOfMemory took = (tt, nothing_survives OutOfMemory refl (took.unchanged refl) w)
-          by_wrote true is unlogged.Full took =
-              let over = took.full refl in
-              (((done e v, valued, is), omega (arith, over.1, one_size mode text)), nothing_survives Full refl (took.unchanged refl) w)
-          by_wrote false is unlogged.Full took = let over = took.full refl in absurd (omega (arith, over.0))
-          by_wrote true is unlogged.DeviceFault took =
-              let stopped = took.stopped refl in
-              (((done e v, valued, is), omega (arith, stopped.fits, one_size mode text)), stopped.survives)
-          by_wrote false is unlogged.DeviceFault took = let stopped = took.stopped refl in absurd (omega (arith, stopped.some))
-
-          takes_failure : (cause : Unlogged) {T : Type 0} → TakesBatch functions state old new w v (records_of e.wrote mode text) {T = T} (Err cause) → TakesForm functions state old new mode text x (Err (of_unlogged cause))
-          takes_failure cause took =
-              let told = by_wrote e.wrote refl cause took in record {
-                accepted = λ u is. tt;
-                cause = λ u is. subst (λ a. IsCause (transacted functions.names a x) old.size old.limit (length text) (of_unlogged cause)) (here u is) told.0;
-                unchanged = took.unchanged;
-                fault = λ device. (took.stopped device).failed;
-                survives = λ u is. subst (λ a. SurvivesAs functions state old new a (taken_in mode text (Err (of_unlogged cause))) 0) (here u is) told.1 is;
-              }
-
-        -- with the reply to it
-        module _ (w v : WorldState) (known : old.world ≡ Some w) (begun batch : Batch) (reply : Reply) where
-          pub reply_taken : (answer : Result Evaluated Failure) → IsReplyTo functions.names mode x text w v begun batch reply answer → StoresBatch functions state old new w v (entries_to mode text answer)
-              → TakesReply functions state old new mode text x reply
-          reply_taken (Ok e) is stores = record {
-            answer = Ok e;
-            takes = takes_value w v known e is.0 stores;
-            line = record { world = v; one = λ u left. let both : Some v ≡ Some u = sym stores.logs.left ∙ left in cc; line_of = is.3 };
-            told = is.4;
-          }
-          reply_taken (Err (Refused number)) is stores =
-              let same = stores.logs.nothing refl in
-              record {
-                answer = Err (Refused number);
-                takes = takes_nothing (Refused number) refl same (λ u left. let both : Some w ≡ Some u = sym known ∙ left in let one : w ≡ u = cc in subst (λ a. transacted functions.names a x ≡ Err number) one is.0);
-                line = record { world = w; one = λ u left. let both : Some w ≡ Some u = sym known ∙ sym (ap (λ (s : StoreView D R). s.world) same) ∙ left in cc; line_of = is.3 };
-                told = is.4;
-              }
-          reply_taken (Err Full) is stores = absurd is
-          reply_taken (Err DeviceFault) is stores = absurd is
-          reply_taken (Err OutOfMemory) is stores = absurd is
-
-          none_left : (cause : Unlogged) {T : Type 0} → TakesBatch functions state old new w v [] {T = T} (Err cause) → IsLeft functions state old new mode text x cause
-          none_left unlogged.OutOfMemory took = takes_nothing OutOfMemory refl (took.unchanged refl) (λ u is. tt)
-          none_left unlogged.Full took = let over = took.full refl in absurd (omega (arith, over.0))
-          none_left unlogged.DeviceFault took = let stopped = took.stopped refl in absurd (omega (arith, stopped.some))
-
-          pub reply_left : (answer : Result Evaluated Failure) → IsReplyTo functions.names mode x text w v begun batch reply answer → (cause : Unlogged) {T : Type 0}
-              → TakesBatch functions state old new w v (entries_to mode text answer) {T = T} (Err cause) → IsLeft functions state old new mode text x cause
-          reply_left (Ok e) is cause took = takes_failure w v known e is.0 cause took
-          reply_left (Err (Refused number)) is cause took = none_left cause took
-          reply_left (Err Full) is cause took = absurd is
-          reply_left (Err DeviceFault) is cause took = absurd is
-          reply_left (Err OutOfMemory) is cause took = absurd is

@@ -1,35 +1,28 @@
 -- What became of a turn: of a text that was to be one form, of many, of a form that was read, and of those that stand whole after it.
-use Rattle.std.proofs.Common.{◌≡◌, ℕ, ◌+◌, ◌<◌, ◌≤◌, Bool, true, false, List, [], length, drop, Option, None, Some, Result, Ok, Err, IfOk, IfErr, refl, sym, ap, subst, ◌∙◌, inl, inr, arith, Bor, ◌∷◌}
+use Rattle.std.proofs.Common.{◌≡◌, ℕ, ◌+◌, ◌<◌, ◌≤◌, Bool, true, false, List, [], length, Some, Result, Ok, Err, refl, sym, ap, subst, ◌∙◌, inl, inr, arith, Bor, ◌∷◌}
 use Rattle.std.specs.List.{All, AllByRecursion, flat_map}
 use Rattle.disk_trait.specs.Disk.{State, IsHonest, IsSound}
 use Rattle.gate_log.specs.Layout.{IsLogRecord, LogRecord, open_record}
 use Rattle.lisp_object.specs.Datum.{object_of}
 use Rattle.lisp_object.specs.Object.{Object}
-use Rattle.lisp_reading.specs.Reading.{form}
 use Rattle.plist_state.specs.State.{WorldState}
 use Rattle.prevalence_store.specs.declared.failure.Unlogged.{Unlogged}
 use Rattle.prevalence_store.specs.declared.failure.Unlogged.TheVariants.{DeviceFault, Full, OutOfMemory}
 use Rattle.prevalence_store.specs.declared.outcome.Outcome.{Outcome}
 use Rattle.prevalence_store.specs.declared.outcome.Outcome.TheVariants.{Accepted, Snapshotted, Refused}
-use Rattle.prevalence_store.specs.declared.session.answer.Reply.{Reply}
-use Rattle.prevalence_store.specs.declared.session.gather.Gathered.{Gathered}
-use Rattle.prevalence_store.specs.declared.session.whole_forms.WholeForms.{WholeForms}
 use Rattle.session_words.specs.declared.mode.Mode.{Mode}
-use Rattle.session_words.specs.declared.wanted.Wanted.{Wanted}
-use Rattle.prevalence_store.specs.meaning.Acceptance.{Acceptance, accepts, after, logged, read_in, records_of}
+use Rattle.prevalence_store.specs.meaning.Acceptance.{Acceptance, accepts, after, logged, records_of}
 use Rattle.prevalence_store.specs.calls.Execute.{Executes, IsProperOutcome, IsValueIn, SurvivesAs}
 use Rattle.prevalence_store.specs.calls.ExecuteAll.{FailsTogether, IsTogether, LogsAll, in_turn}
 use Rattle.prevalence_store.specs.calls.Store.{StoreView}
-use Rattle.prevalence_store.specs.steps.Answer.{IsLeft, IsReplied, TakesReply}
 use Rattle.prevalence_store.specs.steps.Batch.{FailsBatch, StoresBatch, TakesBatch}
-use Rattle.prevalence_store.specs.steps.Failure.{failure_number, of_unlogged}
-use Rattle.prevalence_store.specs.steps.Gather.{AreTaken, BeginsWhole, FailsForms, IsGathered, MayBeTaken, TakesForms, TakesGroup}
+use Rattle.prevalence_store.specs.steps.Failure.{failure_number}
 use Rattle.prevalence_store.specs.steps.Group.{AreTurns, IsTurn}
 use Rattle.prevalence_store.specs.steps.Together.{HasFailedIn, IsMade, IsNotMade}
 use Rattle.prevalence_store.proofs.calls.Executing.{out_of_memory, turned_down}
 use Rattle.prevalence_store.proofs.meaning.Numbered.{acceptance_is_numbered}
 use Rattle.prevalence_store.proofs.steps.Grouping.{all_replayed, one_replayed}
-use Rattle.prevalence_store.proofs.steps.Taking.{entries_to, one_size, reply_left, reply_made, reply_taken, stored_one, takes_nothing}
+use Rattle.prevalence_store.proofs.steps.Taking.{one_size, stored_one}
 use Rattle.prevalence_store.proofs.Surviving.{unchanged_survives}
 use Rattle.user_macros.specs.Functions.{Functions}
 
@@ -112,7 +105,7 @@ module _ (functions : Functions) (mode : Mode) (w : WorldState) (text : List ℕ
 
     had_no_room : (given : Result Acceptance ℕ) → accepts functions w mode text ≡ given → (outcome : Outcome) (left : WorldState) (records : List LogRecord)
         → IsTurn mode given w left [] records outcome → 0 < length records → old.limit < old.size + length (flat_map open_record records) → new ≡ old
-        → Executes functions state old new w mode text (Refused (failure_number (of_unlogged Full)))
+        → Executes functions state old new w mode text (Refused (failure_number Full))
     had_no_room (Ok given) is outcome left records turn some over same =
         let wrote = wrote_some given given.wrote refl (subst (λ (es : List LogRecord). 0 < length es) turn.entries some) in
         let one : records ≡ logged mode given.text ∷ [] = turn.entries ∙ ap (λ b. records_of b mode given.text) wrote in
@@ -129,7 +122,7 @@ module _ (functions : Functions) (mode : Mode) (w : WorldState) (text : List ℕ
 
     met_fault : (given : Result Acceptance ℕ) → accepts functions w mode text ≡ given → (outcome : Outcome) (left : WorldState) (records : List LogRecord)
         → IsTurn mode given w left [] records outcome → FailsBatch functions state old new w left records
-        → Executes functions state old new w mode text (Refused (failure_number (of_unlogged DeviceFault)))
+        → Executes functions state old new w mode text (Refused (failure_number DeviceFault))
     met_fault (Ok given) is outcome left records turn fails =
         let wrote = wrote_some given given.wrote refl (subst (λ (es : List LogRecord). 0 < length es) turn.entries fails.some) in
         let one : records ≡ logged mode given.text ∷ [] = turn.entries ∙ ap (λ b. records_of b mode given.text) wrote in
@@ -145,7 +138,7 @@ module _ (functions : Functions) (mode : Mode) (w : WorldState) (text : List ℕ
     met_fault (Err number) is outcome left records turn fails = absurd (omega (arith, fails.some, ap length turn.entries))
 
     pub text_unlogged : (cause : Unlogged) → IsNotMade functions state old new w (λ left records. (outcome : Outcome) × MakesText outcome left records) cause
-        → Executes functions state old new w mode text (Refused (failure_number (of_unlogged cause)))
+        → Executes functions state old new w mode text (Refused (failure_number cause))
     text_unlogged OutOfMemory unmade =
         let same = unmade.unchanged refl in out_of_memory functions state old new w mode text same (unchanged_survives functions state sound old new w same)
     text_unlogged Full unmade =
@@ -183,136 +176,3 @@ module _ (functions : Functions) (mode : Mode) (w : WorldState) (texts : List (B
         let fails : FailsBatch functions state old new w stopped.left (in_turn functions w mode texts).entries =
         subst (λ (es : List LogRecord). FailsBatch functions state old new w stopped.left es) turns.entries stopped.fails in
         record { some = fails.some; fits = fails.fits; failed = fails.failed; survives = fails.survives; all_or_none = fails.all_or_none }
-
--- ---- a form that was read
-
-module _ (functions : Functions) (mode : Mode) (own : List ℕ) (x : Object) (w : WorldState) where
-  -- its record makes the world that the form left, and fits the log
-  pub reply_again : (v : WorldState) (records : List LogRecord) (reply : Reply) → read_in functions w mode own ≡ form x 0 (length own) (length own)
-      → IsReplied functions.names mode x own w v records reply → (after functions w records ≡ Some v) × AllByRecursion IsLogRecord records
-  reply_again v records reply whole is =
-      let made = reply_made functions mode w v own x is.none is.batch reply is.answer is.replies is.begins whole in
-      let taken : records ≡ entries_to functions mode own is.answer = sym is.added ∙ made.0 in (
-        ap (after functions w) taken ∙ made.1,
-        subst (λ (es : List LogRecord). AllByRecursion IsLogRecord es) (sym taken) made.2,
-      )
-
-  module _ {D R : Type 0} (state : D → State) (sound : (d : D) → IsHonest (state d) → IsSound (state d)) (old new : StoreView D R) (known : old.world ≡ Some w)
-      (whole : read_in functions w mode own ≡ form x 0 (length own) (length own)) where
-    -- what the log was to get of it
-    taken_of : (v : WorldState) (records : List LogRecord) (reply : Reply) (is : IsReplied functions.names mode x own w v records reply) → records ≡ entries_to functions mode own is.answer
-    taken_of v records reply is = sym is.added ∙ (reply_made functions mode w v own x is.none is.batch reply is.answer is.replies is.begins whole).0
-
-    pub reply_logged : (reply : Reply) → IsMade functions state old new w (λ left records. IsReplied functions.names mode x own w left records reply) → TakesReply functions state old new mode own x reply
-    reply_logged reply made =
-        let is = made.makes in
-        reply_taken functions state sound old new mode own x w made.left known is.none is.batch reply is.answer is.replies
-        (subst (λ (es : List LogRecord). StoresBatch functions state old new w made.left es) (taken_of made.left made.records reply is) made.stores)
-
-    -- by what logging its record did
-    as_left : (cause : Unlogged) (v : WorldState) (records : List LogRecord) (reply : Reply) (is : IsReplied functions.names mode x own w v records reply)
-        → TakesBatch functions state old new w v records {T = Unit} (Err cause) → IsLeft functions state old new mode own x cause
-    as_left cause v records reply is took =
-        reply_left functions state sound old new mode own x w v known is.none is.batch reply is.answer is.replies cause
-        (subst (λ (es : List LogRecord). TakesBatch functions state old new w v es {T = Unit} (Err cause)) (taken_of v records reply is) took)
-
-    pub reply_unlogged : (cause : Unlogged) → IsNotMade functions state old new w (λ left records. (reply : Reply) × IsReplied functions.names mode x own w left records reply) cause
-        → IsLeft functions state old new mode own x cause
-    reply_unlogged OutOfMemory unmade = takes_nothing functions state sound old new mode own x (of_unlogged OutOfMemory) refl (unmade.unchanged refl) (λ u is. tt)
-    reply_unlogged Full unmade =
-        let room = unmade.full refl in
-        as_left Full room.left room.records room.makes.0 room.makes.1
-        (record { stored = tt; unchanged = unmade.unchanged; full = λ _. (room.some, room.over); stopped = λ is. absurd (cc) })
-    reply_unlogged DeviceFault unmade =
-        let stopped = unmade.stopped refl in
-        as_left DeviceFault stopped.left stopped.records stopped.makes.0 stopped.makes.1
-        (record { stored = tt; unchanged = unmade.unchanged; full = λ is. absurd (cc); stopped = λ _. stopped.fails })
-
--- ---- a form that was read, and those that stand whole after it
-
-module _ (functions : Functions) (turn : WholeForms) (w : WorldState) where
-  -- their records make the world that they left, and fit the log
-  pub forms_again : (v : WorldState) (records : List LogRecord) (made : Option Gathered) → MayBeTaken functions turn w → AreTaken functions turn w v records made
-      → (after functions w records ≡ Some v) × AllByRecursion IsLogRecord records
-  forms_again v records None may taken =
-      let none = taken.none refl in
-      (ap (after functions w) none.1 ∙ ap (λ s. Some s) (sym none.0), subst (λ (es : List LogRecord). AllByRecursion IsLogRecord es) (sym none.1) tt)
-  forms_again v records (Some gathered) may taken =
-      let is : IsGathered functions turn.wanted w may.text v records gathered = taken.gathers may.text may.begins may.goes_on in
-      (ap (after functions w) is.taken ∙ is.again ∙ ap (λ s. Some s) (sym is.left), subst (λ (es : List LogRecord). AllByRecursion IsLogRecord es) (sym is.taken) is.fit)
-
-  module _ {D R : Type 0} (state : D → State) (old new : StoreView D R) (text : List ℕ)
-      (begins : BeginsWhole functions w turn.wanted.mode text (object_of turn.first.now.read.datum) turn.first.now.own.items turn.first.now.next) (goes_on : drop turn.first.now.next text ≡ turn.rest.now) where
-    forms_logged : (made : Option Gathered) → IsMade functions state old new w (λ left records. AreTaken functions turn w left records made) → TakesGroup functions turn.wanted state old new w text (Ok made)
-    forms_logged None logged = logged.stores.logs.nothing (ap length (logged.makes.none refl).1)
-    forms_logged (Some gathered) logged = record { left = logged.left; records = logged.records; makes = logged.makes.gathers text begins goes_on; stores = logged.stores }
-
-    forms_failed : (left : WorldState) (records : List LogRecord) (made : Option Gathered) → AreTaken functions turn w left records made → FailsBatch functions state old new w left records
-        → FailsForms functions turn.wanted state old new w text
-    forms_failed left records None taken fails = absurd (omega (arith, fails.some, ap length (taken.none refl).1))
-    forms_failed left records (Some gathered) taken fails = record { left = left; records = records; makes = (gathered, taken.counts.some, taken.gathers text begins goes_on); fails = fails }
-
-    forms_unlogged : (cause : Unlogged) → IsNotMade functions state old new w (λ left records. (made : Option Gathered) × AreTaken functions turn w left records made) cause
-        → TakesGroup functions turn.wanted state old new w text (Err cause)
-    forms_unlogged OutOfMemory unmade = unmade.unchanged refl
-    forms_unlogged Full unmade = unmade.unchanged refl
-    forms_unlogged DeviceFault unmade =
-        let stopped = unmade.stopped refl in
-        forms_failed stopped.left stopped.records stopped.makes.0 stopped.makes.1 stopped.fails
-
-    pub forms_taken : (result : Result (Option Gathered) Unlogged) → IfOk result (λ made. IsMade functions state old new w (λ left records. AreTaken functions turn w left records made))
-        → IfErr result (IsNotMade functions state old new w (λ left records. (made : Option Gathered) × AreTaken functions turn w left records made)) → TakesGroup functions turn.wanted state old new w text result
-    forms_taken (Ok made) logged unmade = forms_logged made logged
-    forms_taken (Err cause) logged unmade = forms_unlogged cause unmade
-
--- ---- forms that were gathered as in a strict session
-
-module _ (functions : Functions) (wanted : Wanted) (strict : Bool) (stricter : wanted.strict ≡ true → strict ≡ true) where
-  lax_gathered : (first : WorldState) (text : List ℕ) (now : WorldState) (records : List LogRecord) (gathered : Gathered)
-      → IsGathered functions (record wanted { strict = strict }) first text now records gathered → IsGathered functions wanted first text now records gathered
-  lax_gathered first text now records gathered is = record {
-    far = is.far;
-    stays = is.stays;
-    rest = is.rest;
-    within = is.within;
-    left = is.left;
-    lines = is.lines;
-    taken = is.taken;
-    counted = is.counted;
-    accepted = λ asked. is.accepted (stricter asked);
-    record_bytes = is.record_bytes;
-    again = is.again;
-    fit = is.fit;
-  }
-
-  -- they are forms of the session too
-  pub lax_taken : {D R : Type 0} (state : D → State) (old new : StoreView D R) (w : WorldState) (text : List ℕ) (result : Result (Option Gathered) Unlogged)
-      → TakesGroup functions (record wanted { strict = strict }) state old new w text result → TakesGroup functions wanted state old new w text result
-  lax_taken state old new w text (Ok (Some gathered)) took =
-      record { left = took.left; records = took.records; makes = lax_gathered w text took.left took.records gathered took.makes; stores = took.stores }
-  lax_taken state old new w text (Ok None) took = took
-  lax_taken state old new w text (Err Full) took = took
-  lax_taken state old new w text (Err DeviceFault) took = record {
-    left = took.left;
-    records = took.records;
-    makes = (took.makes.0, took.makes.1, lax_gathered w text took.left took.records took.makes.0 took.makes.2);
-    fails = took.fails;
-  }
-  lax_taken state old new w text (Err OutOfMemory) took = took
-
--- ---- what was logged of a group, or met the fault
-
-module _ (functions : Functions) (wanted : Wanted) {D R : Type 0} (state : D → State) (old new : StoreView D R) (w : WorldState) (text : List ℕ) where
-  -- unless the device failed nothing was done
-  pub group_left : (cause : Unlogged) → (cause ≡ DeviceFault → ⊥) → TakesGroup functions wanted state old new w text (Err cause) → new ≡ old
-  group_left OutOfMemory other took = took
-  group_left Full other took = took
-  group_left DeviceFault other took = absurd (other refl)
-
-  pub far_stored : (gathered : Gathered) (took : TakesForms functions wanted state old new w text gathered) → StoresBatch functions state old new w took.makes.far.world took.makes.far.taken
-  far_stored gathered took =
-      let is = took.makes in
-      subst (λ (v : WorldState). StoresBatch functions state old new w v is.far.taken) is.left (subst (λ (es : List LogRecord). StoresBatch functions state old new w took.left es) is.taken took.stores)
-
-  pub far_failed : (fault : FailsForms functions wanted state old new w text) → FailsBatch functions state old new w fault.left fault.makes.2.far.taken
-  far_failed fault = subst (λ (es : List LogRecord). FailsBatch functions state old new w fault.left es) fault.makes.2.taken fault.fails

@@ -1,5 +1,5 @@
 -- What `execute` answers, each answer with its cause and with what is left after it.
-use Rattle.std.specs.Prelude.{Bool, true, false, ◌≡◌, ◌⊎◌, ℕ, ◌+◌, ◌<◌, ◌≤◌, List, [], ◌∷◌, length, None, Some, Result, Ok, Err}
+use Rattle.std.specs.Prelude.{Bool, true, false, ◌≡◌, ◌⊎◌, ℕ, ◌+◌, ◌<◌, ◌≤◌, List, [], ◌∷◌, length, None, Some, Ok, Err}
 use Rattle.disk_trait.specs.Disk.{State, IsHonest}
 use Rattle.disk_trait.specs.Half.{opposite_of}
 use Rattle.disk_trait.specs.declared.half.Half.{Half}
@@ -7,10 +7,7 @@ use Rattle.gate_log.specs.Layout.{Contents, LogRecord, with_record}
 use Rattle.lisp_object.specs.Object.{Object}
 use Rattle.lisp_object.specs.Datum.{object_of, is_proper}
 use Rattle.lisp_operators.specs.Evaluated.{IsArgument}
-use Rattle.lisp_operators.specs.declared.evaluated.Evaluated.{Evaluated}
 use Rattle.lisp_object.specs.declared.refusal.TheConstants.{DEVICE, LOG_FULL, NO_MEMORY, REOPEN}
-use Rattle.prevalence_store.specs.declared.failure.Failure.{Failure}
-use Rattle.prevalence_store.specs.declared.failure.Failure.TheVariants as failure
 use Rattle.session_words.specs.declared.mode.Mode.{Mode}
 use Rattle.prevalence_store.specs.declared.outcome.Outcome.{Outcome}
 use Rattle.prevalence_store.specs.declared.outcome.Outcome.TheVariants.{Accepted, Snapshotted, Refused}
@@ -23,20 +20,6 @@ use Rattle.user_macros.specs.Functions.{Functions}
 -- A store without a world answers nothing, until it is opened again.
 abbrev pub AsksToReopen : {D R : Type 0} → (old new : StoreView D R) → Outcome → Type 0
 AsksToReopen old new outcome = (outcome ≡ Refused REOPEN) × (new ≡ old)
-
--- ---- the forms that a call took, and how many of them it acknowledged
-
--- of a form that was read: its one form, if it was accepted and wrote, and if it was under way as the device failed
-abbrev pub taken_in : Mode → List ℕ → Result Evaluated Failure → List LogRecord
-taken_in mode text (Ok evaluated) = records_of evaluated.wrote mode text
-taken_in mode text (Err failure.DeviceFault) = logged mode text ∷ []
-taken_in mode text (Err (failure.Refused number)) = []
-taken_in mode text (Err failure.Full) = []
-taken_in mode text (Err failure.OutOfMemory) = []
-
-abbrev pub acknowledged_in : Mode → List ℕ → Result Evaluated Failure → ℕ
-acknowledged_in mode text (Ok evaluated) = length (records_of evaluated.wrote mode text)
-acknowledged_in mode text (Err failure) = 0
 
 -- ---- what is left of a form
 

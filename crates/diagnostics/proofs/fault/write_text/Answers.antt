@@ -1,5 +1,5 @@
 use Rattle.std.proofs.Common.{◌++◌, take, Some, ap, ◌∙◌, append_assoc, arith}
-use Rattle.prevalence_store.proofs.calls.StreamLemmas.{appended, piece_written}
+use Rattle.sessions.proofs.StreamLemmas.{appended, piece_written}
 use Rattle.diagnostics.proofs.fault.write_text.Goals as goal
 
 pub pieces-preserved : goal.pieces-preserved

@@ -18,7 +18,7 @@ use Rattle.message_session.proofs.Standing.{answers_stored, due_survives, none_a
 use Rattle.message_session.proofs.Stops.{untaken}
 use Rattle.plist_state.specs.State.{WorldState}
 use Rattle.prevalence_store.specs.Theorem.{Keeps}
-use Rattle.prevalence_store.specs.calls.Streams.{Writes, WritesPart}
+use Rattle.sessions.specs.Streams.{Writes, WritesPart}
 use Rattle.messages.specs.declared.request.Request.{Request}
 use Rattle.messages.specs.Calls.{AnswersRequests}
 use Rattle.messages.specs.Rounds.{told_in}

@@ -5,7 +5,7 @@ use Rattle.message_session.specs.Answers.{answered_bytes}
 use Rattle.message_session.proofs.Next.{read_begun}
 use Rattle.message_session.proofs.Standing.{none_at_rest, rests_begun}
 use Rattle.message_session.proofs.Told.{ends_told}
-use Rattle.prevalence_store.specs.calls.Streams.{Writes, WritesPart}
+use Rattle.sessions.specs.Streams.{Writes, WritesPart}
 use Rattle.message_session.proofs.serve.serve_messages.Goals as goal
 
 -- nothing is kept account of before the position

@@ -8,8 +8,7 @@ use Rattle.package_table.specs.Table.{Table}
 use Rattle.package_table.specs.Symbols.{are_there}
 use Rattle.plain_reader.specs.declared.plain.PlainForm.{PlainForm}
 use Rattle.prevalence_store.specs.meaning.Acceptance.{setting_in}
-use Rattle.prevalence_store.proofs.steps.Pendings.{called_setting}
-use Rattle.prevalence_store.proofs.steps.PlainForms.{plain_reads}
+use Rattle.prevalence_store.proofs.steps.Settings.{called_setting, plain_reads}
 use Rattle.prevalence_store.proofs.setting.begins.Goals as goal
 
 pub returns-clause-outcome : goal.returns-clause-outcome

@@ -1,11 +1,11 @@
 use Rattle.std.proofs.Common.{◌≡◌, ℕ, List, Option, Some, refl, subst, ◌∙◌}
 use Rattle.disk_trait.specs.Disk.{State}
 use Rattle.plist_state.specs.State.{WorldState, initial}
-use Rattle.prevalence_store.specs.calls.Serve.{ServesWanted}
+use Rattle.sessions.specs.Serve.{ServesWanted}
 use Rattle.prevalence_store.specs.calls.Store.{StoreView}
 use Rattle.session_words.specs.declared.mode.Mode.TheVariants.{Current}
-use Rattle.prevalence_store.specs.declared.outcome.Ended.{Ended}
-use Rattle.prevalence_store.specs.declared.outcome.Ended.TheVariants.{End}
+use Rattle.sessions.specs.declared.ending.Ended.{Ended}
+use Rattle.sessions.specs.declared.ending.Ended.TheVariants.{End}
 use Rattle.session_words.specs.declared.wanted.Wanted.{Wanted}
 use Rattle.user_macros.specs.Functions.{Functions}
 use Rattle.session_words.specs.declared.content.Content.TheVariants.{World}

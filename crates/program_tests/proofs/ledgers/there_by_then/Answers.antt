@@ -1,4 +1,4 @@
-use Rattle.prevalence_store.specs.calls.Account.{first_account}
+use Rattle.sessions.specs.Account.{first_account}
 use Rattle.session_words.specs.declared.mode.Mode.TheVariants.{Current}
 use Rattle.program_tests.proofs.ledgers.there_by_then.Goals as goal
 

@@ -1,11 +1,11 @@
 use Rattle.std.proofs.Common.{◌≡◌, ℕ, List, [], ◌++◌, Option, Some, true, rules, refl, sym, ap, subst, ◌∙◌}
 use Rattle.disk_trait.specs.Disk.{State}
 use Rattle.plist_state.specs.State.{WorldState}
-use Rattle.prevalence_store.specs.calls.Serve.{ServesWanted}
+use Rattle.sessions.specs.Serve.{ServesWanted}
 use Rattle.prevalence_store.specs.calls.Store.{StoreView}
-use Rattle.prevalence_store.specs.declared.outcome.Ended.{Ended}
-use Rattle.prevalence_store.specs.declared.outcome.Ended.TheVariants.{Unaccepted}
-use Rattle.prevalence_store.specs.declared.outcome.Place.{Place}
+use Rattle.sessions.specs.declared.ending.Ended.{Ended}
+use Rattle.sessions.specs.declared.ending.Ended.TheVariants.{Unaccepted}
+use Rattle.sessions.specs.declared.ending.Place.{Place}
 use Rattle.session_words.specs.declared.mode.Mode.TheVariants.{Current}
 use Rattle.session_words.specs.declared.wanted.Wanted.{Wanted}
 use Rattle.user_macros.specs.Functions.{Functions}

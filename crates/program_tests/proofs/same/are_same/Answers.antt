@@ -5,7 +5,7 @@ use Rattle.session_words.specs.declared.content.Content.TheVariants.{World}
 use Rattle.session_words.specs.declared.mode.Mode.{Mode}
 use Rattle.session_words.specs.declared.mode.Mode.TheVariants.{Current}
 use Rattle.prevalence_store.specs.meaning.Acceptance.{read_in}
-use Rattle.prevalence_store.specs.meaning.Answers.{Progress, one_form}
+use Rattle.sessions.specs.Answers.{Progress, one_form}
 use Rattle.store_laws.specs.Outcomes.{HasForms}
 use Rattle.user_macros.specs.Functions.{Functions}
 use Rattle.world_forms.specs.Forms.{forms, last_newline}

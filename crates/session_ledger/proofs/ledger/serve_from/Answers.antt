@@ -1,6 +1,6 @@
 use Rattle.std.proofs.Common.{◌∙◌, ℕ, List, [], ap, subst, sym}
-use Rattle.prevalence_store.specs.calls.Account.{first_account}
-use Rattle.prevalence_store.specs.calls.Serve.{ServesWanted}
+use Rattle.sessions.specs.Account.{first_account}
+use Rattle.sessions.specs.Serve.{ServesWanted}
 use Rattle.prevalence_store.specs.calls.Store.{StoreView}
 use Rattle.session_ledger.specs.Ledger.{Agrees, IsAccountOf, account_from}
 use Rattle.session_ledger.specs.Went.{Went}

@@ -1,7 +1,7 @@
 use Rattle.std.proofs.Common.{◌∙◌, Some, ap, sym}
 use Rattle.std.specs.Option.{option_map}
 use Rattle.plist_state.specs.State.{WorldState}
-use Rattle.prevalence_store.specs.calls.Account.{first_account}
+use Rattle.sessions.specs.Account.{first_account}
 use Rattle.session_ledger.proofs.Sending.{known_world}
 use Rattle.session_ledger.proofs.ledger.serve_recorded.Goals as goal
 

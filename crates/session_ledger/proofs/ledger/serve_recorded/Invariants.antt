@@ -1,5 +1,5 @@
 use Rattle.std.specs.Option.{option_map}
-use Rattle.prevalence_store.specs.calls.Account.{first_account}
+use Rattle.sessions.specs.Account.{first_account}
 use Rattle.session_ledger.proofs.ledger.serve_recorded.Given as goal
 
 -- the session begins over this store and input, and with this output

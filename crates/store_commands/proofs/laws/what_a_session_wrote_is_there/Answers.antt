@@ -1,5 +1,5 @@
 use Rattle.std.proofs.Common.{IsTrue, subst, sym}
-use Rattle.prevalence_store.specs.calls.Account.{first_account}
+use Rattle.sessions.specs.Account.{first_account}
 use Rattle.session_ledger.specs.Went.{disk_at}
 use Rattle.store_commands.proofs.laws.what_a_session_wrote_is_there.Goals as goal
 

@@ -1,6 +1,6 @@
 use Rattle.std.proofs.Common.{◌∙◌, ℕ, List, Option, IsSome, refl, subst, sym}
-use Rattle.prevalence_store.specs.calls.Account.{Account, first_account}
-use Rattle.prevalence_store.specs.calls.Serve.{ServesWanted}
+use Rattle.sessions.specs.Account.{Account, first_account}
+use Rattle.sessions.specs.Serve.{ServesWanted}
 use Rattle.plist_state.specs.State.{WorldState}
 use Rattle.session_ledger.specs.Went.{Went}
 use Rattle.store_commands.specs.Accounts.{BeginsAccount}

@@ -1,6 +1,6 @@
 use Rattle.std.proofs.Common.{◌∙◌, ℕ, List, ap, subst, sym}
 use Rattle.std.specs.Option.{option_map}
-use Rattle.prevalence_store.specs.calls.Account.{with_forms}
+use Rattle.sessions.specs.Account.{with_forms}
 use Rattle.prevalence_store.specs.calls.Store.{StoreView}
 use Rattle.session_ledger.specs.Ledger.{Agrees, IsAccountOf, account_from}
 use Rattle.session_ledger.proofs.Sending.{account_more, agrees_more, kept_more}

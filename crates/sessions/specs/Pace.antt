@@ -1,0 +1,158 @@
+-- When a session takes snapshots: after each so many forms that were logged; once the half in use has grown so many times; and for a
+-- record that has no room.
+use Rattle.std.specs.Prelude.{◌≡◌, ◌≢◌, ◌⊎◌, ℕ, ◌+◌, ◌*◌, ◌<◌, ◌≤◌, List, [], ◌∷◌, ◌++◌, length, Some}
+use Rattle.gate_log.specs.Layout.{LogRecord}
+use Rattle.lisp_object.specs.declared.refusal.TheConstants.{DEVICE, LOG_FULL, OUTPUT, NO_MEMORY}
+use Rattle.plist_state.specs.State.{WorldState}
+use Rattle.world_text.specs.Snapshot.{snapshot}
+use Rattle.session_words.specs.declared.mode.Mode.{Mode}
+use Rattle.sessions.specs.declared.ending.Ending.{Ending}
+use Rattle.sessions.specs.declared.ending.Ending.TheVariants.{End, Reader, Store}
+use Rattle.prevalence_store.specs.meaning.Acceptance.{after, read_in}
+use Rattle.user_macros.specs.Functions.{Functions}
+use Rattle.sessions.specs.Answers.{Progress, one_form}
+use Rattle.prevalence_store.specs.calls.Store.{StoreView}
+use Rattle.prevalence_store.specs.calls.Snapshot.{IsTooLargeFor}
+
+-- A snapshot comes after every so many forms that were logged, never if that is 0, and the next one after so many as are left; and
+-- once the half in use has grown so many times, never if that is 0.
+pub record Pace : Type 0 where
+  pub every : ℕ
+  pub left : ℕ
+  pub ratio : ℕ
+
+-- as a session begins
+abbrev pub first_pace : (every ratio : ℕ) → Pace
+first_pace every ratio = record { every = every; left = every; ratio = ratio }
+
+-- that form was counted
+pub record Counts (pace later : Pace) : Type 0 where
+  pub every : later.every ≡ pace.every
+  pub ratio : later.ratio ≡ pace.ratio
+  pub fewer : 1 < pace.left → later.left + 1 ≡ pace.left
+  pub again : pace.left ≤ 1 → later.left ≡ pace.every
+
+-- Of the half in use: its generation, how many records it holds, and how many bytes it takes and took before its first record.
+pub record Fill : Type 0 where
+  pub generation : ℕ
+  pub record_count : ℕ
+  pub size : ℕ
+  pub first_size : ℕ
+
+abbrev pub fill_of : {D R : Type 0} → StoreView D R → Fill
+fill_of store = record { generation = store.generation; record_count = store.record_count; size = store.size; first_size = store.first_size }
+
+-- it has at least 1 MiB, and so many times the bytes that it had before its first record
+abbrev pub HasGrown : ℕ → (size first_size : ℕ) → Type 0
+HasGrown ratio size first_size = (0 < ratio) × (1048576 ≤ size) × (ratio * first_size ≤ size)
+
+-- a snapshot is due after the form that is logged now, by the number of forms
+abbrev pub IsDueByCount : Pace → Type 0
+IsDueByCount pace = (pace.left ≤ 1) × (0 < pace.every)
+
+-- a snapshot is due after the form that is logged now, with which the half has come to this
+abbrev pub IsDue : Pace → Fill → Type 0
+IsDue pace fill = IsDueByCount pace ⊎ HasGrown pace.ratio fill.size fill.first_size
+
+-- with a record more
+abbrev pub longer_by : LogRecord → Fill → Fill
+longer_by entry fill = record { generation = fill.generation; record_count = fill.record_count + 1; size = fill.size + (6 + length entry.text); first_size = fill.first_size }
+
+-- the next half, with the text of this world
+abbrev pub begun_with : WorldState → Fill → Fill
+begun_with world fill = record { generation = fill.generation + 1; record_count = 0; size = 16 + length (snapshot world); first_size = 16 + length (snapshot world) }
+
+-- The form that this text begins with is accepted in this world, and a half of this size would pass its limit by its record.
+pub record IsOverIn (functions : Functions) (limit size : ℕ) (world : WorldState) (mode : Mode) (text : List ℕ) : Type 0 where
+  pub next : Progress
+  pub next_is : one_form functions world mode text (read_in functions world mode text) ≡ Some next
+  pub record_ : LogRecord
+  pub is_taken : next.taken ≡ record_ ∷ []
+  pub over : limit < size + (6 + length record_.text)
+
+-- ---- one form that was logged
+
+-- A form with this record was logged in this world. If the half had no room for it, a snapshot was taken first.
+pub record LogsWithRoom (limit : ℕ) (world : WorldState) (entry : LogRecord) (fill now : Fill) : Type 0 where
+  pub room : Fill
+  pub made : (room ≡ fill) ⊎ ((limit < fill.size + (6 + length entry.text)) × (room ≡ begun_with world fill))
+  pub fits : room.size + (6 + length entry.text) ≤ limit
+  pub now_is : now ≡ longer_by entry room
+
+-- What follows it, in the world that it left: a snapshot if one is due and there is a half for it, and else nothing.
+abbrev pub IsFollowed : ℕ → Pace → WorldState → Fill → Fill → Type 0
+IsFollowed limit pace world fill now =
+    ((IsDue pace fill → ⊥) × (now ≡ fill))
+    ⊎ ((IsDue pace fill × IsTooLargeFor limit fill.generation world × (now ≡ fill))
+    ⊎ (IsDue pace fill × (IsTooLargeFor limit fill.generation world → ⊥) × (now ≡ begun_with world fill)))
+
+module _ (functions : Functions) (limit : ℕ) where
+  -- a form with this record, and what follows it: it was taken in this world, and left the other
+  pub record PacesOne (world given : WorldState) (entry : LogRecord) (pace later : Pace) (fill now : Fill) : Type 0 where
+    pub given_is : after functions world (entry ∷ []) ≡ Some given
+    pub logged : Fill
+    pub logs : LogsWithRoom limit world entry fill logged
+    pub counts : Counts pace later
+    pub followed : IsFollowed limit pace given logged now
+
+  -- Forms with these records, from this world on, each with what follows it. A form that leaves no record changes nothing of it.
+  abbrev pub Paces : WorldState → List LogRecord → (pace later : Pace) (fill now : Fill) → Type 0
+  Paces world [] pace later fill now = (later ≡ pace) × (now ≡ fill)
+  Paces world (entry ∷ entries) pace later fill now =
+      (given : WorldState) × (counted : Pace) × (next : Fill)
+      × PacesOne world given entry pace counted fill next × Paces given entries counted later next now
+
+  -- ---- how far the snapshots have come as a session ends, which began in this world
+
+  module _ (world : WorldState) (pace : Pace) (fill : Fill) where
+    -- all of these forms were logged, each with what follows it
+    abbrev pub IsPaced : List LogRecord → Fill → Type 0
+    IsPaced taken now = (later : Pace) × Paces world taken pace later fill now
+
+    -- the last of them was logged, and what follows it is not there
+    pub record IsUnfollowed (taken : List LogRecord) (now : Fill) : Type 0 where
+      pub earlier : List LogRecord
+      pub last : LogRecord
+      pub parts : taken ≡ earlier ++ last ∷ []
+      pub first : WorldState
+      pub first_is : after functions world earlier ≡ Some first
+      pub later : Pace
+      pub before : Fill
+      pub paced : Paces world earlier pace later fill before
+      pub logs : LogsWithRoom limit first last before now
+
+    -- after them the half had no room for the next form, and a snapshot was taken
+    pub record HasMadeRoom (mode : Mode) (far : Progress) (now : Fill) : Type 0 where
+      pub later : Pace
+      pub before : Fill
+      pub paced : Paces world far.taken pace later fill before
+      pub next : IsOverIn functions limit before.size far.world mode far.rest
+      pub begun : now ≡ begun_with far.world before
+
+    module _ (mode : Mode) (forms : ℕ) (far : Progress) (lines : ℕ) (answered : Progress) (now : Fill) where
+      -- All are logged, each with what follows it. If the device failed, it was in a snapshot, as the next form has no room.
+      pub record EndsAfterAll (number : ℕ) : Type 0 where
+        pub paced : IsPaced far.taken now
+        pub other : number ≢ LOG_FULL
+        pub fault : number ≡ DEVICE → IsOverIn functions limit now.size far.world mode far.rest
+
+      -- the session ended in the answer to the last of them, or in the snapshot that is due after it
+      pub record EndsInLast (number : ℕ) : Type 0 where
+        pub unfollowed : IsUnfollowed far.taken now
+        pub why : (number ≡ OUTPUT) ⊎ ((number ≡ NO_MEMORY) ⊎ ((number ≡ DEVICE) × IsDue unfollowed.later now))
+
+      -- the next form has no room in the half that was begun for it, or memory ran out
+      pub record EndsInNewHalf (number : ℕ) : Type 0 where
+        pub made : HasMadeRoom mode far now
+        pub why : (number ≡ LOG_FULL) ⊎ (number ≡ NO_MEMORY)
+
+      -- the device failed as the last of them were logged; those before these were answered
+      pub record EndsInRecord (number : ℕ) : Type 0 where
+        pub device : number ≡ DEVICE
+        pub some_open : lines < forms
+        pub before : IsPaced answered.taken now ⊎ HasMadeRoom mode answered now
+
+      abbrev pub EndsInPace : Ending → Type 0
+      EndsInPace End = IsPaced far.taken now
+      EndsInPace (Reader number) = IsPaced far.taken now
+      EndsInPace (Store number) = EndsAfterAll number ⊎ (EndsInLast number ⊎ (EndsInNewHalf number ⊎ EndsInRecord number))

@@ -1,0 +1,86 @@
+-- What a form does that was read, in the world of a store: it is accepted, and stored if it wrote, or it is not, with its cause.
+use Rattle.std.specs.Prelude.{◌≡◌, ℕ, ◌+◌, ◌<◌, ◌≤◌, Bool, true, false, List, [], ◌∷◌, length, Option, Some, IsSome, Ok, Err, Result, IfErr, IfOk}
+use Rattle.disk_trait.specs.Disk.{State}
+use Rattle.disk_trait.specs.Half.{opposite_of}
+use Rattle.gate_log.specs.Layout.{LogRecord}
+use Rattle.lisp_object.specs.Object.{Object}
+use Rattle.lisp_object.specs.Datum.{object_of}
+use Rattle.form_eval.specs.Laws.{MayEvaluate}
+use Rattle.form_eval.specs.declared.read_form.ReadForm.{ReadForm}
+use Rattle.lisp_operators.specs.Evaluated.{done}
+use Rattle.lisp_operators.specs.Evaluation.{Done, Evaluation}
+use Rattle.lisp_operators.specs.declared.evaluated.Evaluated.{Evaluated}
+use Rattle.lisp_reading.specs.Reading.{form}
+use Rattle.plist_state.specs.State.{WorldState}
+use Rattle.prevalence_store.specs.declared.failure.Unlogged.{Unlogged}
+use Rattle.prevalence_store.specs.declared.failure.Unlogged.TheVariants as unlogged
+use Rattle.session_words.specs.declared.mode.Mode.{Mode}
+use Rattle.prevalence_store.specs.meaning.Acceptance.{logged, read_in, records_of, transacted}
+use Rattle.prevalence_store.specs.calls.Execute.{DeviceFails, Stores, SurvivesAs}
+use Rattle.prevalence_store.specs.calls.Store.{StoreView}
+use Rattle.user_macros.specs.Functions.{Functions}
+
+-- ---- why it is not
+
+-- evaluation refused it, with this number; its record would pass the limit of the half; the device failed; or there was no memory
+pub data Failure : Type 0 where
+  Refused : ℕ → Failure
+  Full : Failure
+  DeviceFault : Failure
+  OutOfMemory : Failure
+
+abbrev pub is_device : Failure → Bool
+is_device (Refused number) = false
+is_device Full = false
+is_device DeviceFault = true
+is_device OutOfMemory = false
+
+-- a form that was not logged was not accepted
+abbrev pub of_unlogged : Unlogged → Failure
+of_unlogged unlogged.Full = Full
+of_unlogged unlogged.DeviceFault = DeviceFault
+of_unlogged unlogged.OutOfMemory = OutOfMemory
+
+-- what was evaluated to this has written something
+abbrev pub HasWritten : Evaluation Object → Type 0
+HasWritten given = (done : Done Object) × (given ≡ Ok done) × (done.wrote ≡ true)
+
+-- Each failure with its cause, of a form whose evaluation gave this, in a half of this size and limit, by a record with a
+-- text of this length: evaluation refused it; or the form wrote, and the record does not fit; or it does, and the device failed.
+abbrev pub IsCause : Evaluation Object → (size limit length : ℕ) → Failure → Type 0
+IsCause given size limit length (Refused number) = given ≡ Err number
+IsCause given size limit length Full = HasWritten given × (limit < size + (6 + length))
+IsCause given size limit length DeviceFault = HasWritten given × (size + (6 + length) ≤ limit)
+IsCause given size limit length OutOfMemory = Unit {0}
+
+-- ---- the record that it has, and whether that is acknowledged
+
+-- of a form that was read: its one form, if it was accepted and wrote, and if it was under way as the device failed
+abbrev pub taken_in : Mode → List ℕ → Result Evaluated Failure → List LogRecord
+taken_in mode text (Ok evaluated) = records_of evaluated.wrote mode text
+taken_in mode text (Err DeviceFault) = logged mode text ∷ []
+taken_in mode text (Err (Refused number)) = []
+taken_in mode text (Err Full) = []
+taken_in mode text (Err OutOfMemory) = []
+
+abbrev pub acknowledged_in : Mode → List ℕ → Result Evaluated Failure → ℕ
+acknowledged_in mode text (Ok evaluated) = length (records_of evaluated.wrote mode text)
+acknowledged_in mode text (Err failure) = 0
+
+-- ---- what it does
+
+-- In the world of a store, which is open, a text is read as this form, between these offsets, and nothing comes after it. The form may
+-- be evaluated there.
+pub record IsFormIn (functions : Functions) (left : Option WorldState) (mode : Mode) (read : ReadForm) (start stop : ℕ) (text : List ℕ) : Type 0 where
+  pub is_open : IsSome left
+  pub reads : (world : WorldState) → left ≡ Some world → read_in functions world mode text ≡ form (object_of read.datum) start stop (length text)
+  pub may : (world : WorldState) → left ≡ Some world → MayEvaluate world.packages read
+
+-- What a form does that was read, in the world of the store: it was accepted, and stored if it wrote; or it was not, with its cause.
+pub record TakesForm (functions : Functions) {D R : Type 0} (state : D → State) (old new : StoreView D R) (mode : Mode) (text : List ℕ) (object : Object) (result : Result Evaluated Failure) : Type 0 where
+  pub accepted : (world : WorldState) → old.world ≡ Some world → IfOk result (λ evaluated.
+      (given : WorldState) × (transacted functions.names world object ≡ Ok (done evaluated given)) × Stores state old new evaluated.wrote mode text given)
+  pub cause : (world : WorldState) → old.world ≡ Some world → IfErr result (IsCause (transacted functions.names world object) old.size old.limit (length text))
+  pub unchanged : IfErr result (λ failure. is_device failure ≡ false → new ≡ old)
+  pub fault : IfErr result (λ failure. is_device failure ≡ true → DeviceFails state old new (opposite_of old.half))
+  pub survives : (world : WorldState) → SurvivesAs functions state old new world (taken_in mode text result) (acknowledged_in mode text result)
