@@ -149,7 +149,7 @@ where
 
 /// A session over an open store, as it is wanted, whose lines go to the output through a ledger.
 ///
-/// - `serves`: it serves as `Store::serve_wanted` does.
+/// - `serves`: it serves as `serve_wanted` of sessions does.
 /// - `went`: this went out of it.
 /// - `under_way`, `first`: an account that the output keeps itself is that of this session, as there.
 pub fn serve_recorded<D, M, I, O>(

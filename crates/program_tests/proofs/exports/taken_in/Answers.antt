@@ -29,4 +29,4 @@ returns g c = λ is_taken covered none first.
     at_the_end g.M.Meaning.Meaning.functions g.D.Disk.state s c.as_slice-reader.result.now (c.as_slice-reader.ensures.value ∙ c.in_ok-exported.ensures.forms)
     (λ wanted old new has held written ended mode served.
     c.export_is_taken.ensures.world g.M.Meaning.Meaning.functions s c.soundness.ensures.present covered none wanted old new has held written ended mode served)
-    _ c.args.store.now c.serve_wanted-ended.new.self _ _ _ _ refl (c.serve_wanted-ended.ensures.serves initial first) (c.is_at_end.ensures is_taken)
+    _ c.args.store.now c.serve_wanted-ended.new.store _ _ _ _ refl (c.serve_wanted-ended.ensures.serves initial first) (c.is_at_end.ensures is_taken)

@@ -11,12 +11,12 @@ same_bytes one one_old other other_old bytes first second one_none other_none =
 
 pub returns-clause-bytes : goal.returns-clause-bytes
 returns-clause-bytes g c = λ world known others_known.
-    let both = c.one_outcome.ensures.same g.M.Meaning.Meaning.functions _ _ c.args.one.now c.serve_wanted-ended.new.self c.args.other.now c.serve_wanted-others_ended.new.self world c.args.input.now _ _ _ _ _ _ _ _ refl
+    let both = c.one_outcome.ensures.same g.M.Meaning.Meaning.functions _ _ c.args.one.now c.serve_wanted-ended.new.store c.args.other.now c.serve_wanted-others_ended.new.store world c.args.input.now _ _ _ _ _ _ _ _ refl
     (c.serve_wanted-ended.ensures.serves world known) (search rules) (c.serve_wanted-others_ended.ensures.serves world others_known) (search rules) in
     same_bytes _ _ _ _ _ (both.2.output c.new-answers.result.items refl) (both.3.output c.new-others_answers.result.items refl) c.new-answers.ensures.items c.new-others_answers.ensures.items
 
 pub returns-clause-worlds : goal.returns-clause-worlds
 returns-clause-worlds g c = λ world known others_known.
-    let both = c.one_outcome.ensures.same g.M.Meaning.Meaning.functions _ _ c.args.one.now c.serve_wanted-ended.new.self c.args.other.now c.serve_wanted-others_ended.new.self world c.args.input.now _ _ _ _ _ _ _ _ refl
+    let both = c.one_outcome.ensures.same g.M.Meaning.Meaning.functions _ _ c.args.one.now c.serve_wanted-ended.new.store c.args.other.now c.serve_wanted-others_ended.new.store world c.args.input.now _ _ _ _ _ _ _ _ refl
     (c.serve_wanted-ended.ensures.serves world known) (search rules) (c.serve_wanted-others_ended.ensures.serves world others_known) (search rules) in
     both.3.after.left ∙ sym both.2.after.left

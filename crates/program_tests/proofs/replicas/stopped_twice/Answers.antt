@@ -34,7 +34,7 @@ pub returns-clause-bytes : goal.returns-clause-bytes
 returns-clause-bytes g c = λ world known others_known.
     let one : Stopped c.serve_wanted-ended.result = search rules in
     let two : Stopped c.serve_wanted-others_ended.result = search rules in
-    let both = c.groups_change_nothing.ensures.strict g.M.Meaning.Meaning.functions wanted c.args.one.now c.serve_wanted-ended.new.self c.args.other.now c.serve_wanted-others_ended.new.self world c.args.input.now
+    let both = c.groups_change_nothing.ensures.strict g.M.Meaning.Meaning.functions wanted c.args.one.now c.serve_wanted-ended.new.store c.args.other.now c.serve_wanted-others_ended.new.store world c.args.input.now
     _ _ _ one.0 one.1 _ _ _ two.0 two.1
     (at_refusal _ _ _ _ _ _ _ _ _ _ _ one (c.serve_wanted-ended.ensures.serves world known))
     (at_refusal _ _ _ _ _ _ _ _ _ _ _ two (c.serve_wanted-others_ended.ensures.serves world others_known)) in
@@ -44,7 +44,7 @@ pub returns-clause-worlds : goal.returns-clause-worlds
 returns-clause-worlds g c = λ world known others_known.
     let one : Stopped c.serve_wanted-ended.result = search rules in
     let two : Stopped c.serve_wanted-others_ended.result = search rules in
-    let both = c.groups_change_nothing.ensures.strict g.M.Meaning.Meaning.functions wanted c.args.one.now c.serve_wanted-ended.new.self c.args.other.now c.serve_wanted-others_ended.new.self world c.args.input.now
+    let both = c.groups_change_nothing.ensures.strict g.M.Meaning.Meaning.functions wanted c.args.one.now c.serve_wanted-ended.new.store c.args.other.now c.serve_wanted-others_ended.new.store world c.args.input.now
     _ _ _ one.0 one.1 _ _ _ two.0 two.1
     (at_refusal _ _ _ _ _ _ _ _ _ _ _ one (c.serve_wanted-ended.ensures.serves world known))
     (at_refusal _ _ _ _ _ _ _ _ _ _ _ two (c.serve_wanted-others_ended.ensures.serves world others_known)) in

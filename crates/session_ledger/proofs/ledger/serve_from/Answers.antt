@@ -31,7 +31,7 @@ pub returns-clause-serves : goal.returns-clause-serves
 returns-clause-serves g c = λ world known.
     let name = ap (λ v. v.name) c.ledger.view_is ∙ same_name g.B.Origin.first _ _ _ (c.requires.begins world known) c.serve_wanted-ended.ensures.first in
     let there = ap (λ v. v.output) (sym c.ledger.view_is) ∙ sym (c.output-1.given.1 (sym name)) in
-    subst (λ (o : g.row.O.Denot). ServesWanted g.M.Meaning.Meaning.functions g.D.Disk.state c.args.wanted c.args.store.now c.serve_wanted-ended.new.self world
+    subst (λ (o : g.row.O.Denot). ServesWanted g.M.Meaning.Meaning.functions g.D.Disk.state c.args.wanted c.args.store.now c.serve_wanted-ended.new.store world
     (g.I.Read.remaining c.args.input.now) (g.I.Read.remaining c.serve_wanted-ended.new.reader) (g.O.Recipient.contents c.args.output.now) (g.O.Recipient.contents o) c.serve_wanted-ended.result)
     there (c.serve_wanted-ended.ensures.serves world known)
 
@@ -41,7 +41,7 @@ returns-clause-went g c = λ world known.
     let state = g.D.Disk.state in
     let first = g.B.Origin.first in
     let contents = g.O.Recipient.contents in
-    let closed = c.serve_wanted-ended.new.self in
+    let closed = c.serve_wanted-ended.new.store in
     let is = c.requires.begins world known in
     let begun = first_account world c.args.wanted.mode (g.I.Read.remaining c.args.input.now) c.args.store.now.disk in
     let name = ap (λ v. v.name) c.ledger.view_is ∙ same_name first _ _ _ is c.serve_wanted-ended.ensures.first in
