@@ -46,7 +46,7 @@ module _ (functions : Functions) where
       → IsEmpty begun → read_in functions w mode own ≡ form x 0 (length own) (length own)
       → (entries_in new ≡ entries_to mode own answer) × (after functions w (entries_to mode own answer) ≡ Some v) × AllByRecursion IsLogRecord (entries_to mode own answer)
   reply_made mode w v own x begun new reply (Ok e) is none whole =
-      let made = one_record mode w v own x e whole is.0 in
+      let made = one_record functions mode w v own x e whole is.0 in
       (alone begun new (records_of e.wrote mode own) none is.2, made.0, made.1)
   reply_made mode w v own x begun new reply (Err (Refused number)) is none whole =
       (ap (λ (b : Batch). entries_in b) is.2 ∙ none_in begun none, ap (λ s. Some s) (sym is.1), tt)
@@ -81,7 +81,7 @@ module _ (functions : Functions) where
 
           takes_value : StoresBatch functions state old new w v (records_of e.wrote mode text) → TakesForm functions state old new mode text x (Ok e)
           takes_value stores = record {
-            accepted = λ u is. (v, ap (λ a. transacted functions.names a x) (sym (here u is)) ∙ valued, stored_one e.wrote v stores.logs);
+            accepted = λ u is. (v, ap (λ a. transacted functions.names a x) (sym (here u is)) ∙ valued, stored_one functions state sound old new mode text e.wrote v stores.logs);
             cause = λ u is. tt;
             unchanged = tt;
             fault = tt;
