@@ -15,6 +15,13 @@ use std::io::Write;
 /// How many bytes are told.
 const MOST_TOLD: u64 = 80;
 
+/// The last byte that is a character.
+const LAST_OF_ASCII: u8 = 127;
+
+/// What is told of a byte that is none.
+const PAST_ASCII: &[u8] =
+    b", which is past ASCII: the clients write such a character as a reference, like &#xFC;";
+
 /// Writes a line on a text that a session over this input could not read, with a place to be told: the number, what was refused, and where
 /// more is told of the number. Of a form that was read nothing is written, nor without memory for the line.
 pub fn write_unread<I: Places, W: Write>(
@@ -132,13 +139,28 @@ fn add_bytes<I: Places>(
     Ok(())
 }
 
-// Adds which byte it is, if that is known.
+// What comes before the number of a byte that is shown in the text, or that nothing stands before.
+fn words_before(is_shown: bool, is_alone: bool) -> &'static [u8] {
+    match (is_shown, is_alone) {
+        (true, _) => b"; its last byte is ",
+        (false, true) => b" the byte ",
+        (false, false) => b"; then comes the byte ",
+    }
+}
+
+// Adds which byte it is, if that is known: one that can be shown is the last of the text, and each other one comes after it.
 fn add_number(text: &mut Vec<u8>, byte: Option<u8>) -> Result<(), AllocError> {
     let Some(byte) = byte else {
         return Ok(());
     };
-    let mut number = ArrayString::<32>::new();
+    let is_alone = text.as_slice().last() == Some(&b':');
+    text.extend_from_slice(words_before(byte.is_ascii_graphic(), is_alone))?;
+    let mut number = ArrayString::<8>::new();
     // it has room for each number
-    let _ = write!(number, "; its last byte is {byte}");
-    text.extend_from_slice(number.as_bytes())
+    let _ = write!(number, "{byte}");
+    text.extend_from_slice(number.as_bytes())?;
+    if byte > LAST_OF_ASCII {
+        text.extend_from_slice(PAST_ASCII)?;
+    }
+    Ok(())
 }

@@ -129,6 +129,18 @@ fn has_operator(part: &Datum, name: &[u8]) -> bool {
     }
 }
 
+// Whether what a form adds is a constant, and no integer.
+fn adds_no_integer(part: &Datum) -> bool {
+    match item_at(part, 2) {
+        Some(added) => match added {
+            Datum::Rational(_) | Datum::Char(_) => true,
+            Datum::Text(_) | Datum::Vector(_) => true,
+            _ => false,
+        },
+        None => false,
+    }
+}
+
 // What is told after a form that adds to a property, where it was refused with a number: with a default the property may be missing.
 fn way_to_count(part: &Datum, number: u16, has_own: bool) -> &'static [u8] {
     let (Some(operator), Some(place)) = (item_at(part, 0), item_at(part, 1)) else {
@@ -136,6 +148,9 @@ fn way_to_count(part: &Datum, number: u16, has_own: bool) -> &'static [u8] {
     };
     if !is_counting(operator) || items_inside(place).is_empty() {
         return b"";
+    }
+    if number == ARGUMENT_KIND && adds_no_integer(part) {
+        return b"; what is added has to be an integer";
     }
     match (number, is_in_pazturrok(operator), has_own) {
         (ARGUMENT_KIND, true, _) => b"; (GET s i 0) is 0 where there is no property",
