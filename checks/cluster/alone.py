@@ -12,6 +12,7 @@ import linear
 from cluster import NODE, OWN, Alone, Client, connected, free_ports, has_readtables
 from refusals import ADD, LARGE, LOOK, NO_FRAMES, small_program
 from waits import LONG, Late, Worker, until
+from watched import figures
 
 PYTHON = os.path.join(os.path.dirname(os.path.abspath(__file__)), "..", "..", "clients", "python", "src")
 PROCESSES, FORMS = 30, 20
@@ -304,6 +305,26 @@ def old(folder, program):
         node.end()
 
 
+def lasting(folder, program):
+    """What the store would still have after a crash follows what it has answered, long before a name is old; and while nothing comes nothing is written."""
+    path = os.path.join(folder, "monitor")
+    node = begun(folder, program, keep=60, options=("--monitor", path))
+    try:
+        Client(node.places).request(b"do", ADD)
+        until(lambda: told_places(path)[0] > 1 == len(set(told_places(path))), "the figures have what lasts", 45)
+        before = told_places(path)
+        time.sleep(7)
+        return [] if told_places(path) == before else [f"a node that is asked nothing goes from {before} to {told_places(path)}"]
+    finally:
+        node.end()
+
+
+def told_places(path):
+    """The last number that the store has answered, and the one that it would still have after a crash."""
+    told = figures(path)
+    return [told["pazturrok_node_revision"], told["pazturrok_node_lasting_revision"]]
+
+
 def refused_words(folder, program):
     """A second node of one folder, a place where something is, words that do not go together: each a sentence, and the first node goes on."""
     node = begun(folder, program)
@@ -375,6 +396,6 @@ def interrupted(folder, program):
 LONG_ONES = ("alone by port", "alone kills")
 PARTS = {
     "alone": blows, "alone kills": kills, "alone by port": blows_by_port, "alone thirty": thirty, "alone small": small, "alone torn": torn,
-    "alone put back": put_back, "alone old": old, "alone words": refused_words, "alone strangers": strangers,
+    "alone put back": put_back, "alone old": old, "alone lasting": lasting, "alone words": refused_words, "alone strangers": strangers,
     "alone interrupted": interrupted,
 }  # fmt: skip

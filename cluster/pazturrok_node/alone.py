@@ -4,6 +4,7 @@ from __future__ import annotations
 
 import asyncio
 import logging
+import time
 
 from .journal import Journal
 from .log import BehindError, Entry, FullError, Keeper
@@ -60,10 +61,12 @@ class AloneKeeper(Keeper):
 
 
 class Sweeper:
-    """Deletes what is old from the journal, and looks for room where there was none."""
+    """Deletes what is old from the journal, and looks for room where there was none. Has the store write its position now and then, where something has
+    come since, so that it is known what the store would still have after a crash."""
 
-    def __init__(self, journal: Journal, node: Node, marker: Marker) -> None:
-        self._journal, self._node, self._marker = journal, node, marker
+    def __init__(self, journal: Journal, node: Node, marker: Marker, pause: float) -> None:
+        self._journal, self._node, self._marker, self._pause = journal, node, marker, pause
+        self._marked = time.monotonic()
 
     async def run(self) -> None:
         await self._node.is_admitted.wait()
@@ -73,5 +76,7 @@ class Sweeper:
             if self._journal.has_old:
                 await self._journal.trim(self._node.lasting)
             self._marker.heed()
-            if self._journal.has_old and self._node.position > max(self._node.lasting, self._node.unread_mark):
+            is_due = self._journal.has_old or time.monotonic() - self._marked > self._pause
+            if is_due and self._node.position > max(self._node.lasting, self._node.unread_mark):
+                self._marked = time.monotonic()
                 self._marker.mark()

@@ -224,7 +224,7 @@ async def serve_alone(asked: argparse.Namespace) -> int:
     node = Node(journal, AloneKeeper(journal), program_of(asked), asked.store_silence)
     appender = Appender(node)
     marker = Marker(node, appender, asked.program, folder)
-    await serve(asked, until_signal(), node, appender, Sweeper(journal, node, marker).run())
+    await serve(asked, until_signal(), node, appender, Sweeper(journal, node, marker, asked.keep / 10).run())
     return 0
 
 
