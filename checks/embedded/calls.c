@@ -64,7 +64,7 @@ static void expect_calls_that_compare(pazturrok_store store) {
     int is_set = 1;
     EXPECT(pazturrok_compare_and_set(store, "APPLE", "PRICE", object("7"), object("8"), &is_set) == 11 && is_set == 0);
     EXPECT(pazturrok_take(store, "QUEUE", "JOBS", &answer, &length) == 11);
-    EXPECT(pazturrok_execute(store, PAZTURROK_RESCUE, "(MAKE-PACKAGE \"PAZTURROK\")", 26, NULL, NULL) == 0);
+    EXPECT(pazturrok_operators(store) == 0);
     EXPECT(pazturrok_compare_and_set(store, "APPLE", "PRICE", object("7"), object("(8 \"x\")"), &is_set) == 0 && is_set == 1);
     EXPECT(pazturrok_compare_and_set(store, "APPLE", "PRICE", object("7"), object("9"), &is_set) == 0 && is_set == 0);
     EXPECT(pazturrok_compare_and_set(store, "APPLE", "PRICE", object("(8 \"x\")"), object("7"), &is_set) == 0 && is_set == 1);
@@ -101,6 +101,28 @@ static void properties(void) {
     EXPECT(pazturrok_plist(store, NULL, &answer, &length) == PAZTURROK_MISUSE);
     EXPECT(pazturrok_get(0, "APPLE", "PRICE", &answer, &length) == PAZTURROK_REOPEN);
     EXPECT(pazturrok_close(store) == 0);
+}
+
+static uint64_t records_of(pazturrok_store store) {
+    pazturrok_figures figures;
+    return pazturrok_figures_of(store, &figures) == 0 ? figures.records : UINT64_MAX;
+}
+
+/* The functions are known by their plain names under any readtable and package; what is there already is no fault; a name that is taken is told. */
+static void operators(void) {
+    pazturrok_store store = opened("operators"), other = opened("conflict");
+    EXPECT(execute(store, "(EQL 1 1)", NULL) == 31);
+    EXPECT(answers(store, "(MAKE-PACKAGE \"SHOP\")", "\"SHOP\"") && execute(store, "(IN-PACKAGE \"SHOP\")", NULL) == 0);
+    EXPECT(pazturrok_operators(store) == 0 && records_of(store) == 5);
+    EXPECT(pazturrok_operators(store) == 0 && records_of(store) == 5);
+    EXPECT(answers(store, "(COMMON-LISP:IN-PACKAGE \"CL-USER\")", "\"COMMON-LISP-USER\""));
+    EXPECT(answers(store, "(IF (< 1 2) (CAR '(7)) 8)", "7"));
+    EXPECT(answers(store, "(SET-SYNTAX-FROM-CHAR #\\( #\\;)", "T") && pazturrok_operators(store) == 0);
+    EXPECT(pazturrok_close(store) == 0 && pazturrok_operators(store) == PAZTURROK_REOPEN && pazturrok_operators(0) == PAZTURROK_REOPEN);
+    EXPECT(answers(other, "'CAR", "CAR") && pazturrok_operators(other) == 37);
+    EXPECT(answers(other, "(PAZTURROK::CAR '(7))", "7") && execute(other, "(EQL 1 1)", NULL) == 31);
+    EXPECT(pazturrok_operators(other) == 37);
+    EXPECT(pazturrok_close(other) == 0);
 }
 
 static void bad_arguments(void) {
@@ -480,6 +502,7 @@ int main(int count, char **words) {
     forms();
     modes();
     properties();
+    operators();
     bad_arguments();
     stale_numbers();
     long_texts();

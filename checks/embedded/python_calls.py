@@ -127,6 +127,26 @@ class Embedded(unittest.TestCase):
         store.answer('(IN-PACKAGE "COMMON-LISP-USER")')
         self.assertEqual(store.execute("'A"), Symbol("A"))
 
+    def test_operators(self) -> None:
+        store, other = self.store(), self.store("other")
+        with self.assertRaises(RefusedError):
+            store.execute("(EQL 1 1)")
+        store.operators()
+        records = store.figures().records
+        store.operators()
+        self.assertEqual((3, 3), (records, store.figures().records))
+        self.assertEqual([Symbol("T"), 7], [store.execute("(EQL 1 1)"), store.execute("(CAR '(7))")])
+        other.execute("(SETF (GET 'CAR 'PRICE) 1)")
+        with self.assertRaises(RefusedError) as refused:
+            other.operators()
+        self.assertEqual(37, refused.exception.number)
+        self.assertIn("as PAZTURROK::CAR", str(refused.exception))
+        self.assertEqual([7, 1], [other.execute("(PAZTURROK::CAR '(7))"), other.get("CAR", "PRICE")])
+        with EmbeddedMessageStore(os.path.join(self.folder, "messages")) as messages:
+            messages.operators()
+            messages.operators()
+            self.assertEqual(7, messages.do("(CAR '(7))"))
+
     def test_snapshots(self) -> None:
         store = self.store()
         store.execute("(SETF (GET 'A 'B) 7)")
@@ -287,7 +307,7 @@ class Embedded(unittest.TestCase):
         store, feed = self.store(), self.feed()
         for inner in (
             lambda: store.execute("1"), lambda: store.execute_all(["1", "2"]), lambda: store.answer("1"),
-            store.snapshot, store.figures,
+            store.snapshot, store.figures, store.operators,
             store.close, store.reopen,
         ):  # fmt: skip
             self.assertEqual(self.within(lambda: store.execute("(LIST 1111)"), inner), [1111])

@@ -15,10 +15,8 @@
              (handler-case (funcall function)
                (refused (refusal) (list (refused-number refusal)
                                         (and (search "open it once by `pazturrok run DIR --operators`" (princ-to-string refusal)) t))))))
-  (dolist (form '((make-package "PAZTURROK")
-                  (export (list (intern "EQUAL" "PAZTURROK") (intern "CAR" "PAZTURROK") (intern "CDR" "PAZTURROK")) "PAZTURROK")
-                  (use-package "PAZTURROK")))
-    (pazturrok-client::put-form store form))
+  (expect "functions" '(t t) (list (add-operators store) (add-operators store)))
+  (expect "of the functions" 7 (pazturrok-client::put-form store '(if (< 1 2) (car '(7)) 8)))
   (expect "what is compared and set" '(t nil 8)
     (list (compare-and-set store 'apple 'price 7 8) (compare-and-set store 'apple 'price 7 9) (property store 'apple 'price)))
   (setf (property store 'queue 'jobs) '("first" nil third))
@@ -42,6 +40,25 @@
   (dolist (form '("(COMMON-LISP:IN-PACKAGE \"COMMON-LISP-USER\")" "(SETF *READ-BASE* 10.)"))
     (feed-form store form))
   (expect "where it was set" 20 (feed-form store "(GET 'PLUM 'PRICE)")))
+
+(define-check functions-of-the-file ()
+  (with-open-file (file (asdf:system-relative-pathname "pazturrok-client" "../../lisp/operators.lisp"))
+    (let ((names (loop for line = (read-line file nil) while line
+                       unless (char= (char line 0) #\;)
+                         append (loop for start = (search "PAZTURROK::" line) then (search "PAZTURROK::" line :start2 end)
+                                      while start
+                                      for end = (position-if (lambda (character) (find character " )")) line :start start)
+                                      collect (subseq line (+ start 11) end)
+                                      while end))))
+      (expect "functions" names pazturrok-client::*function-names*))))
+
+(define-check functions-where-a-name-is-taken ()
+  (with-store (store *program* (subfolder "taken"))
+    (send-text store "(SETF (GET 'CAR 'PRICE) 1)")
+    (expect "the refusal" '(37 t)
+      (handler-case (add-operators store)
+        (refused (refusal) (list (refused-number refusal) (and (search "as PAZTURROK::CAR" (princ-to-string refusal)) t)))))
+    (expect "with its package" 7 (send-text store "(PAZTURROK::CAR '(7))"))))
 
 (define-check properties-by-a-pipe ()
   (with-store (store *program* (subfolder "properties"))

@@ -3,6 +3,7 @@
 from __future__ import annotations
 
 import os
+import re
 import subprocess
 import sys
 import time
@@ -10,7 +11,8 @@ from fractions import Fraction
 from typing import Union
 
 from pazturrok import MessageStore, NodeStore, RefusedError, Store, StoreError, Symbol, keyword, quote
-from support import LONG, PROGRAM, StoreTest
+from pazturrok.functions import NAMES
+from support import LONG, OPERATORS, PROGRAM, StoreTest
 
 NODE = os.path.join(os.path.dirname(os.path.abspath(__file__)), "..", "..", "cluster", "pazturrok-node")
 WORK = """
@@ -46,7 +48,9 @@ class Calls(StoreTest):
             with self.assertRaises(RefusedError) as refused:
                 store.compare_and_set("APPLE", "PRICE", 7, Symbol("X", "NO-PACKAGE"))
             self.assertEqual((11, None), (refused.exception.number, refused.exception.hint))
-        store._put_form([Symbol("MAKE-PACKAGE"), "PAZTURROK"])
+        for _ in range(2):
+            store.operators()
+        self.assertEqual(7, (store.execute if isinstance(store, Store) else store.do)("(IF (< 1 2) (CAR '(7)) 8)"))
         self.assertTrue(store.compare_and_set("APPLE", "PRICE", 7, 8))
         self.assertFalse(store.compare_and_set("APPLE", "PRICE", 7, 9))
         self.assertTrue(store.compare_and_set("APPLE", "WEIGHT", [], [1, "two"]))
@@ -81,6 +85,18 @@ class Calls(StoreTest):
 
     def test_pipe(self) -> None:
         self.has_calls(self.store())
+
+    def test_functions_of_a_store_with_such_a_name(self) -> None:
+        store = self.store()
+        store.put("CAR", "PRICE", 1)
+        with self.assertRaises(RefusedError) as refused:
+            store.operators()
+        self.assertEqual((37, True), (refused.exception.number, "as PAZTURROK::CAR" in str(refused.exception)))
+        self.assertEqual([7, 1], [store.execute("(PAZTURROK::CAR '(7))"), store.get("CAR", "PRICE")])
+
+    def test_functions_are_those_of_the_file(self) -> None:
+        with open(OPERATORS, encoding="ascii") as file:
+            self.assertEqual(re.findall(r"PAZTURROK::([^ )\n]+)", file.read()), list(NAMES))
 
     def test_messages(self) -> None:
         with MessageStore(os.path.join(self.folder, "messages"), PROGRAM, time_limit=LONG) as store:

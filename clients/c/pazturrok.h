@@ -99,6 +99,11 @@ int pazturrok_execute(pazturrok_store store, int mode, const char *text, size_t 
 int pazturrok_execute_all(pazturrok_store store, int mode, const char *const *texts, const size_t *lengths, size_t count,
                           pazturrok_outcome *outcomes);
 
+/* Makes the functions that compare and compute known to the store, by their plain names in COMMON-LISP-USER, as `run DIR --operators`
+   does; a second time nothing changes. 37 where that package has a symbol of such a name of its own: the functions are there then by
+   their names with the package, as PAZTURROK::CAR, and so are plain names that clash with none, after (IMPORT 'PAZTURROK::CAR). */
+int pazturrok_operators(pazturrok_store store);
+
 /* The property of a symbol, as pazturrok_execute gives it: NIL where it has none. Names are of COMMON-LISP-USER, as they are printed,
    with a zero at their end: the symbol apple of a form is "APPLE". */
 int pazturrok_get(pazturrok_store store, const char *symbol, const char *indicator, const char **answer, size_t *answer_length);
@@ -107,7 +112,7 @@ int pazturrok_get(pazturrok_store store, const char *symbol, const char *indicat
 int pazturrok_put(pazturrok_store store, const char *symbol, const char *indicator, const char *value, size_t length);
 
 /* Sets the property of a symbol to another object where it is EQUAL to `old`, of which NIL stands for none, and tells in `*is_set` whether
-   it did. The store has to have the package PAZTURROK, as `run DIR --operators` makes it: else it is 11. */
+   it did. The store has to have the package PAZTURROK, as pazturrok_operators makes it: else it is 11. */
 int pazturrok_compare_and_set(pazturrok_store store, const char *symbol, const char *indicator, pazturrok_object old, pazturrok_object wanted,
                               int *is_set);
 

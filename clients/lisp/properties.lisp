@@ -22,6 +22,34 @@
   (put-form store `(setf (get ',symbol ',indicator) ',value))
   value)
 
+(defparameter *function-names*
+  '("EQL" "EQUAL" "NOT" "CONSP" "SYMBOLP" "STRINGP" "INTEGERP" "CHARACTERP" "VECTORP" "=" "/=" "<" "<=" ">"
+    ">=" "MIN" "MAX" "+" "-" "*" "FLOOR" "MOD" "STRING=" "STRING<" "SYMBOL-NAME" "CONS" "CAR" "CDR" "NTH"
+    "APPEND" "MEMBER" "ASSOC" "ADJOIN" "LENGTH" "REVERSE" "REMOVE" "VECTOR" "SVREF" "AND" "OR" "COND" "WHEN"
+    "UNLESS" "PROG1" "ASSERT" "FIND-SYMBOL" "LIST-ALL-PACKAGES" "SYMBOLS-WITH" "DECF" "POP" "FORGET-NAMES")
+  "The functions that lisp/operators.lisp makes known. INCF with a default is none of them, as its plain name is that of another operator.")
+
+(defconstant +package-exists+ 35)
+(defconstant +name-conflict+ 37)
+
+(defun add-operators (store)
+  "Makes the functions that compare and compute known to STORE, a store or a feed, by their plain names, as `run DIR --operators` does. A second
+time nothing changes. Where COMMON-LISP-USER has a symbol of such a name, REFUSED is signalled with the number 37; the functions are there then
+by their names with the package, as PAZTURROK::CAR."
+  (let ((refusals '()))
+    (dolist (form `((make-package "PAZTURROK")
+                    (export (list ,@(loop for name in *function-names* collect `(intern ,name "PAZTURROK"))) "PAZTURROK")
+                    (use-package "PAZTURROK" "COMMON-LISP-USER")))
+      (handler-case (put-form store form)
+        (refused (refusal)
+          (when (= (refused-number refusal) +name-conflict+)
+            (setf (refused-hint refusal) "a symbol of such a name is there already: write a function with its package, as PAZTURROK::CAR"))
+          (unless (= (refused-number refusal) +package-exists+)
+            (push refusal refusals)))))
+    (when refusals
+      (error (first (last refusals))))
+    t))
+
 (defconstant +unknown-operator+ 31)
 
 (defun put-form-with-functions (store form)
@@ -30,20 +58,20 @@
                             (when (= (refused-number condition) +unknown-operator+)
                               (setf (refused-hint condition)
                                     (if (node-feed-p store)
-                                        "the store does not know the functions: send the forms of lisp/operators.lisp to a node, once"
-                                        "the store does not know the functions: open it once by `pazturrok run DIR --operators`, or with :options '(\"--operators\")"))))))
+                                        "the store does not know the functions: call ADD-OPERATORS, or send the forms of lisp/operators.lisp to a node, once"
+                                        "the store does not know the functions: open it once by `pazturrok run DIR --operators`, or call ADD-OPERATORS"))))))
     (put-form store form)))
 
 (defun compare-and-set (store symbol indicator old new)
   "Sets the property of a symbol in STORE where it is EQUAL to OLD, and tells whether it did; NIL stands for none. The store has to know
-EQUAL by its plain name, as `run DIR --operators` makes it known."
+EQUAL by its plain name, as ADD-OPERATORS makes it known."
   (put-form-with-functions store `(if (equal (get ',symbol ',indicator) ',old)
                                       (progn (setf (get ',symbol ',indicator) ',new) t)
                                       nil)))
 
 (defun take (store symbol indicator &optional default)
   "Takes the first item away from the list that is the property of a symbol in STORE, and gives it; or DEFAULT, where the list is empty.
-The store has to know CAR and CDR by their plain names, as `run DIR --operators` makes them known."
+The store has to know CAR and CDR by their plain names, as ADD-OPERATORS makes them known."
   (put-form-with-functions store `(if (get ',symbol ',indicator)
                                       (car (list (car (get ',symbol ',indicator))
                                                  (setf (get ',symbol ',indicator) (cdr (get ',symbol ',indicator)))))

@@ -13,6 +13,7 @@ from .library import EXISTING, RATIO, Figures, Library, calls_of, checked_ratio,
 from .messages import MessageStore
 from .naming import NAMING_QUESTION
 from .printer import check_characters
+from .properties import with_way_around
 from .store import Link, Outcome, State, Store, changes_naming
 
 Given = TypeVar("Given")
@@ -96,6 +97,16 @@ class EmbeddedStore(Store):
             error.concern(text, None)
             raise error
         return answer
+
+    @alone
+    def operators(self) -> None:
+        """Makes the functions that compare and compute known to the store, by the library's own call; see Store.operators."""
+        self._make_ready()
+        line = self._call(lambda library: library.operators())
+        self._ask_naming(None)
+        refusal = refusal_of(line) if line else None
+        if refusal:
+            raise with_way_around(RefusedError(*refusal))
 
     @alone
     def snapshot(self) -> None:

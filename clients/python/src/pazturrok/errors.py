@@ -6,10 +6,10 @@ import contextlib
 from collections.abc import Iterator, Sequence
 from typing import Any
 
-WAY_TO_FUNCTIONS = "open it once by `pazturrok run DIR --operators`, or as a Store with options=['--operators']"
+WAY_TO_FUNCTIONS = "open it once by `pazturrok run DIR --operators`, or call operators()"
 """How a store gets the package of the functions that compare and compute."""
 
-WAY_TO_FUNCTIONS_OF_NODES = "send the forms of lisp/operators.lisp to a node, once (docs/run/machines.md)"
+WAY_TO_FUNCTIONS_OF_NODES = "send the forms of lisp/operators.lisp to a node, once (docs/run/machines.md), or call operators()"
 """The same of the store of nodes: one that another program wrote to is refused by its node."""
 
 SHOWN = 100

@@ -75,6 +75,8 @@ class Calls:
         self.do.argtypes = [store, ctypes.POINTER(_Message), size, ctypes.POINTER(_Outcome)]
         self.ask = library.pazturrok_ask
         self.ask.argtypes = [store, text, size, answer, length]
+        self.operators = library.pazturrok_operators
+        self.operators.argtypes = [store]
         self.snapshot = library.pazturrok_snapshot
         self.snapshot.argtypes = [store]
         self.snapshot_ratio = library.pazturrok_snapshot_ratio
@@ -205,6 +207,11 @@ class Library:
             self._calls.fault_of(self._store, ctypes.byref(fault))
             raise self._calls.fault(fault)
         return f"! {number} {self._calls.name(number)}"
+
+    def operators(self) -> str | None:
+        """Makes the functions that compare and compute known. Gives the line of a refusal, or None."""
+        number = self._calls.operators(self._store)
+        return self._refusal(number) if number else None
 
     def snapshot(self) -> str | None:
         """Takes a snapshot. Gives the line of a refusal, or None."""

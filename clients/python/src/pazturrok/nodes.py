@@ -213,7 +213,7 @@ class NodeStore(Shared, Properties):
     ) -> bool:
         """Sets the property of a symbol where it is EQUAL to the old value, and tells whether it did; `name` is that of `do`.
 
-        NIL stands for no property. The store has to have the package PAZTURROK, as `run DIR --operators` makes it.
+        NIL stands for no property. The store has to have the package PAZTURROK, as operators() makes it.
         """
         form = set_form(symbol, indicator, old, new)
         with telling_way(form, WAY_TO_FUNCTIONS_OF_NODES):

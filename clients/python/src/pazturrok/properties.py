@@ -7,6 +7,7 @@ from collections.abc import Iterator
 from typing import Union
 
 from .errors import WAY_TO_FUNCTIONS, MalformedAnswerError, RefusedError
+from .functions import NAME_CONFLICT, PACKAGE_EXISTS, WAY_AROUND_CONFLICT, forms_of_functions
 from .printer import packages_of, printed
 from .values import FUNCTIONS, NIL, Symbol, Value, quote
 
@@ -61,6 +62,22 @@ class Properties:
         """The value of a form that writes nothing."""
         raise NotImplementedError
 
+    def operators(self) -> None:
+        """Makes the functions that compare and compute known to the store, by their plain names, as `run DIR --operators` does.
+
+        A second time nothing changes. Where COMMON-LISP-USER has a symbol of such a name, RefusedError with the number
+        37 is raised, and the functions are there by their names with the package, as PAZTURROK::CAR.
+        """
+        refusals = []
+        for form in forms_of_functions():
+            try:
+                self._put_form(form)
+            except RefusedError as error:
+                if error.number != PACKAGE_EXISTS:
+                    refusals.append(error)
+        if refusals:
+            raise with_way_around(refusals[0])
+
     def get(self, symbol: Name, indicator: Name, default: Value | None = None) -> Value:
         """The property of a symbol, or the default, or NIL, where it has none."""
         return self._look_form([*place_of(symbol, indicator), quote(NIL if default is None else default)])
@@ -71,7 +88,7 @@ class Properties:
 
     def compare_and_set(self, symbol: Name, indicator: Name, old: Value, new: Value) -> bool:
         """Sets the property of a symbol where it is EQUAL to the old value, and tells whether it did; NIL stands for none.
-        The store has to have the package PAZTURROK, as `run DIR --operators` makes it."""
+        The store has to have the package PAZTURROK, as operators() makes it."""
         form = set_form(symbol, indicator, old, new)
         with telling_way(form):
             return self._put_form(form) != NIL
@@ -80,7 +97,7 @@ class Properties:
         """Takes the first item away from the list that is the property of a symbol, and gives it.
 
         Where the list is empty it gives the default, or NIL. The store has to have the package PAZTURROK, as
-        `run DIR --operators` makes it.
+        operators() makes it.
         """
         form = take_form(symbol, indicator, default)
         with telling_way(form):
@@ -92,6 +109,13 @@ class Properties:
         if not isinstance(found, list) or len(found) % 2:
             raise MalformedAnswerError(printed(found), "it is no property list")
         return list(zip(found[::2], found[1::2]))
+
+
+def with_way_around(error: RefusedError) -> RefusedError:
+    """A refusal of the functions, which says what can be done about a name that is taken."""
+    if error.number == NAME_CONFLICT:
+        error.hint = WAY_AROUND_CONFLICT
+    return error
 
 
 def symbol_of(name: Name) -> Symbol:
