@@ -125,7 +125,7 @@ install_program() {
     done
     put "$top/pazturrok" "$prefix/bin/pazturrok" 755
     put_all "$prefix/libexec/pazturrok" "$top/tools/pages.awk" "$top/tools/turns.sh" "$top/tools/check_run.sh" "$top/tools/show_html.sh" "$top/tools/world.html" "$top/tools/uninstall.sh"
-    put_all "$prefix/share/pazturrok" "$top/lisp/operators.lisp"
+    put_all "$prefix/share/pazturrok" "$top/lisp/operators.lisp" "$top/lisp/load-export.lisp"
     put "$room/pages" "$prefix/share/pazturrok/pages.txt" 644
     put "$room/manual" "$prefix/share/man/man1/pazturrok.1" 644
     put "$room/forms" "$prefix/share/man/man7/pazturrok-forms.7" 644

@@ -1,0 +1,11 @@
+; A store that knows the operators, and whose packages have names that another Lisp has in COMMON-LISP.
+(MAKE-PACKAGE "P")
+(MAKE-PACKAGE "SHOP")
+(SETF (GET 'P::SORT 'OWN) 1)
+(EXPORT 'P::SORT "P")
+(USE-PACKAGE "P")
+(SETF (GET 'SHOP::CAR 'PRICE) '(CAR SHOP::|a b| #\Space #(1 -1/2) "te\"xt" :KEY))
+(USE-PACKAGE '("P" "COMMON-LISP") "SHOP")
+(SETF (GET 'CAR 'PRICE) 7)
+(SETF (GET 'APPLE 'LIST) 'PAZTURROK::INCF)
+(SETF (GET 'APPLE 'FORGET) 'FORGET-NAMES)
