@@ -24,7 +24,8 @@ def in_words(seconds: float) -> str:
 class Forecast:
     """How many seconds are left of work in steps.
 
-    What each step takes is known in seconds of a processor. How many of these a second has, the pace, is seen as it goes, and a step that took longer or
+    What each step takes is known in seconds of a processor, of a machine that does nothing else. Beside other work, which shares caches and cores, it
+    takes longer, and `length` is how many times so long. How many such seconds a second has, the pace, is seen as it goes, and a step that took longer or
     shorter than it should is taken as a measure of those after it. What is told falls. It rises only where the machine has got so much busier that
     it would be wrong by half. Where a step takes longer than it may, or gets next to nothing of a processor, nothing is told.
     """
@@ -38,8 +39,8 @@ class Forecast:
     # The pace is that of the last so many looks, and under the least nothing is told.
     WINDOW, LEAST_PACE = 60, 0.03
 
-    def __init__(self, steps: Sequence[float]) -> None:
-        self.steps = steps
+    def __init__(self, steps: Sequence[float], length: float = 1.0) -> None:
+        self.steps, self.length = steps, length
         self.done = [0.0] * len(steps)
         self.step, self.used = 0, 0.0
         self.seen: Deque[Tuple[float, float]] = collections.deque(maxlen=self.WINDOW)
@@ -55,7 +56,7 @@ class Forecast:
     def left(self) -> Optional[float]:
         """The seconds that are left, or None where nobody knows."""
         before, wanted = sum(self.done[: self.step]), sum(self.steps[: self.step])
-        length = min(2.0, max(0.5, before / wanted)) if wanted else 1.0
+        length = min(2.0, max(0.5, before / wanted)) if wanted else self.length
         of_step = length * self.steps[self.step]
         if self.done[self.step] > self.LATE * of_step:
             return None
@@ -70,6 +71,26 @@ class Forecast:
         return self.told
 
 
+class Load:
+    """What others take of a machine: how many of them there are for each processor."""
+
+    # So much longer a step is at most where each processor has more than one at work: 1.55 and 1.66 times were seen.
+    LONGER = 0.6
+
+    def __init__(self, at_work: float, processors: int) -> None:
+        self.busy, self.share = at_work / processors, min(1.0, processors / (at_work + 1))
+        self.length = 1 + self.LONGER * min(1.0, self.busy)
+
+    def told(self, steps: Sequence[float]) -> str:
+        """How long all steps take."""
+        work = sum(steps) * self.length
+        minutes = f"about {round(work / 60)} minutes of a processor"
+        if self.busy < 1:
+            return f"{minutes}, more beside other work"
+        others = f"{self.busy:.0f} other{'s' if self.busy >= 1.5 else ''} at work for each processor"
+        return f"{minutes}, so about {in_words(work / self.share)} where this machine has {others}, as now"
+
+
 class Progress:
     """Tells how far it is: at a terminal on one line, else now and then."""
 
@@ -81,16 +102,14 @@ class Progress:
         """Of what; `children` tells how many seconds of a processor went into what runs now."""
         self.what, self.children = what, children
         self.step, self.began = 0, time.monotonic()
-        self.forecast = Forecast([wanted for _, wanted in self.STEPS])
+        self.load = Load(os.getloadavg()[0], len(os.sched_getaffinity(0)))
+        self.forecast = Forecast([wanted for _, wanted in self.STEPS], self.load.length)
         self.done = threading.Event()
         self.is_terminal = sys.stderr.isatty()
         self.teller = threading.Thread(target=self.tell, daemon=True)
 
     def __enter__(self) -> "Progress":
-        busy = os.getloadavg()[0] / len(os.sched_getaffinity(0))
-        beside = "more beside other work" if busy < 1 else f"and longer now, as this machine has {busy:.0f} other{'s' if busy >= 1.5 else ''} at work for each processor"
-        minutes = round(sum(self.forecast.steps) / 60)
-        say(f"compiling {self.what} without proof, once: about {minutes} minutes of a processor, {beside}")
+        say(f"compiling {self.what} without proof, once: {self.load.told(self.forecast.steps)}")
         self.teller.start()
         return self
 
