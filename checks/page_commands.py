@@ -13,7 +13,9 @@ Every command of the program with its options, in the words of its help. `checks
 
 An option that is not given is off, but for `--snapshot-ratio`, which is 10 then. **`--existing`** is an option of every command but `check`: the command refuses a folder that holds no store, and makes nothing. `show`, `info`, `log` and `backup` take it too, and nothing changes by it: a command that only looks makes nothing in any case. The script `./pazturrok` gives `--existing` to `snapshot`, `upgrade`, `export`, `dump` and `verify` in any case, so `run` alone makes a store.
 
-`--help` after a command has its help with an example; `--version` tells the version of the program and of the files that it writes. `./pazturrok help GET` tells what the operator `GET` does, with an example, and `./pazturrok help 31` what the number 31 of a refusal means and what to do; so of each [operator](../use/operators.md) and each [number](../use/refusals.md). In a session at a terminal the lines `help GET` and `(help 31)` tell the same. Two variables of the environment count: `PAZTURROK_MEMORY` ([Memory](operating.md#memory)) and `PAZTURROK_REASONS` ([what a refusal is about](../use/refusals.md#what-a-refusal-is-about)). A third, `PAZTURROK_PAGES`, names a file with what the pages say, and is set by the script. There is no file of settings.
+`--help` after a command has its help with an example; `--version` tells the version of the program and of the files that it writes. `./pazturrok help GET` tells what the operator `GET` does, with an example, and `./pazturrok help 31` what the number 31 of a refusal means and what to do; so of each [operator](../use/operators.md) and each [number](../use/refusals.md). In a session at a terminal the lines `help GET` and `(help 31)` tell the same. `./pazturrok operators` lists the operators, and so does `help operators`.
+
+Four variables of the environment count: `PAZTURROK_MEMORY` ([Memory](operating.md#memory)), `PAZTURROK_REASONS` ([what a refusal is about](../use/refusals.md#what-a-refusal-is-about)), `PAZTURROK_HISTORY` ([At a terminal](operating.md#at-a-terminal)), and `PAZTURROK_PAGES`, which names a file with what the pages say, and is set by the script. There is no file of settings.
 """
 
 
@@ -71,6 +73,22 @@ With `--json` the commands `show`, `log`, `info`, `verify` and `check` write obj
 
 A value is the text that Lisp prints, in a string: `7` is `"7"`, and the text `"a"` is `"\\"a\\""`. So each integer is exact. Every other number is a number of JSON, and from 2^53 on a string of its digits, as many readers keep no more than 53 bits. A control character, and a byte over 126, is written by its number, as `\\u000A`. Nothing else is escaped but the quotation mark and the backslash.
 
+With `--values` `show` writes the same objects, in which `value` is a value of JSON:
+
+    ./pazturrok show store APPLE --values
+    {"symbol":"APPLE","home":"COMMON-LISP-USER"}
+    {"symbol":"APPLE","indicator":"PRICE","value":7}
+    {"symbol":"APPLE","indicator":"NAME","value":"red"}
+
+| Value | In JSON |
+|---|---|
+| an integer | a number; from 2^53 on `{"integer":"9007199254740992"}` |
+| a text | a string. A reference as `&#xFC;`, which the clients write for a character past ASCII, is that character |
+| a list; one that does not end in `NIL` | an array; `{"list":[1,2],"tail":3}` |
+| `T`; `NIL`, which is the empty list | `true`; `[]` |
+| a ratio; a vector; a character | `{"ratio":"1/2"}`; `{"vector":[1,2]}`; `{"character":"a"}` |
+| a symbol | `{"symbol":"SHOP::APPLE"}`, as it is printed |
+
 Text for Prometheus, once a minute, from files alone:
 
     ./pazturrok info DIR --files --json | jq -r 'to_entries[] | select(.key != "half") | "pazturrok_\\(.key | gsub("-"; "_")) \\(.value)"'
@@ -117,7 +135,11 @@ def options_of_script(command):
             "--operators": (of_name["OPERATORS"], "and then starts the program"),
             "--wait SECONDS": (of_name["WAIT"], "and then starts the program"),
         },
-        "show": {"--html FILE": (of_name["HTML"], "by looks of the program")},
+        "show": {
+            "--html FILE": (of_name["HTML"], "by looks of the program"),
+            "--values": (of_name["VALUES"], "by a look of the program"),
+        },
+        "backup": {"--at N": (of_name["AT"], "by looks of the program")},
         "check": {"--run": (of_name["RUN"], "by sessions of the program")},
     }.get(command, {})
 

@@ -22,14 +22,14 @@ _pazturrok() {
         export) words='--existing --data --help' ;;
         dump) words='--existing --at --help' ;;
         verify) words='--existing --json --help' ;;
-        show) words='--existing --package --indicator --like --forms --json --count --help --html' ;;
+        show) words='--existing --package --indicator --like --forms --json --count --help --html --values' ;;
         info) words='--existing --files --json --help' ;;
         log) words='--existing --from --places --json --help' ;;
-        backup) words='--existing --help' ;;
+        backup) words='--existing --help --at' ;;
         check) words='--store --json --help --run' kind=-f ;;
     esac
     if [ "$COMP_CWORD" -eq 1 ]; then
-        words='run snapshot upgrade export dump verify show info log backup check help compile build install release uninstall --help --version'
+        words='run snapshot upgrade export dump verify show info log backup check help operators compile build install release uninstall --help --version'
         kind=
     fi
     case ${COMP_WORDS[COMP_CWORD - 1]} in

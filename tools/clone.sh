@@ -195,6 +195,13 @@ is_command() {
     [ "$(commands | grep -Fx -e "$1")" = "$1" ]
 }
 
+# Refuses what is no command.
+refuse_command() {
+    # shellcheck disable=SC2046 # a word each
+    found=$(nearest "$1" $(commands) $(own_words))
+    refuse "there is no command '$1'; ${found:+did you mean $found? }those of the program are $(commands | paste -sd ' ' -)"
+}
+
 # The help of a command: what it does, how it is called, and the end of its help, by their name in the sources. What its options are, the program
 # itself tells.
 help_of_command() {
@@ -206,6 +213,7 @@ help_of_command() {
         run) printf '\n%s\n' "$OWN_HELP" ;;
         check) printf '\n%s\n' "$OWN_HELP_OF_CHECK" ;;
         show) printf '\n%s\n' "$OWN_HELP_OF_SHOW" ;;
+        backup) printf '\n%s\n' "$OWN_HELP_OF_BACKUP" ;;
     esac
 }
 
@@ -224,7 +232,7 @@ answer_from_texts() {
     case $command in
         '' | help | -*) write_help "$(text_of PROGRAM_HELP && printf '\n%s\n' "$PAGES_HELP" && words_of_clone)" ;;
     esac
-    is_command "$command" || refuse "there is no command '$command'; those of the program are $(commands | paste -sd ' ' -)"
+    is_command "$command" || refuse_command "$command"
     texts_of=$command
     case " $* " in *' --messages '*) texts_of=messages ;; esac
     write_help "$(help_of_command "$command" "$texts_of")"
@@ -269,7 +277,7 @@ look_at_command() {
     case ,$1,$*, in
         ,-h,* | ,--help,* | ,help,* | ,-V,* | ,--version,* | *' --help'[\ ,]* | *' -h'[\ ,]*) answer_from_texts "$@" ;;
     esac
-    is_command "$1" || refuse "there is no command '$1'; those of the program are $(commands | paste -sd ' ' -)"
+    is_command "$1" || refuse_command "$1"
     [ "$1" != run ] || look_at_words "$@"
 }
 

@@ -1,9 +1,9 @@
-# What the pages say of an operator or of the number of a refusal, as text for a terminal; or of all, as a manual page.
+# What the pages say of an operator or of the number of a refusal, as text for a terminal; the list of all operators; or all, as a manual page.
 #
 # usage: awk -v asked=GET -f pages.awk docs/use/operators.md docs/use/refusals.md docs/run/operating.md
 #
-# `asked` is the name of an operator or of a variable in upper case, a number, `manual`, or `all`: of each operator, variable and number a line
-# with @ and its name, and then what is told of it. The status is 1 if the pages have none such.
+# `asked` is the name of an operator or of a variable in upper case, a number, `OPERATORS`, `manual`, or `all`: of each operator, variable and number,
+# and of the list, a line with @ and its name, and then what is told of it. The status is 1 if the pages have none such.
 
 # The kinds of tables, by their first lines.
 BEGIN {
@@ -51,6 +51,16 @@ function plain(cell) {
     return cell
 }
 
+# A cell with the words of its links alone.
+function without_links(cell) {
+    gsub(/\001/, "|", cell)
+    while (match(cell, /\[[^]]*\]\([^)]*\)/))
+        cell = substr(cell, 1, RSTART - 1) substr(cell, RSTART + 1, index(substr(cell, RSTART), "](") - 2) substr(cell, RSTART + RLENGTH)
+    gsub(/`/, "", cell)
+    gsub(/^ +| +$/, "", cell)
+    return cell
+}
+
 # Whether a name is among the words of a form, by itself or with its package.
 function has_word(form, name,    words, count, at) {
     gsub(/[()\[\]',]/, " ", form)
@@ -77,7 +87,7 @@ function has_head(form, name) {
 # Sets `best`, and the example that is: of the examples the first that has the operator at its head and is accepted is the best one, worth 3. One
 # that is refused is worth 2, and one that has the name elsewhere 1.
 function choose_example(    at, worth) {
-    best = 0
+    best = best_at = 0
     for (at = 1; at <= example_count; at++) {
         worth = 0
         if (has_head(examples[at], asked) || (has_head(examples[at], "PAZTURROK::" asked) && !is_operator(forms_before[at])))
@@ -86,10 +96,46 @@ function choose_example(    at, worth) {
             worth = 1
         if (worth > best) {
             best = worth
-            example = examples[at]
-            answer = answers[at]
+            best_at = at
         }
     }
+}
+
+# The names in a form of which another form may depend: those of quoted symbols, of packages and of keywords, each between spaces.
+function names_in(form,    found, name, parts, count, at) {
+    found = " "
+    while (match(form, /'[A-Z][A-Z:-]*|[ (]:[A-Z]+|"[A-Z]+"|IN-PACKAGE [A-Z]+/)) {
+        name = substr(form, RSTART, RLENGTH)
+        form = substr(form, RSTART + RLENGTH)
+        gsub(/IN-PACKAGE|['" (]/, "", name)
+        count = split(name, parts, ":")
+        for (at = 1; at <= count; at++)
+            if (parts[at] != "")
+                found = found parts[at] " "
+    }
+    return found
+}
+
+# Whether a form names what another form names.
+function shares_name(one, other,    names, count, at) {
+    count = split(names_in(one), names, " ")
+    for (at = 1; at <= count; at++)
+        if (index(names_in(other), " " names[at] " "))
+            return 1
+    return 0
+}
+
+# Whether a form changes what is there.
+function changes(form) {
+    return form ~ /\((PAZTURROK::)?(SETF|INCF|DECF|PUSH|POP|REMPROP|INTERN|EXPORT|IMPORT|USE-PACKAGE|COPY-READTABLE|(MAKE|SET|IN)-[A-Z-]+) /
+}
+
+# Tells the example that was chosen, in the session that it is of: before it come the forms that it depends on.
+function tell_example(    at) {
+    print "In a session:"
+    for (at = begins[best_at]; at <= best_at; at++)
+        if (at == best_at || (substr(answers[at], 1, 1) != "!" && changes(examples[at]) && shares_name(examples[best_at], examples[at])))
+            print "  " examples[at] "\n  " answers[at]
 }
 
 # Tells a text behind so many spaces, in lines that a terminal has room for.
@@ -136,6 +182,7 @@ FNR == 1 {
     count = split(line, cells, "|")
     head = ""
     for (at = 2; at < count; at++) {
+        raw[at] = cells[at]
         cells[at] = plain(cells[at])
         head = head (at > 2 ? "|" : "") cells[at]
     }
@@ -143,8 +190,15 @@ FNR == 1 {
 
 is_head {
     is_head = 0
-    kind = kinds[head]
+    kind = cells[2] == "For" ? "group" : kinds[head]
+    first_example = example_count + 1
     next
+}
+
+kind == "group" {
+    purposes[++group_count] = without_links(raw[2])
+    in_each[group_count] = without_links(raw[3])
+    after_operators[group_count] = without_links(raw[4])
 }
 
 kind == "operator" {
@@ -173,6 +227,7 @@ kind == "function" {
 kind == "example" {
     examples[++example_count] = cells[2]
     answers[example_count] = cells[3]
+    begins[example_count] = first_example
     # of the operators only those that the tables before it have are known
     forms_before[example_count] = form_count
 }
@@ -266,10 +321,27 @@ function tell_operator(    at, found, text, of_functions, of_package) {
         else if (of_package)
             tell("PAZTURROK::" asked FULL_NAME, 2)
     }
-    if (best)
-        print (found ? "\n" : "") "In a session:\n  " example "\n  " answer
+    if (best) {
+        if (found)
+            print ""
+        tell_example()
+    }
     print "\nEach form is also refused as docs/use/operators.md has it. `help NUMBER` tells of a refusal."
     return 1
+}
+
+# The names of all operators, by what they are for.
+function tell_groups(    at) {
+    print "In each store:"
+    for (at = 1; at <= group_count; at++)
+        if (in_each[at] != "")
+            tell(purposes[at] ": " in_each[at], 2)
+    print "\nAfter run DIR --operators, or with PAZTURROK:: before the name in a store that has the package:"
+    for (at = 1; at <= group_count; at++)
+        if (after_operators[at] != "")
+            tell(purposes[at] ": " after_operators[at], 2)
+    print "\n`help GET` tells of one of them; docs/use/operators.md has all."
+    return group_count > 0
 }
 
 # The forms of operators or of functions, and what their letters stand for, as a part of a manual page.
@@ -330,8 +402,10 @@ function tell_variables(form) {
     }
 }
 
-# Tells of each number, operator and variable, behind a line with its name.
+# Tells of each number, operator and variable, and the list, behind a line with its name.
 function tell_all(    at) {
+    print "@ OPERATORS"
+    tell_groups()
     for (at = 1; at <= number_count; at++) {
         print "@ " numbers[at]
         tell_refusal(at)
@@ -348,6 +422,8 @@ END {
         exit !tell_manual()
     if (asked == "all")
         exit !tell_all()
+    if (asked == "OPERATORS")
+        exit !tell_groups()
     for (at = 1; at <= number_count; at++)
         if (asked == numbers[at] "") {
             tell_refusal(at)

@@ -9,7 +9,7 @@ find_folder() {
     for word in "$@"; do
         count=$((count + 1))
         case $place,$before,$word in
-            *,--snapshot-every,* | *,--snapshot-ratio,* | *,--wait,* | *,--at,* | *,--from,* | *,--package,* | *,--indicator,* | *,--like,* | *,--store,*) word= ;;
+            *,--snapshot-every,* | *,--snapshot-ratio,* | *,--wait,* | *,--at,* | *,--from,* | *,--package,* | *,--indicator,* | *,--like,* | *,--store,* | *,--html,*) word= ;;
             *,*,-*) ;;
             0,*) folder=$word place=$count ;;
         esac
@@ -195,6 +195,7 @@ start_session() {
     [ -z "$is_round" ] || leave_round "$folder"
     tell_holder "$@"
     name_pages "$@"
+    edit_lines "$@"
     exec "$program" "$@"
 }
 

@@ -1,0 +1,209 @@
+"""A session at a terminal whose lines can be edited, and come back by the arrow up, in later sessions too.
+
+usage: lines.py HISTORY PAGES PROGRAM WORD..
+
+The program gets a terminal of its own, so it does there what it does at any terminal. What it writes is handed on byte by byte. A line that it asks
+for is read with its prompt, kept in the file HISTORY, and handed over. Where a form begins, lines as `help`, `help GET` and `(help 31)` are answered
+from the file PAGES, and the store gets nothing of them; without that file they go to the program too. Where Python has no readline the program is
+started as it is.
+"""
+import os
+import pty
+import re
+import signal
+import sys
+import termios
+import tty
+from typing import Dict, List, Optional
+
+try:
+    import readline
+except ImportError:
+    os.execv(sys.argv[3], sys.argv[3:])
+
+PROMPT, INNER_PROMPT = b"> ", b". "
+
+MOST_LINES = 1000
+"""So many lines are kept at least, and twice as many at most."""
+
+RLWRAP = b" For editing lines: rlwrap before the command."
+"""What the program says of a terminal, which is not so here."""
+
+HELP = """(SETF (GET 'APPLE 'PRICE) 7) sets a property, (GET 'APPLE 'PRICE) gives it, (SYMBOL-PLIST 'APPLE) gives all of a symbol.
+An answer that begins with ! is a refusal: help 31 tells of the number 31. help operators lists the operators, help GET tells of GET.
+Beside this session the command with the word help has all commands. The arrow up has the lines before, Ctrl-R finds one.
+Ctrl-D at the beginning of a line ends. Each answer is in the store by then.
+"""
+
+QUESTION = re.compile(r"\s*\(?\s*(?:\?|(?::?help|describe)(?:\s+'?(\S+?))?)\s*\)?\s*", re.IGNORECASE)
+
+EDITED = (termios.VERASE, termios.VKILL, termios.VWERASE, termios.VREPRINT, termios.VLNEXT, termios.VEOL, termios.VEOL2)
+"""The characters by which a terminal edits a line itself."""
+
+
+def pages_of(path: str) -> Dict[str, str]:
+    """What the pages say of each word."""
+    try:
+        with open(path, encoding="utf-8", errors="replace") as file:
+            parts = re.split(r"^@ (.*)\n", file.read(), flags=re.M)
+    except OSError:
+        return {}
+    return dict(zip(parts[1::2], parts[2::2]))
+
+
+class History:
+    """The lines of this session and of those before it, in a file that nobody else may read."""
+
+    def __init__(self, path: str) -> None:
+        self.path = path
+        readline.parse_and_bind("set disable-completion on")
+        readline.set_auto_history(False)
+        try:
+            with open(path, encoding="utf-8", errors="surrogateescape") as file:
+                lines = file.read().split("\n")[:-1]
+        except OSError:
+            return
+        if len(lines) > 2 * MOST_LINES:
+            self.write("".join(line + "\n" for line in lines[-MOST_LINES:]), os.O_TRUNC)
+        for line in lines[-MOST_LINES:]:
+            readline.add_history(line)
+
+    def add(self, line: str) -> None:
+        """Keeps a line at once, as the session may end in any way; but not the same line twice, one after the other."""
+        last = readline.get_history_item(readline.get_current_history_length())
+        if line.strip() and line != last:
+            readline.add_history(line)
+            self.write(line + "\n", os.O_APPEND)
+
+    def write(self, text: str, how: int) -> None:
+        """A session without a file that takes its lines goes on."""
+        try:
+            with open(os.open(self.path, os.O_WRONLY | os.O_CREAT | how, 0o600), "w", encoding="utf-8", errors="surrogateescape") as file:
+                file.write(text)
+        except OSError:
+            pass
+
+
+def terminal_for_lines() -> List[int]:
+    """A terminal that hands over whole lines as they are, and shows nothing; Ctrl-D ends what is typed there."""
+    master, slave = pty.openpty()
+    tty.setraw(slave, termios.TCSANOW)
+    mode = termios.tcgetattr(slave)
+    mode[3] |= termios.ICANON
+    for character in EDITED:
+        mode[6][character] = b"\0"
+    termios.tcsetattr(slave, termios.TCSANOW, mode)
+    return [master, slave]
+
+
+def started(words: List[str], slave: int) -> int:
+    """The process of the program, with this terminal."""
+    process = os.fork()
+    if process == 0:
+        signal.signal(signal.SIGINT, signal.SIG_DFL)
+        signal.signal(signal.SIGPIPE, signal.SIG_DFL)
+        for stream in (0, 1, 2):
+            os.dup2(slave, stream)
+        os.closerange(3, 256)
+        try:
+            os.execv(words[0], words)
+        finally:
+            os._exit(127)
+    os.close(slave)
+    return process
+
+
+class Session:
+    """The program, of which what it writes is shown, and which gets the lines that are typed."""
+
+    def __init__(self, master: int, history: History, pages: Dict[str, str]) -> None:
+        self.master, self.history, self.pages = master, history, pages
+        self.unsent: List[str] = []
+        self.is_greeted = False
+
+    def serve(self) -> None:
+        """Goes on until the program has ended."""
+        held = b""
+        for data in iter(self.read, b""):
+            whole, mark, held = (held + data).rpartition(b"\n")
+            self.write(whole + mark)
+            if held in (PROMPT, INNER_PROMPT):
+                self.hand_over(held)
+                held = b""
+        self.write(held)
+
+    def read(self) -> bytes:
+        """What the program writes next; nothing once it has ended."""
+        try:
+            return os.read(self.master, 65536)
+        except OSError:
+            return b""
+
+    def write(self, text: bytes) -> None:
+        if text and not self.is_greeted:
+            self.is_greeted = True
+            text = text.replace(RLWRAP, b"")
+        while text:
+            text = text[os.write(1, text) :]
+
+    def hand_over(self, prompt: bytes) -> None:
+        """Hands over the next line, which is typed, or was pasted with the one before it."""
+        if not self.unsent:
+            line = self.typed(prompt)
+            while line is not None and self.is_answered(prompt, line):
+                line = self.typed(prompt)
+            if line is None:
+                os.write(self.master, b"\x04")
+                return
+            self.unsent = line.split("\n")
+        os.write(self.master, self.unsent.pop(0).encode(sys.stdin.encoding, "surrogateescape") + b"\n")
+
+    def typed(self, prompt: bytes) -> Optional[str]:
+        """A line as it is typed; None after Ctrl-D."""
+        try:
+            line = input(prompt.decode("ascii"))
+        except EOFError:
+            self.write(b"\n")
+            return None
+        for part in line.split("\n"):
+            self.history.add(part)
+        return line
+
+    def is_answered(self, prompt: bytes, line: str) -> bool:
+        """Answers a line that asks for help with what the pages have of it."""
+        asked = QUESTION.fullmatch(line)
+        if not asked or prompt != PROMPT or not self.pages:
+            return False
+        word = (asked[1] or "").upper().rpartition("::")[2]
+        none = f"there is no operator and no number {asked[1]}; help operators lists the operators\n"
+        self.write((self.pages.get(word, none) if word else HELP).encode("utf-8"))
+        return True
+
+
+def ended(process: int) -> int:
+    """How the program has ended. One that was interrupted ends by that."""
+    while True:
+        try:
+            return os.waitpid(process, 0)[1]
+        except KeyboardInterrupt:
+            os.kill(process, signal.SIGINT)
+
+
+def main() -> int:
+    history, pages, *words = sys.argv[1:]
+    sys.stdin.reconfigure(errors="surrogateescape")
+    kept = History(history)
+    master, slave = terminal_for_lines()
+    process = started(words, slave)
+    try:
+        Session(master, kept, pages_of(pages)).serve()
+    except KeyboardInterrupt:
+        os.kill(process, signal.SIGINT)
+    status = ended(process)
+    if os.WIFSIGNALED(status):
+        signal.signal(os.WTERMSIG(status), signal.SIG_DFL)
+        os.kill(os.getpid(), os.WTERMSIG(status))
+    return os.WEXITSTATUS(status)
+
+
+sys.exit(main())
