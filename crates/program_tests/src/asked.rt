@@ -26,12 +26,7 @@ pub enum Ask<'a> {
     Run(&'a [Step<'a>]),
 }
 
-fn answers_to(
-    alloc: Global,
-    store: &mut TestStore,
-    every: u64,
-    input: &[u8],
-) -> (Ending, Vec<u8>) {
+fn answers_to(alloc: Global, store: &mut TestStore, every: u64, input: &[u8]) -> (Ending, Vec<u8>) {
     let (mut reader, mut writer) = (input, Vec::new(alloc));
     let ending = serve(store, &mut reader, &mut writer, Mode::Current, every);
     (ending, writer)
