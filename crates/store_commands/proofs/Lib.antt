@@ -2,6 +2,7 @@ pub mod Accounts
 pub mod AtTerminal
 pub mod FolderLaws
 pub mod Reports
+pub mod RowCalls
 pub mod SessionLaws
 pub mod Snapshots
 pub mod Statuses

@@ -7,11 +7,12 @@ use Rattle.plist_state.specs.State.{WorldState}
 use Rattle.sessions.specs.declared.ending.Ended.{Ended}
 use Rattle.sessions.specs.declared.ending.Ended.TheVariants.{End, Store, Unaccepted, Unreadable}
 use Rattle.session_words.specs.declared.wanted.Wanted.{Wanted}
+use Rattle.prevalence_store.specs.Theorem.{Call}
 use Rattle.sessions.specs.Account.{first_account}
 use Rattle.prevalence_store.specs.calls.Open.{IsOpened}
 use Rattle.sessions.specs.Serve.{ServesWanted}
 use Rattle.prevalence_store.specs.calls.Store.{StoreView}
-use Rattle.session_ledger.specs.Went.{Went}
+use Rattle.session_ledger.specs.Went.{Went, calls_in}
 use Rattle.user_macros.specs.Functions.{Functions}
 use Rattle.store_commands.specs.Session.{half_limit}
 
@@ -58,6 +59,20 @@ module _ (functions : Functions) (wanted : Wanted) {D R : Type 0} (state : D →
       × Earlier others old mid world between had begun held before
       × ServesOut mid new between begun there before written ended
       × Drops there has
+
+  -- The sessions as calls of the store: of each one for each time that its lines went out, and a last one.
+  abbrev pub calls_before : (others : List Ended) (old new : StoreView D R) (world left : WorldState) (had has held written : Option (List ℕ))
+      → Earlier others old new world left had has held written → List (Call D)
+  calls_before [] old new world left had has held written earlier = []
+  calls_before (ended ∷ others) old new world left had has held written earlier =
+      calls_before others old earlier.0 world earlier.1 had earlier.2 held earlier.4 earlier.5
+      ++ calls_in functions state (first_account earlier.1 wanted.mode earlier.2 earlier.0.disk) new earlier.7.1
+
+  abbrev pub calls_in_turn : (old new : StoreView D R) (world : WorldState) (had has held written : Option (List ℕ)) (ended : Ended)
+      → InTurn old new world had has held written ended → List (Call D)
+  calls_in_turn old new world had has held written ended turn =
+      calls_before turn.0 old turn.1 world turn.2 had turn.3 held turn.5 turn.6
+      ++ calls_in functions state (first_account turn.2 wanted.mode turn.3 turn.1.disk) new turn.7.1
 
   -- The store that a disk holds was opened with these macro functions, it served sessions in a row, and it was closed: this is its
   -- disk.

@@ -12,12 +12,16 @@ ghost use Rattle.session_words.specs.declared.wanted.Wanted.{Wanted};
 ghost use Rattle.store_commands.specs.Accounts.{GoesOn};
 ghost use Rattle.store_commands.specs.Folders.{HoldsStore, OpensStore};
 ghost use Rattle.store_commands.specs.Session.{IsSession};
+ghost use Rattle.store_commands.specs.Sessions.{AreSessions, calls_in_turn};
 ghost use Rattle.store_laws.specs.Batches.{MeansCalls};
+ghost use Rattle.store_laws.specs.Sessions.{AreCalls};
 ghost use Rattle.user_macros.specs.Functions.{Functions};
 
 use crate::folders::Folders;
 use disk_trait::Disk;
+use prevalence_store::headline;
 use session_ledger::what_went_out_is_there;
+use store_laws::{batches, sessions};
 
 /// The disk that is opened where a store has to exist: if it is honest, one of both files is an open half.
 pub fn existing_stores_are_open<R: Folders>()
@@ -51,4 +55,20 @@ pub fn what_a_session_wrote_is_there<D: Disk, R>()
         (first_account session.is_opened.world wanted.mode had session.opened.disk) session.closed session.went) k image }
 {
     what_went_out_is_there::<D, R>();
+}
+
+/// Sessions of the program in a row over an honest disk, as at a terminal, from the opening of the store to its end, are calls of the store in a
+/// row: one for each time that lines went out, and one more for each session, which acknowledges nothing. So wherever they are parted, a crash
+/// from then on leaves the world after all forms of the earlier ones, and of no call a part; and a store that is opened on it has that world.
+pub fn sessions_in_turn_are_calls<D: Disk, R>()
+    ensures { (functions : Functions) (wanted : Wanted) (disk back : D) (macros : R)
+        → (had has held written : Option (List ℕ)) (ended : Ended)
+        → IsHonest (D.state disk)
+        → (row : AreSessions functions wanted D.state disk macros had has held written ended back)
+        → AreCalls functions D.state (first_account row.is_opened.world wanted.mode had row.opened.disk)
+        (calls_in_turn functions wanted D.state row.opened row.closed row.is_opened.world had has held written ended row.serves) }
+{
+    headline::<D>();
+    batches::<D>();
+    sessions::<D, R>();
 }

@@ -1,0 +1,19 @@
+use Rattle.std.proofs.Common.{IsTrue, subst, sym}
+use Rattle.sessions.specs.Account.{first_account}
+use Rattle.store_laws.proofs.Handings.{are_calls}
+use Rattle.store_commands.proofs.RowCalls.{rows_in_turn}
+use Rattle.store_commands.proofs.laws.sessions_in_turn_are_calls.Goals as goal
+
+pub returns : goal.returns
+returns g c = λ functions wanted disk back macros had has held written ended honest row.
+    let state = g.D.Disk.state in
+    let opened = row.is_opened in
+    let first = first_account opened.world wanted.mode had row.opened.disk in
+    let is_honest = subst IsTrue (sym opened.honest) honest in
+    let keeps = (opened.reopens honest).kept in
+    let joins = rows_in_turn functions wanted state (λ start world earlier later there means run. c.headline.ensures.holds functions start world earlier later there means run)
+    (λ account handings closed handed since there means. c.sessions.ensures.ended functions account handings closed handed since there means)
+    row.opened row.closed opened.world had has held written ended is_honest keeps row.serves in
+    are_calls functions state first _ (joins.run, joins.together)
+    (λ earlier later run. c.headline.ensures.holds functions first.disk first.now earlier later is_honest keeps run)
+    (λ earlier later run together. c.batches.ensures functions first.disk first.now earlier later is_honest keeps run together)
