@@ -43,8 +43,12 @@ pub fn sessions_go_on<D: Disk, R>()
 
 /// A session of the program over an honest disk, from the opening of the store to its end: from the moment on at which lines went out for the
 /// k-th time, a crash leaves the world after all forms of at least k times, and of no time a part. At 0 that is from the beginning on.
+///
+/// Sessions in a row, as at a terminal, are calls of the store in a row: one for each time that lines went out, and one more for each session,
+/// which acknowledges nothing. So wherever they are parted, a crash from then on leaves the world after all forms of the earlier ones, and of no
+/// call a part; and a store that is opened on it has that world.
 pub fn what_a_session_wrote_is_there<D: Disk, R>()
-    ensures { (functions : Functions) (wanted : Wanted) (disk back : D) (macros : R)
+    ensures one { (functions : Functions) (wanted : Wanted) (disk back : D) (macros : R)
         → (had has held written : Option (List ℕ)) (ended : Ended)
         → IsHonest (D.state disk)
         → (session : IsSession functions wanted D.state disk macros had has held written ended back)
@@ -53,15 +57,8 @@ pub fn what_a_session_wrote_is_there<D: Disk, R>()
         (first_account session.is_opened.world wanted.mode had session.opened.disk) session.went.out.sent k)).moment image
         → MeansCalls functions session.is_opened.world (calls_in functions D.state
         (first_account session.is_opened.world wanted.mode had session.opened.disk) session.closed session.went) k image }
-{
-    what_went_out_is_there::<D, R>();
-}
 
-/// Sessions of the program in a row over an honest disk, as at a terminal, from the opening of the store to its end, are calls of the store in a
-/// row: one for each time that lines went out, and one more for each session, which acknowledges nothing. So wherever they are parted, a crash
-/// from then on leaves the world after all forms of the earlier ones, and of no call a part; and a store that is opened on it has that world.
-pub fn sessions_in_turn_are_calls<D: Disk, R>()
-    ensures { (functions : Functions) (wanted : Wanted) (disk back : D) (macros : R)
+    ensures in_turn { (functions : Functions) (wanted : Wanted) (disk back : D) (macros : R)
         → (had has held written : Option (List ℕ)) (ended : Ended)
         → IsHonest (D.state disk)
         → (row : AreSessions functions wanted D.state disk macros had has held written ended back)
@@ -71,4 +68,5 @@ pub fn sessions_in_turn_are_calls<D: Disk, R>()
     headline::<D>();
     batches::<D>();
     sessions::<D, R>();
+    what_went_out_is_there::<D, R>();
 }

@@ -12,7 +12,7 @@
 //! - `output` has the output of the program, which tells of forms that were refused: the place of each and the part for which it was, on a stream
 //!   of its own.
 //! - `recipient` has who gets the lines of sessions in a row, and may keep account of each; `sessions_go_on` (module `laws`): what follows
-//!   at each moment of them. `sessions_in_turn_are_calls`: the same of sessions at a terminal, whatever the output.
+//!   at each moment of them. `what_a_session_wrote_is_there` says it of sessions at a terminal too, whatever the output.
 //! - `answers` has an output that tells what was answered, and an input that knows whether anything was; `given` tells comments from
 //!   text there.
 //! - `command_words` has the command line; `diagnostics` writes the line of a fault, and that on the refusal that ended a session, and
@@ -60,10 +60,7 @@ pub use export::export_on;
 pub use folders::{Folders, TellsCause, holds_store, open_folder};
 pub use half_line::write_half_line;
 pub use in_a_row::sessions_on;
-pub use laws::{
-    existing_stores_are_open, sessions_go_on, sessions_in_turn_are_calls,
-    what_a_session_wrote_is_there,
-};
+pub use laws::{existing_stores_are_open, sessions_go_on, what_a_session_wrote_is_there};
 pub use looking::Looking;
 pub use opening::{HALF_LIMIT, Opening};
 pub use output::SessionOutput;
