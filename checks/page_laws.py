@@ -34,5 +34,6 @@ def uncalled():
 def callers():
     """The page says how many laws there are, and how many of them nobody calls."""
     all_laws, alone = len(laws()), uncalled()
-    if f"Of {all_laws} laws {len(alone)} have no caller" not in " ".join(read(PAGE).split()):
-        yield f"{PAGE}: of {all_laws} laws {len(alone)} have no caller: " + ", ".join(f"{law} of {crate}" for law, crate in sorted(alone.items()))
+    said = f"Of {all_laws} laws {len(alone)} have no caller" if alone else f"Each of the {all_laws} laws has a caller"
+    if said not in " ".join(read(PAGE).split()):
+        yield f"{PAGE}: {said}: " + ", ".join(f"{law} of {crate}" for law, crate in sorted(alone.items()))
