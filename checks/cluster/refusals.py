@@ -172,8 +172,12 @@ def behind(folder, program):
 
 
 def trim_away(cluster):
-    """Adds until it is said that entries are deleted which a store wants that is new, or was away: from then on it is behind."""
+    """Adds until entries are deleted which a store wants that is new, or was away: from then on it is behind."""
+    before = {"~", "~beat", *cluster.keys("log/")}
+    Client(cluster.places[:1]).request(b"do", ADD)
+    wanted = set(cluster.keys("log/")) - before
     trimmed(cluster, 0, 40, ADD)
+    until(lambda: wanted.isdisjoint(cluster.keys("log/")), "entries are gone from etcd", 2 * LONG)
 
 
 def trimmed(cluster, place, after, form=b"(PUSH 1 (GET 'LIST 'KY))"):
