@@ -1,5 +1,5 @@
 -- What a disk holds whose calls are orders: it is told from the bytes that the files began with and the orders, the newest first.
-use Rattle.std.specs.Prelude.{◌≡◌, ◌⊎◌, ℕ, ◌≤◌, true, List, [], ◌∷◌, length, take}
+use Rattle.std.specs.Prelude.{◌≡◌, ◌⊎◌, ℕ, ◌≤◌, true, false, List, [], ◌∷◌, length, take}
 use Rattle.std.specs.Coded.{×_prop, Unit-prop, le_prop}
 use Rattle.disk_trait.specs.Disk.{Image, State, AreBytes, HoldsBytes, Cut, OnHalf, Partly, Torn, file_of, written}
 use Rattle.disk_trait.specs.declared.half.Half.{Half}
@@ -80,6 +80,7 @@ all_write-prop (order ∷ earlier) = ×_prop (writes-prop order) (all_write-prop
 abbrev pub ordered : CallsValue → ℕ → State
 ordered calls failures = record {
   honest = true;
+  mixes = false;
   reads = reads_by calls.start (all_of calls);
   may_leave = MayLeave calls.start (all_of calls);
   moment = length (all_of calls);

@@ -150,6 +150,10 @@ impl Disk for DeferredDisk {
         self.failures
     }
 
+    fn mixes(&self) -> bool {
+        false
+    }
+
     fn len(&mut self, half: Half) -> Result<u64, DeviceFault>
         requires { (state_of self.old).failures < 2 ^ 64 - 1 }
         ensures disk { GivesLength half (state_of self.old) (state_of self.new) result }

@@ -1,3 +1,4 @@
 mod Files
 mod Left
 mod Next
+mod Scattered

@@ -1,5 +1,5 @@
 -- One call more, in the record of a disk in memory.
-use Rattle.std.proofs.Common.{◌≡◌, ◌⊎◌, inl, inr, ⊎_elim, ℕ, ◌+◌, ◌<◌, ◌≤◌, List, [], ◌∷◌, ◌++◌, length, refl, sym, ap, subst, arith, length-append}
+use Rattle.std.proofs.Common.{◌≡◌, ◌⊎◌, inl, inr, ⊎_elim, ℕ, Bool, ◌+◌, ◌<◌, ◌≤◌, List, [], ◌∷◌, ◌++◌, length, refl, sym, ap, subst, arith, length-append}
 use Rattle.std.proofs.lemmas.List.{take_all, take-append-le}
 use Rattle.std.proofs.lemmas.Bool.{cases_lt}
 use Rattle.disk_trait.specs.Disk.{Image, other_of, OnHalf, Partly, Elapses}
@@ -25,8 +25,8 @@ left-push half on what calls p c left = subst (λ (q : FileState). q.may_leave c
 left-pull : (half on : Half) (what : What) (calls : List Call) (p : FileState) (c : List ℕ) → (where_same half on (after_what what (after_calls half calls p)) (after_calls half calls p)).may_leave c → (after_calls half (calls ++ one on what) p).may_leave c
 left-pull half on what calls p c left = subst (λ (q : FileState). q.may_leave c) (sym (after_calls-push half calls (record { half = on; what = what }) p)) left
 
-elapses_push : (start : Image) (calls : List Call) (call : Call) (failures later_failures : ℕ) → Elapses (told start calls failures) (told start (calls ++ call ∷ []) later_failures)
-elapses_push start calls call failures later_failures = record {
+elapses_push : (mixes : Bool) (start : Image) (calls : List Call) (call : Call) (failures later_failures : ℕ) → Elapses (told mixes start calls failures) (told mixes start (calls ++ call ∷ []) later_failures)
+elapses_push mixes start calls call failures later_failures = record {
   later = omega (arith, length-append calls (call ∷ []));
   nothing_else = λ t c le left. earlier t c left (cases_lt left.moment (length calls + 1));
   keeps = λ t c le left. record {
@@ -36,6 +36,7 @@ elapses_push start calls call failures later_failures = record {
     left = subst (λ (l : List Call). MayLeave start l c) (sym (take-append-le left.moment calls (call ∷ []) left.not_after)) left.left;
   };
   performed = refl;
+  mixes = refl;
 }
   where
     earlier : (t : ℕ) (c : Image) (left : LeftSince start (calls ++ call ∷ []) t c) → (left.moment < length calls + 1) ⊎ (length calls + 1 ≤ left.moment) → LeftSince start calls t c ⊎ MayLeave start (calls ++ call ∷ []) c
@@ -56,8 +57,8 @@ beside : {step : List ℕ → List ℕ → Type 0} (half : Half) (d c : Image) �
 beside half d c (inl same) = ap (other_of half) same
 beside half d c (inr step) = step.other
 
-next : (start : Image) (calls : List Call) (half : Half) (what : What) (failures later_failures : ℕ) → Follows half what (told start calls failures) (told start (calls ++ one half what) later_failures)
-next start calls A what failures later_failures = record {
+next : (mixes : Bool) (start : Image) (calls : List Call) (half : Half) (what : What) (failures later_failures : ℕ) → Follows half what (told mixes start calls failures) (told mixes start (calls ++ one half what) later_failures)
+next mixes start calls A what failures later_failures = record {
   changed = reads-push A A what calls (settled start.a);
   other = reads-push B A what calls (settled start.b);
   crash = λ c left. from c (left-push A A what calls (settled start.a) c.a left.0) (left-push B A what calls (settled start.b) c.b left.1);
@@ -66,14 +67,14 @@ next start calls A what failures later_failures = record {
     left-pull A A what calls (settled start.a) c.a ((d.a, left.0, ⊎_elim (λ same. inl (ap (λ (i : Image). i.a) same)) (λ part. inr part.changed) step), binds),
     left-pull B A what calls (settled start.b) c.b (subst (λ (l : List ℕ). (after_calls B calls (settled start.b)).may_leave l) (sym (beside A d c step)) left.1),
   );
-  time = elapses_push start calls (record { half = A; what = what }) failures later_failures;
+  time = elapses_push mixes start calls (record { half = A; what = what }) failures later_failures;
 }
   where
     from : (c : Image) → (after_what what (after_calls A calls (settled start.a))).may_leave c.a → (after_calls B calls (settled start.b)).may_leave c.b → (d : Image) × MayLeave start calls d × Partly (OnHalf A (PartOf what)) d c
     from c left other =
         let d : Image = record { a = left.0.0; b = c.b } in
         (d, (left.0.1, other), ⊎_elim (λ same. inl (ap (λ (x : List ℕ). let i : Image = record { a = x; b = c.b } in i) same)) (λ part. inr (record { changed = part; other = refl })) left.0.2)
-next start calls B what failures later_failures = record {
+next mixes start calls B what failures later_failures = record {
   changed = reads-push B B what calls (settled start.b);
   other = reads-push A B what calls (settled start.a);
   crash = λ c left. from c (left-push A B what calls (settled start.a) c.a left.0) (left-push B B what calls (settled start.b) c.b left.1);
@@ -82,7 +83,7 @@ next start calls B what failures later_failures = record {
     left-pull A B what calls (settled start.a) c.a (subst (λ (l : List ℕ). (after_calls A calls (settled start.a)).may_leave l) (sym (beside B d c step)) left.0),
     left-pull B B what calls (settled start.b) c.b ((d.b, left.1, ⊎_elim (λ same. inl (ap (λ (i : Image). i.b) same)) (λ part. inr part.changed) step), binds),
   );
-  time = elapses_push start calls (record { half = B; what = what }) failures later_failures;
+  time = elapses_push mixes start calls (record { half = B; what = what }) failures later_failures;
 }
   where
     from : (c : Image) → (after_calls A calls (settled start.a)).may_leave c.a → (after_what what (after_calls B calls (settled start.b))).may_leave c.b → (d : Image) × MayLeave start calls d × Partly (OnHalf B (PartOf what)) d c
@@ -91,5 +92,5 @@ next start calls B what failures later_failures = record {
         (d, (other, left.0.1), ⊎_elim (λ same. inl (ap (λ (x : List ℕ). let i : Image = record { a = c.a; b = x } in i) same)) (λ part. inr (record { changed = part; other = refl })) left.0.2)
 
 -- the same, of a list that is known to be longer by the call
-pub next_is : (start : Image) (calls later : List Call) (half : Half) (what : What) (failures later_failures : ℕ) → later ≡ calls ++ one half what → Follows half what (told start calls failures) (told start later later_failures)
-next_is start calls later half what failures later_failures is = subst (λ (l : List Call). Follows half what (told start calls failures) (told start l later_failures)) (sym is) (next start calls half what failures later_failures)
+pub next_is : (mixes : Bool) (start : Image) (calls later : List Call) (half : Half) (what : What) (failures later_failures : ℕ) → later ≡ calls ++ one half what → Follows half what (told mixes start calls failures) (told mixes start later later_failures)
+next_is mixes start calls later half what failures later_failures is = subst (λ (l : List Call). Follows half what (told mixes start calls failures) (told mixes start l later_failures)) (sym is) (next mixes start calls half what failures later_failures)

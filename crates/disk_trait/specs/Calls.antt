@@ -1,6 +1,6 @@
 -- What each call of a disk promises. Of every disk, that its count of failures tells of its faults; the rest of an honest one.
 use Rattle.std.specs.Prelude.{◌≡◌, ℕ, ◌≤◌, List, length, take, drop, Result, IfOk, OnOk}
-use Rattle.disk_trait.specs.Disk.{Image, State, IsHonest, Counts, Looks, Changes, OnHalf, Torn, Cut, file_of, written}
+use Rattle.disk_trait.specs.Disk.{Image, State, IsHonest, IsMixing, Counts, Looks, Changes, OnHalf, Torn, Mixed, Cut, file_of, written}
 use Rattle.disk_trait.specs.declared.disk.DeviceFault.{DeviceFault}
 use Rattle.disk_trait.specs.declared.half.Half.{Half}
 
@@ -21,10 +21,11 @@ pub record GivesBytes (half : Half) (at : ℕ) (before after : List ℕ) (old ne
   pub within : IfOk result (λ count. count ≤ length before)
   pub bytes : IfOk result (λ count. IsHonest old → take count after ≡ take (length before) (drop at (file_of half old.reads)))
 
--- `write_at` puts these bytes in place of those from the offset on, or is torn there
+-- `write_at` puts these bytes in place of those from the offset on, or is torn there; where the disk mixes, it is mixed there
 pub record WritesBytes {T : Type 0} (half : Half) (at : ℕ) (bytes : List ℕ) (old new : State) (result : Result T DeviceFault) : Type 0 where
   pub counts : Counts old new result
   pub tears : IsHonest old → Changes (OnHalf half (Torn at (length bytes))) old new
+  pub mixes : IsHonest old → IsMixing old → Changes (OnHalf half (Mixed at bytes)) old new
   pub done : OnOk result (IsHonest old → OnHalf half (λ file next. next ≡ written at bytes file) old.reads new.reads)
 
 -- `cut` leaves the first so many bytes, or is torn after them

@@ -1,24 +1,49 @@
 -- What a crash of each kind leaves of a file in memory, told from its calls.
-use Rattle.std.specs.Prelude.{ℕ, ◌-◌, ◌<◌, List, [], ◌∷◌, ◌++◌, length, take, replicate, Option, Some, None}
+use Rattle.std.specs.Prelude.{ℕ, suc, ◌-◌, ◌*◌, ◌%◌, ◌<◌, List, [], ◌∷◌, ◌++◌, length, take, drop, get_or, nat_lt, if◌then◌else◌, replicate}
 use Rattle.disk_trait.specs.Disk.{written}
 use Rattle.disk_trait.specs.Replay.{settled, reads_after, after_calls}
 use Rattle.disk_trait.specs.declared.call.Call.{Call}
 use Rattle.disk_trait.specs.declared.call.What.{What}
-use Rattle.disk_trait.specs.declared.call.What.TheVariants.{Looked, Wrote, Shortened, Synced}
+use Rattle.disk_trait.specs.declared.call.What.TheVariants.{Looked, Wrote, WroteMixing, Shortened, Synced}
 use Rattle.disk_trait.specs.declared.crash.Crash.{Crash}
-use Rattle.disk_trait.specs.declared.crash.Crash.TheVariants.{Kept, Lost, Filled}
+use Rattle.disk_trait.specs.declared.crash.Crash.TheVariants.{Kept, Lost, Filled, Scattered}
 use Rattle.disk_trait.specs.declared.half.Half.{Half}
 use Rattle.disk_trait.specs.declared.half.Half.TheVariants.{A, B}
 
--- What a crash leaves after the call, where it left this before: with no byte to fill with the call is undone;
--- else each byte that the call may have changed is that byte, and the file as long as it may be.
-abbrev pub left_after : Option ℕ → What → List ℕ → List ℕ → List ℕ
-left_after fill Looked file left = left
-left_after fill Synced file left = file
-left_after None (Wrote at bytes) file left = left
-left_after None (Shortened len) file left = left
-left_after (Some byte) (Wrote at bytes) file left = written at (replicate (length bytes.items) byte) left
-left_after (Some byte) (Shortened len) file left = take len left ++ replicate (length left - len) byte
+-- The bytes of a write from this place in it on, so many in 256 of them new, here and there; the others are as in the file where the
+-- write begins, and 0 past its end.
+unfoldable pub scattered : ℕ → ℕ → List ℕ → List ℕ → List ℕ
+scattered share place [] old = []
+scattered share place (byte ∷ bytes) old = (if nat_lt (place % 256 * 37 % 256) share then byte else get_or old place 0) ∷ scattered share (suc place) bytes old
+
+-- What a crash leaves of a write, of a file that it left as this before.
+abbrev pub torn_after : Crash → ℕ → List ℕ → List ℕ → List ℕ
+torn_after Kept at bytes left = written at bytes left
+torn_after Lost at bytes left = left
+torn_after (Filled byte) at bytes left = written at (replicate (length bytes) byte) left
+torn_after (Scattered share) at bytes left = written at (scattered share 0 bytes (drop at left)) left
+
+-- The same where writes mix: no byte may be any.
+abbrev pub mixed_after : Crash → ℕ → List ℕ → List ℕ → List ℕ
+mixed_after Kept at bytes left = written at bytes left
+mixed_after Lost at bytes left = left
+mixed_after (Filled byte) at bytes left = written at bytes left
+mixed_after (Scattered share) at bytes left = written at (scattered share 0 bytes (drop at left)) left
+
+-- The same of a cut.
+abbrev pub cut_after : Crash → ℕ → List ℕ → List ℕ
+cut_after Kept len left = take len left
+cut_after Lost len left = left
+cut_after (Filled byte) len left = take len left ++ replicate (length left - len) byte
+cut_after (Scattered share) len left = left
+
+-- What a crash leaves after the call, where it left this before.
+abbrev pub left_after : Crash → What → List ℕ → List ℕ → List ℕ
+left_after kind Looked file left = left
+left_after kind (Wrote at bytes) file left = torn_after kind at bytes.items left
+left_after kind (WroteMixing at bytes) file left = mixed_after kind at bytes.items left
+left_after kind (Shortened len) file left = cut_after kind len left
+left_after kind Synced file left = file
 
 -- the first of the two where the halves are the same, else the second
 abbrev pub on_same : Half → Half → List ℕ → List ℕ → List ℕ
@@ -28,19 +53,21 @@ on_same B A same other = other
 on_same B B same other = same
 
 -- the calls in turn, the oldest first: what a read gives, and what a crash leaves
-abbrev pub swept : Option ℕ → Half → List Call → List ℕ → List ℕ → List ℕ
-swept fill half [] file left = left
-swept fill half (call ∷ calls) file left = swept fill half calls
+abbrev pub swept : Crash → Half → List Call → List ℕ → List ℕ → List ℕ
+swept kind half [] file left = left
+swept kind half (call ∷ calls) file left = swept kind half calls
     (on_same half call.half (reads_after call.what file) file)
-    (on_same half call.half (left_after fill call.what file left) left)
+    (on_same half call.half (left_after kind call.what file left) left)
 
 abbrev pub left_by : Crash → Half → List Call → List ℕ → List ℕ
 left_by Kept half calls start = (after_calls half calls (settled start)).reads
-left_by Lost half calls start = swept None half calls start start
-left_by (Filled byte) half calls start = swept (Some byte) half calls start start
+left_by Lost half calls start = swept Lost half calls start start
+left_by (Filled byte) half calls start = swept (Filled byte) half calls start start
+left_by (Scattered share) half calls start = swept (Scattered share) half calls start start
 
 -- what it fills with is a byte
 abbrev pub FillsBytes : Crash → Type 0
 FillsBytes Kept = Unit {0}
 FillsBytes Lost = Unit {0}
 FillsBytes (Filled byte) = byte < 256
+FillsBytes (Scattered share) = Unit {0}

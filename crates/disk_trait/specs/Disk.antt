@@ -1,5 +1,5 @@
 -- What a disk of two files is: what a read gives, what a crash may leave, and what each call does to both.
-use Rattle.std.specs.Prelude.{◌≡◌, ◌⊎◌, ℕ, ◌+◌, ◌<◌, ◌≤◌, max, Bool, true, false, List, [], ◌++◌, length, take, drop, Result, MatchResult, IsTrue}
+use Rattle.std.specs.Prelude.{◌≡◌, ◌⊎◌, ℕ, ◌+◌, ◌<◌, ◌≤◌, max, Bool, true, false, List, [], ◌++◌, length, take, drop, get_or, Result, MatchResult, IsTrue}
 use Rattle.std.specs.List.{AllByRecursion}
 use Rattle.disk_trait.specs.Orders.{OrderValue}
 use Rattle.disk_trait.specs.declared.disk.DeviceFault.{DeviceFault}
@@ -33,6 +33,8 @@ at_once = record { start = record { a = []; b = [] }; done = [] }
 pub record State : Type 1 where
   -- the disk keeps the rules below; nothing is claimed of one that isn't
   pub honest : Bool
+  -- of a write that a crash cuts short each byte is the old one or the new one; else it may be any
+  pub mixes : Bool
   -- what a read gives
   pub reads : Image
   -- the images that a crash now may leave
@@ -48,6 +50,9 @@ pub record State : Type 1 where
 
 abbrev pub IsHonest : State → Type 0
 IsHonest s = IsTrue s.honest
+
+abbrev pub IsMixing : State → Type 0
+IsMixing s = IsTrue s.mixes
 
 -- a crash leaves what a read gives, and nothing else
 abbrev pub IsDurable : State → Type 0
@@ -81,6 +86,15 @@ pub record Torn (at n : ℕ) (old new : List ℕ) : Type 0 where
   pub parts : new ≡ take at old ++ middle ++ drop (at + n) old
   pub no_shorter : length old ≤ length new
   pub no_longer : length new ≤ max (length old) (at + n)
+
+-- A write of these bytes that a crash cuts short, on a disk that mixes: each byte in the range is the new one or the old one, which is
+-- 0 past the old end; past the old end any number of them, the rest as before.
+pub record Mixed (at : ℕ) (bytes old new : List ℕ) : Type 0 where
+  pub middle : List ℕ
+  pub each : (i : ℕ) → i < length middle → (get_or middle i 0 ≡ get_or bytes i 0) ⊎ (get_or middle i 0 ≡ get_or old (at + i) 0)
+  pub parts : new ≡ take at old ++ middle ++ drop (at + length bytes) old
+  pub no_shorter : length old ≤ length new
+  pub no_longer : length new ≤ max (length old) (at + length bytes)
 
 -- a cut to n bytes that a crash cuts short: the old length, the new one or one between, and any bytes between
 pub record Cut (n : ℕ) (old new : List ℕ) : Type 0 where
@@ -128,6 +142,7 @@ pub record Elapses (old new : State) : Type 0 where
   pub nothing_else : (t : ℕ) (c : Image) → t ≤ old.moment → new.left_since t c → old.left_since t c ⊎ new.may_leave c
   pub keeps : (t : ℕ) (c : Image) → t ≤ old.moment → old.left_since t c → new.left_since t c
   pub performed : new.performed ≡ old.performed
+  pub mixes : new.mixes ≡ old.mixes
 
 -- a call that writes nothing
 pub record Looks (old new : State) : Type 0 where
@@ -161,6 +176,7 @@ pub record Throughout (old new : State) (P : Image → Type 0) : Type 0 where
   pub before : (t : ℕ) (c : Image) → t ≤ old.moment → new.left_since t c → old.left_since t c ⊎ P c
   -- it was told on the same word of what was done before: what it made is among the orders that are handed out after it
   pub performed : new.performed ≡ old.performed
+  pub mixes : new.mixes ≡ old.mixes
 
 -- the state, but for what was reported: a report changes no more than that
 abbrev pub but_for_reports : State → State

@@ -1,12 +1,13 @@
--- A disk of which nothing is claimed but its count of failures, and the descriptors of its files.
-use Rattle.std.specs.Prelude.{ℕ, false, [], pos, ◌<ℤ◌}
+-- A disk of which nothing is claimed but its count of failures and whether its writes are said to mix, and the descriptors of its files.
+use Rattle.std.specs.Prelude.{ℕ, Bool, false, [], pos, ◌<ℤ◌}
 use Rattle.std.specs.Fd.{file_raw_fd}
 use Rattle.std.specs.declared.fs.File.{File}
 use Rattle.disk_trait.specs.Disk.{State, IsHonest, IsSound, at_once}
 
-abbrev pub unclaimed : ℕ → State
-unclaimed failures = record {
+abbrev pub unclaimed : Bool → ℕ → State
+unclaimed mixes failures = record {
   honest = false;
+  mixes = mixes;
   reads = record { a = []; b = [] };
   may_leave = λ c. ⊥;
   moment = 0;
@@ -15,8 +16,8 @@ unclaimed failures = record {
   performed = at_once;
 }
 
-pub sound_unclaimed : (failures : ℕ) → IsHonest (unclaimed failures) → IsSound (unclaimed failures)
-sound_unclaimed failures honest = absurd (cc)
+pub sound_unclaimed : (mixes : Bool) (failures : ℕ) → IsHonest (unclaimed mixes failures) → IsSound (unclaimed mixes failures)
+sound_unclaimed mixes failures honest = absurd (cc)
 
 -- The file's descriptor is none of the three standard streams: 0, 1 and 2.
 abbrev pub IsAboveStreams : File → Type 0

@@ -5,6 +5,7 @@ pub mod Faulty
 pub mod Half
 pub mod Host
 pub mod Memory
+pub mod Mixes
 pub mod Moments
 pub mod Orders
 pub mod Replay

@@ -1,7 +1,7 @@
 -- What a disk in memory is, as a state, and what a crash makes of it.
-use Rattle.std.specs.Prelude.{◌≡◌, ℕ, List, ◌+◌, length, take, Result, OnOk, OnErr}
+use Rattle.std.specs.Prelude.{◌≡◌, ℕ, Bool, true, false, List, ◌+◌, length, take, Result, OnOk, OnErr}
 use Rattle.disk_trait.specs.Crash.{left_by}
-use Rattle.disk_trait.specs.Disk.{Image, State, Allows, Changes, Cut, Elapses, OnHalf, Torn, file_of, written}
+use Rattle.disk_trait.specs.Disk.{Image, State, Allows, Changes, Cut, Elapses, Mixed, OnHalf, Torn, file_of, written}
 use Rattle.disk_trait.specs.Replay.{told}
 use Rattle.disk_trait.specs.declared.crash.Crash.{Crash}
 use Rattle.disk_trait.specs.declared.half.Half.{Half}
@@ -9,7 +9,7 @@ use Rattle.disk_trait.specs.declared.half.Half.TheVariants.{A, B}
 use Rattle.disk_trait.specs.declared.memory.MemoryDisk.{MemoryDisk}
 
 abbrev pub state_of : MemoryDisk → State
-state_of m = told (record { a = m.start_a.items; b = m.start_b.items }) m.calls.items m.failures
+state_of m = told m.mixes (record { a = m.start_a.items; b = m.start_b.items }) m.calls.items m.failures
 
 -- what a crash of this kind leaves
 abbrev pub left_image : Crash → MemoryDisk → Image
@@ -33,6 +33,7 @@ pub record IsRecorded {T E : Type 0} (Leaves : Type 0) (old new : State) (result
   pub allows : OnOk result Leaves
   pub undone : OnErr result (IsUndone old new)
   pub noted : OnOk result (IsNoted old new)
+  pub mixes : new.mixes ≡ old.mixes
 
 -- a call that takes this step
 abbrev pub RecordsStep : {T E : Type 0} → (Image → Image → Type 0) → State → State → Result T E → Type 0
@@ -42,8 +43,13 @@ RecordsStep step old new result = IsRecorded (Allows step old new) old new resul
 abbrev pub RecordsLook : {T E : Type 0} → State → State → Result T E → Type 0
 RecordsLook old new result = RecordsStep (λ _ _. ⊥) old new result
 
+-- what a crash may leave of a write, by whether the disk mixes
+abbrev pub WriteLeaves : Bool → ℕ → List ℕ → List ℕ → List ℕ → Type 0
+WriteLeaves false at bytes = Torn at (length bytes)
+WriteLeaves true at bytes = Mixed at bytes
+
 abbrev pub RecordsWrite : {T E : Type 0} → Half → ℕ → List ℕ → State → State → Result T E → Type 0
-RecordsWrite half at bytes old new result = RecordsStep (OnHalf half (Torn at (length bytes))) old new result
+RecordsWrite half at bytes old new result = RecordsStep (OnHalf half (WriteLeaves old.mixes at bytes)) old new result
 
 abbrev pub RecordsCut : {T E : Type 0} → Half → ℕ → State → State → Result T E → Type 0
 RecordsCut half len old new result = RecordsStep (OnHalf half (Cut len)) old new result
@@ -59,7 +65,7 @@ pub record Takes (Tears Does : Image → Image → Type 0) (old new : State) : T
   pub done : Does old.reads new.reads
 
 abbrev pub TakesWrite : Half → ℕ → List ℕ → State → State → Type 0
-TakesWrite half at bytes = Takes (OnHalf half (Torn at (length bytes))) (OnHalf half (λ file next. next ≡ written at bytes file))
+TakesWrite half at bytes old new = Takes (OnHalf half (WriteLeaves old.mixes at bytes)) (OnHalf half (λ file next. next ≡ written at bytes file)) old new
 
 abbrev pub TakesCut : Half → ℕ → State → State → Type 0
 TakesCut half len = Takes (OnHalf half (Cut len)) (OnHalf half (λ file next. next ≡ take len file))

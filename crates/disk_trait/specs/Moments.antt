@@ -9,6 +9,7 @@ one_call old new P sound time before after = record {
   each = λ c left. ⊎_elim (λ was. before c (sound.only_now c was)) (after c) (time.nothing_else old.moment c (omega arith) left);
   before = λ t c le left. ⊎_elim (λ was. inl was) (λ now. inr (after c now)) (time.nothing_else t c le left);
   performed = time.performed;
+  mixes = time.mixes;
 }
 
 -- two runs, one after the other
@@ -18,6 +19,7 @@ joined a b c P Q first second weaken = record {
   each = λ i left. ⊎_elim (first.each i) (weaken i) (second.before a.moment i first.later left);
   before = λ t i le left. ⊎_elim (first.before t i le) (λ now. inr (weaken i now)) (second.before t i (omega (arith, le, first.later)) left);
   performed = second.performed ∙ first.performed;
+  mixes = second.mixes ∙ first.mixes;
 }
 
 -- the same run, of which less is said
@@ -27,6 +29,7 @@ weaker a b P Q run weaken = record {
   each = λ i left. weaken i (run.each i left);
   before = λ t i le left. ⊎_elim (λ was. inl was) (λ now. inr (weaken i now)) (run.before t i le left);
   performed = run.performed;
+  mixes = run.mixes;
 }
 
 -- the count of failures has no part in it
@@ -40,4 +43,5 @@ bytes_since old new run sound = record {
   each = λ c left. sound.bytes old.moment c left;
   before = λ t c le left. inr (sound.bytes t c left);
   performed = run.performed;
+  mixes = run.mixes;
 }

@@ -1,10 +1,10 @@
 -- What a disk in memory holds, told from its start and the calls that it took: each file apart, one call after the other.
 use Rattle.std.specs.Prelude.{◌≡◌, ◌⊎◌, ℕ, ◌≤◌, Bool, true, ◌&&◌, List, [], ◌∷◌, length, take, nat_lt}
 use Rattle.std.specs.List.{list_all}
-use Rattle.disk_trait.specs.Disk.{Image, State, Elapses, at_once, file_of, other_of, written, Torn, Cut, OnHalf, Partly}
+use Rattle.disk_trait.specs.Disk.{Image, State, Elapses, at_once, file_of, other_of, written, Torn, Mixed, Cut, OnHalf, Partly}
 use Rattle.disk_trait.specs.declared.call.Call.{Call}
 use Rattle.disk_trait.specs.declared.call.What.{What}
-use Rattle.disk_trait.specs.declared.call.What.TheVariants.{Looked, Wrote, Shortened, Synced}
+use Rattle.disk_trait.specs.declared.call.What.TheVariants.{Looked, Wrote, WroteMixing, Shortened, Synced}
 use Rattle.disk_trait.specs.declared.half.Half.{Half}
 use Rattle.disk_trait.specs.declared.half.Half.TheVariants.{A, B}
 
@@ -21,6 +21,7 @@ settled file = record { reads = file; may_leave = λ c. c ≡ file }
 abbrev pub reads_after : What → List ℕ → List ℕ
 reads_after Looked file = file
 reads_after (Wrote at bytes) file = written at bytes.items file
+reads_after (WroteMixing at bytes) file = written at bytes.items file
 reads_after (Shortened len) file = take len file
 reads_after Synced file = file
 
@@ -28,6 +29,7 @@ reads_after Synced file = file
 abbrev pub PartOf : What → List ℕ → List ℕ → Type 0
 PartOf Looked old new = ⊥
 PartOf (Wrote at bytes) old new = Torn at (length bytes.items) old new ⊎ (new ≡ written at bytes.items old)
+PartOf (WroteMixing at bytes) old new = Mixed at bytes.items old new
 PartOf (Shortened len) old new = Cut len old new
 PartOf Synced old new = ⊥
 
@@ -73,6 +75,7 @@ are_bytes bytes = list_all (λ byte. nat_lt byte 256) bytes
 abbrev pub writes_bytes : What → Bool
 writes_bytes Looked = true
 writes_bytes (Wrote at bytes) = are_bytes bytes.items
+writes_bytes (WroteMixing at bytes) = are_bytes bytes.items
 writes_bytes (Shortened len) = true
 writes_bytes Synced = true
 
@@ -90,9 +93,10 @@ pub record LeftSince (start : Image) (calls : List Call) (t : ℕ) (c : Image) :
   pub not_after : moment ≤ length calls
   pub left : MayLeave start (take moment calls) c
 
-abbrev pub told : Image → List Call → ℕ → State
-told start calls failures = record {
+abbrev pub told : Bool → Image → List Call → ℕ → State
+told mixes start calls failures = record {
   honest = true;
+  mixes = mixes;
   reads = record {
     a = (after_calls A calls (settled start.a)).reads;
     b = (after_calls B calls (settled start.b)).reads;

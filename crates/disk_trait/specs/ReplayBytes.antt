@@ -3,16 +3,17 @@ use Rattle.std.proofs.Common.{⊎_elim, ℕ, zero, suc, ◌+◌, ◌<◌, true, 
 use Rattle.std.specs.Prelude.{nat_lt}
 use Rattle.std.proofs.lemmas.Bool.{and_parts, and_from, ltb-true, lt-ltb}
 use Rattle.disk_trait.specs.Disk.{Image, AreBytes, HoldsBytes, Torn, Cut}
+use Rattle.disk_trait.specs.Mixes.{mixed_torn}
 use Rattle.disk_trait.specs.Replay.{FileState, PartOf, settled, after_what, where_same, after_call, after_calls, LeftSince, are_bytes, writes_bytes, began_with_bytes, wrote_bytes}
 use Rattle.disk_trait.specs.declared.call.Call.{Call}
 use Rattle.disk_trait.specs.declared.call.What.{What}
-use Rattle.disk_trait.specs.declared.call.What.TheVariants.{Looked, Wrote, Shortened, Synced}
+use Rattle.disk_trait.specs.declared.call.What.TheVariants.{Looked, Wrote, WroteMixing, Shortened, Synced}
 use Rattle.disk_trait.specs.declared.half.Half.{Half}
 use Rattle.disk_trait.specs.declared.half.Half.TheVariants.{A, B}
 
 -- ---- bytes in lists
 
-bytes_tested : (bytes : List ℕ) → IsTrue (are_bytes bytes) → AreBytes bytes
+pub bytes_tested : (bytes : List ℕ) → IsTrue (are_bytes bytes) → AreBytes bytes
 bytes_tested [] all = tt
 bytes_tested (b ∷ bs) all = let parts = and_parts (nat_lt b 256) (are_bytes bs) all in (ltb-true b 256 parts.0, bytes_tested bs parts.1)
 
@@ -47,19 +48,21 @@ bytes_part Looked old new writes part are = absurd part
 bytes_part (Wrote at bytes) old new writes part are =
     ⊎_elim (λ torn. bytes_torn at (length bytes.items) old new torn are)
     (λ whole. subst AreBytes (sym whole) (bytes_written at (length bytes.items) bytes.items old (bytes_tested bytes.items writes) are)) part
+bytes_part (WroteMixing at bytes) old new writes part are =
+    bytes_torn at (length bytes.items) old new (mixed_torn at bytes.items old new (bytes_tested bytes.items writes) are part) are
 bytes_part (Shortened len) old new writes part are = bytes_cut len old new part are
 bytes_part Synced old new writes part are = absurd part
 
 -- a crash leaves nothing but bytes
-abbrev LeavesBytes : FileState → Type 0
+abbrev pub LeavesBytes : FileState → Type 0
 LeavesBytes p = (c : List ℕ) → p.may_leave c → AreBytes c
 
-bytes_what : (what : What) (p : FileState) → IsTrue (writes_bytes what) → LeavesBytes p → LeavesBytes (after_what what p)
+pub bytes_what : (what : What) (p : FileState) → IsTrue (writes_bytes what) → LeavesBytes p → LeavesBytes (after_what what p)
 bytes_what what p writes leaves c left =
     let before = left.0 in
     ⊎_elim (λ same. subst AreBytes (sym same) (leaves before.0 before.1)) (λ part. bytes_part what before.0 c writes part (leaves before.0 before.1)) before.2
 
-bytes_where : (half other : Half) (p q : FileState) → LeavesBytes p → LeavesBytes q → LeavesBytes (where_same half other p q)
+pub bytes_where : (half other : Half) (p q : FileState) → LeavesBytes p → LeavesBytes q → LeavesBytes (where_same half other p q)
 bytes_where A A p q first second = first
 bytes_where A B p q first second = second
 bytes_where B A p q first second = second
@@ -92,7 +95,7 @@ wrote_taken (suc n) (call ∷ calls) wrote =
     let parts = and_parts (writes_bytes call.what) (wrote_bytes calls) wrote in
     and_from (writes_bytes call.what) (wrote_bytes (take n calls)) parts.0 (wrote_taken n calls parts.1)
 
-settled_bytes : (file : List ℕ) → AreBytes file → LeavesBytes (settled file)
+pub settled_bytes : (file : List ℕ) → AreBytes file → LeavesBytes (settled file)
 settled_bytes file are c left = subst AreBytes (sym left) are
 
 pub left_bytes : (start : Image) (calls : List Call) (t : ℕ) (c : Image) → IsTrue (began_with_bytes start) → IsTrue (wrote_bytes calls) → LeftSince start calls t c → HoldsBytes c

@@ -1,12 +1,13 @@
 -- How a disk that is told from its calls stands between two of them.
-use Rattle.std.proofs.Common.{inl, inr, ℕ, IsTrue, List, [], ◌∷◌, length, take, refl, sym, subst, arith, append-nil, length-take}
+use Rattle.std.proofs.Common.{inl, inr, ℕ, Bool, IsTrue, List, [], ◌∷◌, length, take, refl, sym, subst, arith, append-nil, length-take}
 use Rattle.std.proofs.lemmas.List.{take_all}
 use Rattle.disk_trait.specs.Disk.{Image, Cut, IsSound}
+use Rattle.disk_trait.specs.Mixes.{whole_mixed}
 use Rattle.disk_trait.specs.Replay.{FileState, settled, after_what, where_same, after_call, after_calls, MayLeave, told, began_with_bytes, wrote_bytes}
 use Rattle.disk_trait.specs.ReplayBytes.{left_bytes}
 use Rattle.disk_trait.specs.declared.call.Call.{Call}
 use Rattle.disk_trait.specs.declared.call.What.{What}
-use Rattle.disk_trait.specs.declared.call.What.TheVariants.{Looked, Wrote, Shortened, Synced}
+use Rattle.disk_trait.specs.declared.call.What.TheVariants.{Looked, Wrote, WroteMixing, Shortened, Synced}
 use Rattle.disk_trait.specs.declared.half.Half.{Half}
 use Rattle.disk_trait.specs.declared.half.Half.TheVariants.{A, B}
 
@@ -14,12 +15,13 @@ use Rattle.disk_trait.specs.declared.half.Half.TheVariants.{A, B}
 abbrev pub Stays : FileState → Type 0
 Stays p = p.may_leave p.reads
 
-whole_cut : (len : ℕ) (file : List ℕ) → Cut len file (take len file)
+pub whole_cut : (len : ℕ) (file : List ℕ) → Cut len file (take len file)
 whole_cut len file = record { middle = []; bytes = tt; parts = sym (append-nil (take len file)); no_longer = omega (arith, length-take len file) }
 
 pub stay_what : (what : What) (p : FileState) → Stays p → Stays (after_what what p)
 stay_what Looked p stays = ((p.reads, stays, inl refl), tt)
 stay_what (Wrote at bytes) p stays = ((p.reads, stays, inr (inr refl)), tt)
+stay_what (WroteMixing at bytes) p stays = ((p.reads, stays, inr (whole_mixed at bytes.items p.reads)), tt)
 stay_what (Shortened len) p stays = ((p.reads, stays, inr (whole_cut len p.reads)), tt)
 stay_what Synced p stays = ((p.reads, stays, inl refl), refl)
 
@@ -33,8 +35,8 @@ pub stay : (half : Half) (calls : List Call) (p : FileState) → Stays p → Sta
 stay half [] p stays = stays
 stay half (call ∷ calls) p stays = stay half calls (after_call half call p) (stay_where half call.half (after_what call.what p) p (stay_what call.what p stays) stays)
 
-pub sound_told : (start : Image) (calls : List Call) (failures : ℕ) → IsTrue (began_with_bytes start) → IsTrue (wrote_bytes calls) → IsSound (told start calls failures)
-sound_told start calls failures began wrote = record {
+pub sound_told : (mixes : Bool) (start : Image) (calls : List Call) (failures : ℕ) → IsTrue (began_with_bytes start) → IsTrue (wrote_bytes calls) → IsSound (told mixes start calls failures)
+sound_told mixes start calls failures began wrote = record {
   reads_stay = (stay A calls (settled start.a) refl, stay B calls (settled start.b) refl);
   counts_now = λ t c le left. record {
     moment = length calls;

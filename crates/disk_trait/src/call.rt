@@ -6,6 +6,8 @@ use crate::Half;
 pub enum What {
     Looked,
     Wrote { at: u64, bytes: Vec<u8> },
+    // the same on a disk that mixes
+    WroteMixing { at: u64, bytes: Vec<u8> },
     Shortened { len: u64 },
     Synced,
 }

@@ -23,6 +23,9 @@ pub struct DeviceFault;
 /// is that it leaves nothing else: of a write any bytes in its range and past the old end any number of them, of a cut
 /// any bytes up to the old end (`torn_images`), and every other byte as it was.
 ///
+/// A disk may claim besides that its writes mix (`mixes`): then of a write it leaves each byte as it was or as it was to be, and past the
+/// old end 0 or as it was to be. That is less than any bytes, so all that is proved of an honest disk holds of one that mixes.
+///
 /// A crash inside a call leaves what one before the call might have left, or what one after it may leave. So what a
 /// call may leave half done has to be among what may be left after it, until a sync: a device whose writes last as they
 /// return, but may tear while they are made, is told as one that may tear until the next sync.
@@ -33,6 +36,11 @@ pub trait Disk {
     /// How often a call of this disk has failed.
     fn failures(&self) -> u64
         ensures { result ≡ (state self.now).failures };
+
+    /// Whether it claims that its writes mix: if it is honest, a write that a crash cuts short leaves of each byte the old one or the
+    /// new one. No call changes it.
+    fn mixes(&self) -> bool
+        ensures { result ≡ (state self.now).mixes };
 
     /// The length of a half's file in bytes.
     fn len(&mut self, half: Half) -> Result<u64, DeviceFault>

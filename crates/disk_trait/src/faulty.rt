@@ -108,6 +108,10 @@ impl<D: Disk, F: Faults> Disk for FaultyDisk<D, F> {
         self.disk.failures() + self.failed
     }
 
+    fn mixes(&self) -> bool {
+        self.disk.mixes()
+    }
+
     fn len(&mut self, half: Half) -> Result<u64, DeviceFault>
         requires { (faulty D.state self.old).failures < 2 ^ 64 - 1 }
         ensures disk { GivesLength half (faulty D.state self.old) (faulty D.state self.new) result }

@@ -3,7 +3,8 @@
 //! The trait `Disk` (module `disk`) promises the layer above, of a disk that claims to be honest: a read gives
 //! what was written; until a sync a crash may leave each write and each cut undone, done, or torn in the range
 //! that it touches; after a sync it leaves what a read gives. Of every disk it promises that `failures` counts
-//! the calls that failed. The definitions are in `specs/Disk.antt`, and the laws by which runs of calls are told,
+//! the calls that failed. A disk may claim besides that its writes mix: of one that is torn each byte is then the old one or the new
+//! one. The definitions are in `specs/Disk.antt`, and the laws by which runs of calls are told,
 //! moment by moment, in `specs/Moments.antt`.
 //!
 //! - `Half` (module `half`) names one of the two files, and `DeviceFault` is the answer of a call that failed.
@@ -13,7 +14,8 @@
 //!   `faults`) names.
 //! - `HostDisk` (module `host`) is two files of the operating system. It claims no honesty, and keeps the system's error of the
 //!   last call that failed; `HostError` says why they are not opened. A missing folder is made in `host/folder.rt`.
-//! - `torn_images` (module `laws`): a write or a cut that a crash cuts short may leave each mix of bytes.
+//! - `torn_images` (module `laws`): a write or a cut that a crash cuts short may leave each mix of bytes. `mixed_is_torn`: what a write
+//!   may leave where writes mix is among them.
 #![tactic(auto)]
 
 mod call;
@@ -32,5 +34,5 @@ pub use faults::{Faults, Fuse, Once};
 pub use faulty::{FaultyDisk, FuseDisk, OnceDisk};
 pub use half::Half;
 pub use host::{HostDisk, HostError, IfMissing};
-pub use laws::torn_images;
+pub use laws::{mixed_is_torn, torn_images};
 pub use memory::MemoryDisk;

@@ -45,6 +45,32 @@ fn a_crash_leaves_what_was_synced(rt: HostRuntime) -> Result<(), Fail> {
     Ok(())
 }
 
+/// "abcdef" is synced in half A of a disk that mixes; then "uvwxyz!" is written over its last four bytes and past them. Of each byte the
+/// old one or the new one is left, and past the old end 0 or the new one; a crash that fills leaves the write whole.
+#[test]
+fn a_crash_mixes_old_and_new(rt: HostRuntime) -> Result<(), Fail> {
+    let cases: [(Crash, &[u8]); 5] = [
+        (Crash::Kept, b"abuvwxyz!"),
+        (Crash::Lost, b"abcdef"),
+        (Crash::Filled(b'?'), b"abuvwxyz!"),
+        (Crash::Scattered(0), b"abcdef\0\0\0"),
+        (Crash::Scattered(100), b"abuvwf\0\0\0"),
+    ];
+    for (kind, left) in cases {
+        let mut disk = MemoryDisk::mixing(rt.alloc());
+        assert!(rt; disk.mixes());
+        disk.write_at(Half::A, 0, b"abcdef")?;
+        disk.sync(Half::A)?;
+        let end = disk.len(Half::A)?;
+        disk.write_at(Half::A, end.min(2), b"uvwxyz!")?;
+        disk.crash(kind)?;
+        let mut buffer = [0; 16];
+        let count = disk.read(Half::A, 0, &mut buffer)?;
+        assert_eq!(rt; &buffer[..count], left, "{kind:?}");
+    }
+    Ok(())
+}
+
 /// Four calls, of which none is a sync. Half A holds "abc" then.
 fn passes_unsynced<D: Disk>(disk: &mut D) -> Result<(), DeviceFault>
     requires { (D.state disk.old).failures < 2 ^ 64 - 1 }

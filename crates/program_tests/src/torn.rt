@@ -1,5 +1,5 @@
 //! What a crash may make of a write to which no sync came: any bytes in the place of those that were written, and a cut that is not done.
-ghost use Rattle.std.specs.Prelude.{◌≡◌, ◌+◌, ◌-◌, ◌^◌, ◌<◌, ◌≤◌, ◌++◌, length, take, OnOk};
+ghost use Rattle.std.specs.Prelude.{false, ◌≡◌, ◌+◌, ◌-◌, ◌^◌, ◌<◌, ◌≤◌, ◌++◌, length, take, OnOk};
 ghost use Rattle.disk_trait.specs.Disk.{Image, written};
 ghost use Rattle.disk_trait.specs.Memory.{state_of};
 
@@ -15,6 +15,7 @@ fn write_unsynced(
 ) -> Result<(), DeviceFault>
     requires room { (state_of disk.old).failures < 2 ^ 64 - 1 }
     requires within { at ≤ length (state_of disk.old).reads.a }
+    requires tears { (state_of disk.old).mixes ≡ false }
     ensures left { OnOk result (length others.now ≡ length bytes.now
         → (before : Image) → (state_of disk.old).may_leave before
         → (state_of disk.new).may_leave (record { a = written at others.now before.a; b = before.b })) }

@@ -10,8 +10,8 @@ invariant_of-self c =
     let m = c.args.self.now in
     let start : Image = record { a = m.start_a.items; b = m.start_b.items } in
     record {
-      a_replayed = kept_either (is_ok c.push.result) c.args.half A c.args.what start m.calls.items c.push.new.self.items m.failures c.requires.keeps c.push.ensures.items ∙ m.a_replayed;
-      b_replayed = kept_either (is_ok c.push.result) c.args.half B c.args.what start m.calls.items c.push.new.self.items m.failures c.requires.keeps c.push.ensures.items ∙ m.b_replayed;
+      a_replayed = kept_either m.mixes (is_ok c.push.result) c.args.half A c.args.what start m.calls.items c.push.new.self.items m.failures c.requires.keeps c.push.ensures.items ∙ m.a_replayed;
+      b_replayed = kept_either m.mixes (is_ok c.push.result) c.args.half B c.args.what start m.calls.items c.push.new.self.items m.failures c.requires.keeps c.push.ensures.items ∙ m.b_replayed;
       began = m.began;
       wrote = wrote_either (is_ok c.push.result) m.calls.items c.push.new.self.items c.args.half c.args.what m.wrote c.requires.bytes c.push.ensures.items;
     }
@@ -19,4 +19,4 @@ invariant_of-self c =
 pub returns-clause-ok : goal.returns-clause-ok
 returns-clause-ok c =
     let m = c.args.self.now in
-    next_is (record { a = m.start_a.items; b = m.start_b.items }) m.calls.items c.push.new.self.items c.args.half c.args.what m.failures m.failures c.in_ok-push.ensures.items
+    next_is m.mixes (record { a = m.start_a.items; b = m.start_b.items }) m.calls.items c.push.new.self.items c.args.half c.args.what m.failures m.failures c.in_ok-push.ensures.items

@@ -11,8 +11,8 @@ pub invariant_of-self-in-A : goal.invariant_of-self-in-A
 invariant_of-self-in-A c =
     let m = c.args.self.now in
     let start : Image = record { a = m.start_a.items; b = m.start_b.items } in
-    let new = told start c.push.new.self.items m.failures in
-    let follows : Follows c.args.half c.args.what (state_of m) new = next_is start m.calls.items c.push.new.self.items c.args.half c.args.what m.failures m.failures c.in_ok-push.ensures.items in
+    let new = told m.mixes start c.push.new.self.items m.failures in
+    let follows : Follows c.args.half c.args.what (state_of m) new = next_is m.mixes start m.calls.items c.push.new.self.items c.args.half c.args.what m.failures m.failures c.in_ok-push.ensures.items in
     record {
       a_replayed = put_in c.args.half A c.args.what (state_of m) new follows c.args.next.items c.in-A.is c.requires.next;
       b_replayed = kept_beside c.args.half A c.args.what (state_of m) new follows c.in-A.is ∙ m.b_replayed;
@@ -24,8 +24,8 @@ pub invariant_of-self-in-B : goal.invariant_of-self-in-B
 invariant_of-self-in-B c =
     let m = c.args.self.now in
     let start : Image = record { a = m.start_a.items; b = m.start_b.items } in
-    let new = told start c.push.new.self.items m.failures in
-    let follows : Follows c.args.half c.args.what (state_of m) new = next_is start m.calls.items c.push.new.self.items c.args.half c.args.what m.failures m.failures c.in_ok-push.ensures.items in
+    let new = told m.mixes start c.push.new.self.items m.failures in
+    let follows : Follows c.args.half c.args.what (state_of m) new = next_is m.mixes start m.calls.items c.push.new.self.items c.args.half c.args.what m.failures m.failures c.in_ok-push.ensures.items in
     record {
       a_replayed = kept_beside c.args.half B c.args.what (state_of m) new follows c.in-B.is ∙ m.a_replayed;
       b_replayed = put_in c.args.half B c.args.what (state_of m) new follows c.args.next.items c.in-B.is c.requires.next;
@@ -36,9 +36,9 @@ invariant_of-self-in-B c =
 pub returns-in-A-clause-ok : goal.returns-in-A-clause-ok
 returns-in-A-clause-ok c =
     let m = c.args.self.now in
-    next_is (record { a = m.start_a.items; b = m.start_b.items }) m.calls.items c.push.new.self.items c.args.half c.args.what m.failures m.failures c.in_ok-push.ensures.items
+    next_is m.mixes (record { a = m.start_a.items; b = m.start_b.items }) m.calls.items c.push.new.self.items c.args.half c.args.what m.failures m.failures c.in_ok-push.ensures.items
 
 pub returns-in-B-clause-ok : goal.returns-in-B-clause-ok
 returns-in-B-clause-ok c =
     let m = c.args.self.now in
-    next_is (record { a = m.start_a.items; b = m.start_b.items }) m.calls.items c.push.new.self.items c.args.half c.args.what m.failures m.failures c.in_ok-push.ensures.items
+    next_is m.mixes (record { a = m.start_a.items; b = m.start_b.items }) m.calls.items c.push.new.self.items c.args.half c.args.what m.failures m.failures c.in_ok-push.ensures.items

@@ -9,4 +9,5 @@ returns-clause-recorded c = record {
       c.in_ok-put.ensures.ok.allows d i left (partly c.args.half (Cut c.args.len) (Shortened c.args.len) d i (λ old new part. part) step) tt;
   undone = tt;
   noted = c.in_ok-put.ensures.noted;
+  mixes = c.put.ensures.mixes;
 }
