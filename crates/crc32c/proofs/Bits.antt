@@ -113,6 +113,11 @@ after_bits_lt r [] fits are = fits
 after_bits_lt r (bit ∷ more) fits are =
     after_bits_lt (shifted (bit_xor r bit)) more (shifted_lt (bit_xor r bit) (xor_lt 32 r bit fits (omega (arith, are.0)))) are.1
 
+pub sum_fits : (text : List ℕ) → crc32c text < 2 ^ 32
+sum_fits text =
+    xor_lt 32 (after_bits (bit_xor 0 all_ones) (text_bits text)) all_ones
+    (after_bits_lt (bit_xor 0 all_ones) (text_bits text) (omega arith) (text_are_bits text)) (omega arith)
+
 -- ---- texts that differ
 
 xor_last : (r s v : ℕ) → bit_xor (bit_xor r v) (bit_xor s v) ≡ bit_xor r s

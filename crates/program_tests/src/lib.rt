@@ -9,7 +9,7 @@
 //!
 //! - `asked`: a session over a disk in memory, and what it leaves; `lines` has the lines of that
 //! - `halves`: sessions in halves with little room, with groups and without; steps one after the other
-//! - `logs`: a log with no store over it
+//! - `logs`: a log with no store over it; `batched`: records as bytes of the next version
 //! - `disks`: disks in memory, disks that fail where they are told to, and files of the system
 //!
 //! Callers of laws:
@@ -55,6 +55,8 @@ mod alike;
 mod answers;
 #[cfg(test)]
 mod asked;
+#[cfg(test)]
+mod batched;
 #[cfg(test)]
 mod batches;
 #[cfg(test)]
